@@ -1,0 +1,23 @@
+#include "acceptance.hpp"
+
+#include "compatible.hpp"
+#include "conditions.hpp"
+#include "confluence.hpp"
+
+namespace second {
+
+Refusal acceptance(const Model& model) {
+  std::uint64_t first_row = 0;
+  for (std::uint64_t c = 0; c < model.components.size(); ++c) {
+    if (Refusal broken = component_conditions(model.components[c], c, first_row)) return broken;
+    first_row += model.components[c].rows.size();
+  }
+  return compatible(model);
+}
+
+Refusal acceptance_and_confluence(const Model& model) {
+  if (Refusal broken = acceptance(model)) return broken;
+  return confluence(model);
+}
+
+}  // namespace second

@@ -1,0 +1,14 @@
+// The order of the checks on a system: 10 to 14 for each component in turn, then 15 to 17.
+#pragma once
+
+#include "model.hpp"
+#include "refusal.hpp"
+
+namespace second {
+
+Refusal acceptance(const Model& model);
+
+// As acceptance, then 18.
+Refusal acceptance_and_confluence(const Model& model);
+
+}  // namespace second

@@ -1,0 +1,16 @@
+// What the program `settle` prints for the whole of its standard input.
+#pragma once
+
+#include <string>
+
+#include "lent.hpp"
+
+namespace second {
+
+std::string report(Bytes input);
+
+// A prefix of this length settles the report of any longer input: the request line ends within
+// it or is 9, and the text is then over its limit or ends within it.
+constexpr std::uint64_t deciding_input = 256 + 32768 + 1;
+
+}  // namespace second

@@ -1,0 +1,147 @@
+#include "second.hpp"
+
+#include <algorithm>
+#include <optional>
+#include <string>
+
+#include "acceptance.hpp"
+#include "composition.hpp"
+#include "merging.hpp"
+#include "settling.hpp"
+#include "text_reading.hpp"
+#include "text_writing.hpp"
+#include "timed.hpp"
+
+namespace second {
+namespace {
+
+// A table and a state as most calls take them: 20, then `checks`, then 21.
+struct Ground {
+  Refusal refusal;
+  Model model;
+  State state;
+};
+
+Ground ground(Words table, Refusal (*checks)(const Model&)) {
+  auto model = model_of_image(table);
+  if (!model) return {refuse(20, {0}), {}, {}};
+  if (Refusal broken = checks(*model)) return {broken, {}, {}};
+  return {Refusal{}, std::move(*model), {}};
+}
+
+Ground ground(Words table, Refusal (*checks)(const Model&), Bytes state) {
+  Ground found = ground(table, checks);
+  if (found.refusal) return found;
+  if (!fits(found.model, state.front, state.length)) return {refuse(21, {0}), {}, {}};
+  found.state.count = state.length;
+  std::copy_n(state.front, state.length, found.state.parts);
+  return found;
+}
+
+template <class Refused>
+Refused refused(const Refusal& refusal) {
+  Refused answer;
+  answer.refusal = refusal;
+  return answer;
+}
+
+StepAnswer moved(const Move& move) {
+  return {Refusal{}, StepOutcome::moved, move.action, move.resets, move.after};
+}
+
+SettleAnswer settled(const Run& run) {
+  return {Refusal{}, run.stable ? Verdict::stable : Verdict::unsettled, run.moves.size(),
+          resets_of(run), run.last};
+}
+
+void put(const Model& model, WordsToWrite into) {
+  const auto image = image_of_model(model);
+  std::copy(image.begin(), image.end(), into.front);
+}
+
+}  // namespace
+
+Answer read(Bytes text, WordsToWrite into) {
+  const Reading reading =
+      model_of_text({reinterpret_cast<const char*>(text.front), static_cast<std::size_t>(text.length)});
+  if (reading.refusal) return {reading.refusal};
+  if (into.length < image_words) return {refuse(24, {image_bytes})};
+  put(reading.model, into);
+  return {};
+}
+
+WriteAnswer write(Words table, BytesToWrite into) {
+  const auto model = model_of_image(table);
+  if (!model) return refused<WriteAnswer>(refuse(20, {0}));
+  const std::string text = text_of_model(*model);
+  if (into.length < text.size()) return refused<WriteAnswer>(refuse(24, {text.size()}));
+  std::copy(text.begin(), text.end(), into.front);
+  return {Refusal{}, text.size()};
+}
+
+Answer recognise(Words table) {
+  if (!model_of_image(table)) return {refuse(20, {0})};
+  return {};
+}
+
+Answer accept(Words table) { return {ground(table, acceptance).refusal}; }
+
+Answer confluent(Words table) { return {ground(table, acceptance_and_confluence).refusal}; }
+
+StepAnswer step(Words table, Bytes state) {
+  const Ground on = ground(table, acceptance, state);
+  if (on.refusal) return refused<StepAnswer>(on.refusal);
+  if (const auto move = lowest_urgent_step(on.model, on.state)) return moved(*move);
+  return {Refusal{}, StepOutcome::stable, 0, 0, on.state};
+}
+
+StepAnswer step_by(Words table, Bytes state, std::uint64_t action) {
+  const Ground on = ground(table, acceptance, state);
+  if (on.refusal) return refused<StepAnswer>(on.refusal);
+  if (const auto move = urgent_step(on.model, on.state, action)) return moved(*move);
+  return refused<StepAnswer>(refuse(23, {0}));
+}
+
+SettleAnswer settle(Words table, Bytes state, std::uint64_t budget, BytesToWrite trace) {
+  const Ground on = ground(table, acceptance_and_confluence, state);
+  if (on.refusal) return refused<SettleAnswer>(on.refusal);
+  if (budget > max_budget) return refused<SettleAnswer>(refuse(22, {0}));
+  if (trace.length < budget) return refused<SettleAnswer>(refuse(24, {budget}));
+  const Run run = settle_by_rule(on.model, on.state, budget);
+  for (std::size_t m = 0; m < run.moves.size(); ++m)
+    trace.front[m] = static_cast<std::uint8_t>(run.moves[m].action);
+  return settled(run);
+}
+
+SettleAnswer settle_list(Words table, Bytes state, Bytes list) {
+  const Ground on = ground(table, acceptance_and_confluence, state);
+  if (on.refusal) return refused<SettleAnswer>(on.refusal);
+  if (list.length > max_budget) return refused<SettleAnswer>(refuse(22, {0}));
+  const ListRun listed = settle_by_list(on.model, on.state, list);
+  if (listed.refusal) return refused<SettleAnswer>(listed.refusal);
+  return settled(listed.run);
+}
+
+TimedAnswer timed_step(Words table, Bytes state, Ticks ticks) {
+  const Ground on = ground(table, acceptance, state);
+  if (on.refusal) return refused<TimedAnswer>(on.refusal);
+  const TimedStep timely = timed(on.model, on.state, {ticks.front, ticks.length});
+  if (timely.refusal) return refused<TimedAnswer>(timely.refusal);
+  if (!timely.firing) return {Refusal{}, TimedOutcome::quiet, 0, 0, 0, on.state};
+  const Firing& firing = *timely.firing;
+  std::copy(firing.fallen.begin(), firing.fallen.end(), ticks.front);
+  return {Refusal{}, TimedOutcome::fired, firing.v, firing.move.action, firing.move.resets,
+          firing.move.after};
+}
+
+Answer merge(Words table, std::uint64_t i, WordsToWrite into) {
+  const Ground on = ground(table, acceptance);
+  if (on.refusal) return {on.refusal};
+  if (into.length < image_words) return {refuse(24, {image_bytes})};
+  const Merging merging = merged(on.model, i);
+  if (merging.refusal) return {merging.refusal};
+  put(merging.model, into);
+  return {};
+}
+
+}  // namespace second

@@ -1,0 +1,78 @@
+// The calls of the engine, over lent buffers. Each answers its result or a refusal; beside a
+// refusal every other field of the answer is zero and no lent byte has changed.
+#pragma once
+
+#include <cstdint>
+
+#include "lent.hpp"
+#include "model.hpp"
+#include "refusal.hpp"
+#include "report.hpp"
+#include "table.hpp"
+
+namespace second {
+
+struct Answer {
+  Refusal refusal;
+};
+
+struct WriteAnswer {
+  Refusal refusal;
+  std::uint64_t length = 0;  // of the text, at the buffer's front
+};
+
+enum class StepOutcome : std::uint8_t { refused, moved, stable };
+
+struct StepAnswer {
+  Refusal refusal;
+  StepOutcome outcome = StepOutcome::refused;
+  std::uint64_t action = 0;
+  Set resets = 0;
+  State state;  // as given where stable
+};
+
+enum class Verdict : std::uint8_t { refused, stable, unsettled };
+
+struct SettleAnswer {
+  Refusal refusal;
+  Verdict verdict = Verdict::refused;
+  std::uint64_t steps = 0;
+  Set resets = 0;  // clocks reset at least once
+  State state;
+};
+
+enum class TimedOutcome : std::uint8_t { refused, fired, quiet };
+
+struct TimedAnswer {
+  Refusal refusal;
+  TimedOutcome outcome = TimedOutcome::refused;
+  std::int64_t v = 0;
+  std::uint64_t action = 0;
+  Set resets = 0;
+  State state;  // as given where quiet
+};
+
+// 1 to 8, 24.
+Answer read(Bytes text, WordsToWrite into);
+// 20, 24.
+WriteAnswer write(Words table, BytesToWrite into);
+// 20.
+Answer recognise(Words table);
+// 20, 10 to 17.
+Answer accept(Words table);
+// As accept, then 18.
+Answer confluent(Words table);
+// As accept, then 21.
+StepAnswer step(Words table, Bytes state);
+// As accept, then 21, 23.
+StepAnswer step_by(Words table, Bytes state, std::uint64_t action);
+// As confluent, then 21, 22, 24.
+SettleAnswer settle(Words table, Bytes state, std::uint64_t budget, BytesToWrite trace);
+// As confluent, then 21, 22, 23.
+SettleAnswer settle_list(Words table, Bytes state, Bytes list);
+// As accept, then 21, 27 to 30.
+TimedAnswer timed_step(Words table, Bytes state, Ticks ticks);
+// As accept, then 24, 25, 26.
+Answer merge(Words table, std::uint64_t i, WordsToWrite into);
+
+}  // namespace second
