@@ -1,0 +1,18 @@
+-- The examples of paper 01 hold: antt computes every one.
+use mathlib.Core.Path.{refl}
+use Rattle.iosa.specs.Examples.{reply, cases, furtherCases, programCases, Hold}
+
+-- P1 to P13
+pub paper-examples-hold : Hold cases
+unfolding reply cases
+paper-examples-hold = refl
+
+-- the last bullets
+pub further-examples-hold : Hold furtherCases
+unfolding reply furtherCases
+further-examples-hold = refl
+
+-- the program's example
+pub program-example-holds : Hold programCases
+unfolding reply programCases
+program-example-holds = refl

@@ -1,0 +1,13 @@
+pub mod Model
+pub mod Automaton
+pub mod Product
+pub mod Text
+pub mod WellFormed
+pub mod Reading
+pub mod Checks
+pub mod Step
+pub mod Settle
+pub mod Timed
+pub mod Merge
+pub mod Report
+pub mod Examples

@@ -1,0 +1,4 @@
+pub mod SetLaws
+pub mod SearchLaws
+pub mod FoldLaws
+pub mod TestLaws

@@ -1,0 +1,4 @@
+pub mod Sets
+pub mod Search
+pub mod Fold
+pub mod Tests
