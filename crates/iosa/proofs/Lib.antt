@@ -1,1 +1,6 @@
 pub mod Examples
+pub mod Acceptance
+pub mod Settling
+pub mod Reading
+pub mod Merging
+pub mod Timing

@@ -1,0 +1,1 @@
+-- Accepted exactly, confluent exactly: the checks 10 to 18 and the conditions of document 000.

@@ -1,0 +1,1 @@
+-- Merging gives the product.

@@ -1,0 +1,1 @@
+-- Reading and writing undo each other; reading by its faults.

@@ -1,0 +1,1 @@
+-- Steps exactly, the product is an automaton again, and demand 3.

@@ -1,0 +1,1 @@
+-- The timed step takes a row of the product.

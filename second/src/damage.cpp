@@ -1,0 +1,189 @@
+#include "damage.hpp"
+
+#include <algorithm>
+
+#include "number.hpp"
+
+namespace second {
+namespace {
+
+using Lines = std::vector<std::string>;
+
+const Lines odd_fields = {"",    "-",  "--",    "0",      "1",   "2",    "3",   "5",    "15",   "16",
+                          "63",  "64", "65",    "99999",  "100000", "00", "01",  "007",  "+1",   "-1",
+                          "-0",  "1.0", "0x1",  " 1",     "1 ",  "0,1",  "1,0", "1,1",  "0,",   ",0",
+                          "0,,1", "-,0", "0,-", "63,64",  "in",  "out",  "uin", "uout", "Uout", "silent",
+                          "comp", "act", "clk", "row",    "Comp", "name", "\r",  "1\r",  "from"};
+
+const Lines odd_lines = {"",
+                         "comp\t1\t0",
+                         "comp\t64\t63",
+                         "comp\t65\t0",
+                         "comp\t0\t0",
+                         "comp\t2\t2",
+                         "comp\t100000\t0",
+                         "comp\t1",
+                         "act\t0\tin",
+                         "act\t63\tuin",
+                         "act\t64\tin",
+                         "act\t1\tsilent",
+                         "clk\t0\t1",
+                         "clk\t63\t0",
+                         "clk\t0\t2",
+                         "clk\t64\t0",
+                         "row\t0\t-\t0\t-\t0",
+                         "row\t0\t0\t0\t0\t0",
+                         "row\t0\t-\t64\t-\t0",
+                         "row\t64\t-\t0\t-\t0",
+                         "row\t0\t-\t0\t1,0\t0",
+                         "row\t0\t-\t0\t-\t0\t",
+                         "row 0 - 0 - 0",
+                         "form\t0",
+                         "\t"};
+
+Lines lines_of(const std::string& text) {
+  Lines lines;
+  for (std::string_view line : parted(text, '\n')) lines.emplace_back(line);
+  lines.pop_back();
+  return lines;
+}
+
+std::string text_of(const Lines& lines) {
+  std::string text;
+  for (const std::string& line : lines) text += line + '\n';
+  return text;
+}
+
+void change_field(Random& random, std::string& line) {
+  Lines fields;
+  for (std::string_view field : parted(line, '\t')) fields.emplace_back(field);
+  std::string& field = fields[random.below(fields.size())];
+  const auto number = number_in(field);
+  if (number && random.chance(50)) field = std::to_string(*number + 2 - random.below(4));
+  else field = random.pick(odd_fields);
+  line = fields[0];
+  for (std::size_t f = 1; f < fields.size(); ++f) line += '\t' + fields[f];
+}
+
+void damage_lines(Random& random, std::string& text) {
+  Lines lines = lines_of(text);
+  if (lines.empty()) return;
+  const unsigned at = random.below(lines.size());
+  const unsigned other = random.below(lines.size());
+  switch (random.below(7)) {
+    case 0:
+    case 1: change_field(random, lines[at]); break;
+    case 2: lines.erase(lines.begin() + at); break;
+    case 3: {
+      const std::string again = lines[at];
+      lines.insert(lines.begin() + other, again);
+      break;
+    }
+    case 4: std::swap(lines[at], lines[other]); break;
+    case 5:
+      if (at > 0) std::swap(lines[at], lines[at - 1]);
+      break;
+    default: lines.insert(lines.begin() + at, random.pick(odd_lines));
+  }
+  text = text_of(lines);
+}
+
+void damage_bytes(Random& random, std::string& text) {
+  static const std::string odd_bytes("\0\n\t\r -,0123456789aAcr\x80\xff+", 25);
+  if (text.empty()) return;
+  const unsigned at = random.below(text.size());
+  const char byte = odd_bytes[random.below(odd_bytes.size())];
+  switch (random.below(5)) {
+    case 0: text.erase(at, 1); break;
+    case 1: text.insert(at, 1, byte); break;
+    case 2: text[at] = byte; break;
+    case 3: text.pop_back(); break;
+    default: text.resize(at);
+  }
+}
+
+void grow(Random& random, std::string& text) {
+  const std::string whole = text;
+  const unsigned times = random.between(1, 20);
+  for (unsigned t = 0; t < times && text.size() < 70000; ++t) text += whole;
+}
+
+}  // namespace
+
+std::string damaged_text(Random& random, std::string text) {
+  for (unsigned count = random.between(1, 4); count > 0; --count) {
+    const unsigned what = random.below(100);
+    if (what < 75) damage_lines(random, text);
+    else if (what < 96) damage_bytes(random, text);
+    else grow(random, text);
+  }
+  return text;
+}
+
+std::string request_line(const std::vector<std::uint8_t>& state, std::uint64_t budget) {
+  std::string request = "from\t";
+  for (std::size_t part = 0; part < state.size(); ++part) {
+    if (part > 0) request += ',';
+    request += std::to_string(state[part]);
+  }
+  return request + '\t' + std::to_string(budget) + '\n';
+}
+
+std::string damaged_request(Random& random, std::string request) {
+  for (unsigned count = random.between(1, 3); count > 0; --count) {
+    switch (random.below(6)) {
+      case 0: damage_bytes(random, request); break;
+      case 1: {
+        std::string line = request.substr(0, request.find('\n'));
+        change_field(random, line);
+        request = line + '\n';
+        break;
+      }
+      case 2: {
+        const std::size_t at = request.find('\t');
+        if (at != std::string::npos) request.insert(at + 1, random.chance(50) ? "64," : "0,");
+        break;
+      }
+      case 3: {
+        const std::size_t at = request.find('\t');
+        const unsigned parts = random.between(100, 130);
+        for (unsigned p = 0; at != std::string::npos && p < parts; ++p) request.insert(at + 1, "0,");
+        break;
+      }
+      case 4: {
+        static const Lines budgets = {"\t4097\n", "\t99999\n", "\t100000\n", "\t05\n", "\t+5\n", "\t-\n"};
+        request = request.substr(0, request.rfind('\t')) + random.pick(budgets);
+        break;
+      }
+      default: damage_lines(random, request);
+    }
+  }
+  return request;
+}
+
+std::vector<std::uint64_t> damaged_table(Random& random, std::vector<std::uint64_t> table) {
+  if (random.chance(10)) {
+    table.resize(random.chance(60) ? table.size() - 1 : random.below(table.size() + 9));
+    return table;
+  }
+  std::vector<std::uint64_t> used;
+  for (std::size_t w = 0; w < table.size(); ++w)
+    if (table[w] != 0) used.push_back(w);
+  for (unsigned count = random.between(1, 3); count > 0; --count) {
+    // Most words of most tables are unused, so half the changes go to used ones.
+    const std::uint64_t at = random.chance(50) && !used.empty() ? random.pick(used) : random.below(table.size());
+    const std::uint64_t other = random.below(table.size());
+    switch (random.below(7)) {
+      case 0: table[at] += 1; break;
+      case 1: table[at] -= 1; break;
+      case 2: table[at] ^= only(random.below(64)); break;
+      case 3: table[at] = random.below(70); break;
+      case 4: table[at] = random.next(); break;
+      case 5: table[at] = 0; break;
+      default: std::swap(table[at], table[other]);
+    }
+  }
+  return table;
+}
+
+}  // namespace second

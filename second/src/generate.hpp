@@ -1,0 +1,63 @@
+// A seeded generator of models and of what is lent beside them. The same seed gives the same
+// inputs everywhere.
+#pragma once
+
+#include <cstdint>
+#include <string>
+#include <vector>
+
+#include "model.hpp"
+#include "random.hpp"
+
+namespace second {
+
+enum class Size { small, medium, large };
+
+enum class Family {
+  accepted,       // 10 to 17 pass; confluent or not
+  confluent,      // 18 passes too
+  clashing,       // accepted, not confluent
+  endless,        // confluent, unsettled at any budget from any state
+  sharing,        // confluent, many components that share most actions
+  components_16,  // confluent, 16 components
+  rows_1024,      // confluent, 1,024 rows
+  states_64,      // confluent, a component of 64 states
+  text_32768,     // confluent, a text within a few bytes of the limit or at it
+};
+
+constexpr Family families[] = {
+    Family::accepted,      Family::confluent, Family::clashing,  Family::endless,   Family::sharing,
+    Family::components_16, Family::rows_1024, Family::states_64, Family::text_32768};
+
+Model generate(Random& random, Family family, Size size);
+
+// A model whose first refusal is this number, 10 to 18.
+Model generate_failing(Random& random, unsigned number, Size size);
+
+// A model that reading allows, with several faults of 10 to 18 at once.
+Model generate_faulty(Random& random, Size size);
+
+// A state of the model; the odd one may be of wrong length or range.
+std::vector<std::uint8_t> generate_state(Random& random, const Model& model);
+std::vector<std::uint8_t> generate_odd_state(Random& random, const Model& model);
+
+// 0 to 4,096; the odd one may be over, up to 2^64 - 1.
+std::uint64_t generate_budget(Random& random);
+std::uint64_t generate_odd_budget(Random& random);
+
+// Enabled urgent outputs in turn from this state of an accepted model, at most `most` of them;
+// the odd one may hold any byte or be over 4,096 long.
+std::vector<std::uint8_t> generate_list(Random& random, const Model& model,
+                                        const std::vector<std::uint8_t>& state, unsigned most);
+std::vector<std::uint8_t> generate_odd_list(Random& random, const Model& model,
+                                            const std::vector<std::uint8_t>& state);
+
+// 64 clock values that a timed step takes in most states; the odd ones have ties, negatives,
+// ends of the range and beyond, and may not be 64.
+std::vector<std::int64_t> generate_ticks(Random& random);
+std::vector<std::int64_t> generate_odd_ticks(Random& random);
+
+// A merge index: a good one, or any up to 2^64 - 1.
+std::uint64_t generate_index(Random& random, const Model& model);
+
+}  // namespace second

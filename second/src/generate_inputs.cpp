@@ -1,0 +1,115 @@
+// What is lent beside a model: states, budgets, lists, clock values, merge indices.
+#include "composition.hpp"
+#include "generate.hpp"
+
+namespace second {
+namespace {
+
+constexpr std::uint64_t largest = ~std::uint64_t{0};
+constexpr std::int64_t least_tick = INT64_MIN;
+constexpr std::int64_t most_tick = INT64_MAX;
+
+}  // namespace
+
+std::vector<std::uint8_t> generate_state(Random& random, const Model& model) {
+  std::vector<std::uint8_t> state;
+  for (const Component& component : model.components)
+    state.push_back(static_cast<std::uint8_t>(random.below(component.states)));
+  return state;
+}
+
+std::vector<std::uint8_t> generate_odd_state(Random& random, const Model& model) {
+  std::vector<std::uint8_t> state = generate_state(random, model);
+  switch (random.below(5)) {
+    case 0: state.pop_back(); break;
+    case 1: state.push_back(0); break;
+    case 2: state.resize(random.below(40)); break;
+    case 3: {
+      const unsigned c = random.below(state.size());
+      const unsigned states = model.components[c].states;
+      state[c] = static_cast<std::uint8_t>(random.chance(50) ? states : random.below(256));
+      break;
+    }
+    default: break;
+  }
+  return state;
+}
+
+std::uint64_t generate_budget(Random& random) {
+  if (random.chance(5)) return 4096;
+  if (random.chance(20)) return random.below(4097);
+  return random.below(20);
+}
+
+std::uint64_t generate_odd_budget(Random& random) {
+  return random.pick(std::vector<std::uint64_t>{0, 1, 4095, 4096, 4097, 65536, std::uint64_t{1} << 32,
+                                                std::uint64_t{1} << 63, largest - 1, largest});
+}
+
+std::vector<std::uint8_t> generate_list(Random& random, const Model& model,
+                                        const std::vector<std::uint8_t>& state, unsigned most) {
+  State at;
+  for (std::uint8_t part : state) at.parts[at.count++] = part;
+  std::vector<std::uint8_t> list;
+  while (list.size() < most) {
+    const Set enabled = urgent_outputs(model, at);
+    if (enabled == 0) break;
+    unsigned action = random.below(members);
+    while (!has(enabled, action)) action = (action + 1) % members;
+    list.push_back(static_cast<std::uint8_t>(action));
+    at = urgent_step(model, at, action)->after;
+  }
+  return list;
+}
+
+std::vector<std::uint8_t> generate_odd_list(Random& random, const Model& model,
+                                            const std::vector<std::uint8_t>& state) {
+  std::vector<std::uint8_t> list = generate_list(random, model, state, random.below(30));
+  const unsigned action = random.chance(70) ? random.below(64) : random.below(256);
+  switch (random.below(5)) {
+    case 0: list.push_back(static_cast<std::uint8_t>(action)); break;
+    case 1:
+      if (!list.empty()) list[random.below(list.size())] = static_cast<std::uint8_t>(action);
+      break;
+    case 2:
+      if (!list.empty()) list.erase(list.begin() + random.below(list.size()));
+      break;
+    case 3: list.resize(random.between(4095, 4098), static_cast<std::uint8_t>(action)); break;
+    default: break;
+  }
+  return list;
+}
+
+std::vector<std::int64_t> generate_ticks(Random& random) {
+  std::vector<std::int64_t> ticks;
+  const std::uint64_t span = random.chance(30) ? 8 : std::uint64_t{1} << random.between(8, 40);
+  for (unsigned clock = 0; clock < clock_values; ++clock)
+    ticks.push_back(static_cast<std::int64_t>(random.next() % span));
+  return ticks;
+}
+
+std::vector<std::int64_t> generate_odd_ticks(Random& random) {
+  const std::vector<std::int64_t> odd = {
+      0, 1, -1, 5, tick_bound, tick_bound - 1, tick_bound + 1, -tick_bound, -tick_bound + 1,
+      -tick_bound - 1, least_tick, most_tick};
+  std::vector<std::int64_t> ticks = generate_ticks(random);
+  const unsigned style = random.below(4);
+  // Early ones of the list are within bounds, so that 29 and 30 aren't always hidden by 28.
+  const unsigned reach = random.chance(60) ? 6 : static_cast<unsigned>(odd.size());
+  for (std::int64_t& tick : ticks) {
+    if (style == 0 && random.chance(10)) tick = odd[random.below(reach)];
+    if (style == 1) tick = odd[random.below(reach)];
+    if (style == 2 && random.chance(50)) tick = -static_cast<std::int64_t>(random.next() % (std::uint64_t{1} << 40));
+  }
+  if (random.chance(10)) ticks.resize(random.pick(std::vector<unsigned>{0, 1, 63, 65, 128}));
+  return ticks;
+}
+
+std::uint64_t generate_index(Random& random, const Model& model) {
+  if (random.chance(20))
+    return random.pick(std::vector<std::uint64_t>{largest, largest - 1, std::uint64_t{1} << 63,
+                                                  std::uint64_t{1} << 32, 15, 16, 17});
+  return random.below(model.components.size());
+}
+
+}  // namespace second

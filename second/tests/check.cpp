@@ -1,0 +1,55 @@
+#include "check.hpp"
+
+#include <cstdio>
+#include <map>
+
+namespace {
+
+unsigned long passed = 0;
+unsigned long failed = 0;
+std::map<std::uint64_t, unsigned long> refusals;
+std::map<std::string, unsigned long> outcomes;
+
+const char* const all_outcomes[] = {
+    "read",          "written",          "recognised",     "accepted",       "confluent",
+    "step moved",    "step stable",      "step_by moved",  "settle stable",  "settle unsettled",
+    "list stable",   "list unsettled",   "timed fired",    "timed quiet",    "merged",
+    "report stable", "report unsettled", "report refused"};
+
+}  // namespace
+
+void check(bool holds, const std::string& what) {
+  if (holds) {
+    ++passed;
+    return;
+  }
+  ++failed;
+  if (failed <= 40) std::printf("FAILED: %s\n", what.c_str());
+}
+
+void count_refusal(const second::Refusal& refusal) {
+  if (refusal) ++refusals[refusal.number];
+}
+
+void count_outcome(const std::string& outcome) { ++outcomes[outcome]; }
+
+int conclude() {
+  for (std::uint64_t number = 1; number <= 30; ++number) {
+    if (number == 19) continue;
+    std::printf("refusal %2llu: %lu\n", static_cast<unsigned long long>(number), refusals[number]);
+    check(refusals[number] > 0, "refusal " + std::to_string(number) + " is reached");
+  }
+  check(refusals.size() == 29, "no refusal is outside 1 to 30 without 19");
+  for (const char* outcome : all_outcomes) {
+    std::printf("%s: %lu\n", outcome, outcomes[outcome]);
+    check(outcomes[outcome] > 0, std::string("outcome ") + outcome + " is reached");
+  }
+  std::printf("%lu passed, %lu failed\n", passed, failed);
+  return failed == 0 ? 0 : 1;
+}
+
+std::string shown(const second::Refusal& refusal) {
+  std::string text = std::to_string(refusal.number) + " at";
+  for (std::uint64_t p = 0; p < refusal.places; ++p) text += ' ' + std::to_string(refusal.place[p]);
+  return text;
+}

@@ -1,0 +1,17 @@
+// Counts what passed and what failed, and how often each refusal and each outcome was met.
+#pragma once
+
+#include <string>
+
+#include "refusal.hpp"
+
+void check(bool holds, const std::string& what);
+
+void count_refusal(const second::Refusal& refusal);
+void count_outcome(const std::string& outcome);
+
+// Prints the counts, fails for each that is zero, then prints the last line. Answers the exit
+// status.
+int conclude();
+
+std::string shown(const second::Refusal& refusal);

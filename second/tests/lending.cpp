@@ -1,0 +1,207 @@
+#include "lending.hpp"
+
+#include <algorithm>
+
+#include "check.hpp"
+
+namespace {
+
+second::Bytes lent(const Part& bytes) { return {bytes.data(), bytes.size()}; }
+second::Words lent(const Table& words) { return {words.data(), words.size()}; }
+second::Bytes lent(const Text& text) {
+  return {reinterpret_cast<const std::uint8_t*>(text.data()), text.size()};
+}
+
+bool zero(const second::State& state) {
+  return state.count == 0 && std::all_of(state.parts, state.parts + 16, [](std::uint8_t p) { return p == 0; });
+}
+
+// Whether two buffers are the same from `first` on.
+template <class T>
+bool same_from(const std::vector<T>& before, const std::vector<T>& after, std::size_t first) {
+  return before.size() == after.size() &&
+         (first >= before.size() || std::equal(before.begin() + first, before.end(), after.begin() + first));
+}
+
+void count(const second::Refusal& refusal, const char* outcome) {
+  count_refusal(refusal);
+  if (!refusal) count_outcome(outcome);
+}
+
+void check_settled(const second::SettleAnswer& answer, const char* stable, const char* unsettled) {
+  using second::Verdict;
+  count(answer.refusal, answer.verdict == Verdict::stable ? stable : unsettled);
+  check((answer.verdict == Verdict::refused) == (answer.refusal.number != 0), "verdict fits refusal");
+  if (answer.refusal)
+    check(answer.steps == 0 && answer.resets == 0 && zero(answer.state), "refused settling holds zeros");
+}
+
+void check_stepped(const second::StepAnswer& answer, const char* moved, const char* stable) {
+  using second::StepOutcome;
+  count(answer.refusal, answer.outcome == StepOutcome::moved ? moved : stable);
+  check((answer.outcome == StepOutcome::refused) == (answer.refusal.number != 0), "outcome fits refusal");
+  if (answer.outcome != StepOutcome::moved) check(answer.action == 0 && answer.resets == 0, "no move, no action");
+  if (answer.refusal) check(zero(answer.state), "refused step holds zeros");
+}
+
+}  // namespace
+
+second::Answer lend_read(const Text& text, Table& into) {
+  const Table before = into;
+  const auto answer = second::read(lent(text), {into.data(), into.size()});
+  count(answer.refusal, "read");
+  check(same_from(before, into, answer.refusal ? 0 : second::image_words), "read changes an image's words at most");
+  return answer;
+}
+
+second::WriteAnswer lend_write(const Table& table, Part& into) {
+  const Part before = into;
+  const auto answer = second::write(lent(table), {into.data(), into.size()});
+  count(answer.refusal, "written");
+  check(!answer.refusal || answer.length == 0, "refused write holds zeros");
+  check(same_from(before, into, answer.length), "write changes the text's bytes at most");
+  return answer;
+}
+
+second::Answer lend_recognise(const Table& table) {
+  const auto answer = second::recognise(lent(table));
+  count(answer.refusal, "recognised");
+  return answer;
+}
+
+second::Answer lend_accept(const Table& table) {
+  const auto answer = second::accept(lent(table));
+  count(answer.refusal, "accepted");
+  return answer;
+}
+
+second::Answer lend_confluent(const Table& table) {
+  const auto answer = second::confluent(lent(table));
+  count(answer.refusal, "confluent");
+  return answer;
+}
+
+second::StepAnswer lend_step(const Table& table, const Part& state) {
+  const auto answer = second::step(lent(table), lent(state));
+  check_stepped(answer, "step moved", "step stable");
+  if (answer.outcome == second::StepOutcome::stable) check(parts_of(answer.state) == state, "stable: state as given");
+  return answer;
+}
+
+second::StepAnswer lend_step_by(const Table& table, const Part& state, std::uint64_t action) {
+  const auto answer = second::step_by(lent(table), lent(state), action);
+  check_stepped(answer, "step_by moved", "step_by stable");
+  check(answer.outcome != second::StepOutcome::stable, "a named action never answers stable");
+  return answer;
+}
+
+second::SettleAnswer lend_settle(const Table& table, const Part& state, std::uint64_t budget, Part& trace) {
+  const Part before = trace;
+  const auto answer = second::settle(lent(table), lent(state), budget, {trace.data(), trace.size()});
+  check_settled(answer, "settle stable", "settle unsettled");
+  check(same_from(before, trace, answer.steps), "later bytes of the trace stay");
+  return answer;
+}
+
+second::SettleAnswer lend_settle_list(const Table& table, const Part& state, const Part& list) {
+  const auto answer = second::settle_list(lent(table), lent(state), lent(list));
+  check_settled(answer, "list stable", "list unsettled");
+  return answer;
+}
+
+second::TimedAnswer lend_timed_step(const Table& table, const Part& state, Clocks& ticks) {
+  using second::TimedOutcome;
+  const Clocks before = ticks;
+  const auto answer = second::timed_step(lent(table), lent(state), {ticks.data(), ticks.size()});
+  count(answer.refusal, answer.outcome == TimedOutcome::fired ? "timed fired" : "timed quiet");
+  check((answer.outcome == TimedOutcome::refused) == (answer.refusal.number != 0), "outcome fits refusal");
+  if (answer.outcome != TimedOutcome::fired) {
+    check(ticks == before, "not fired, no clock changes");
+    check(answer.v == 0 && answer.action == 0 && answer.resets == 0, "not fired, no action");
+  }
+  if (answer.outcome == TimedOutcome::quiet) check(parts_of(answer.state) == state, "quiet: state as given");
+  if (answer.refusal) check(zero(answer.state), "refused timed step holds zeros");
+  return answer;
+}
+
+second::Answer lend_merge(const Table& table, std::uint64_t i, Table& into) {
+  const Table before = into;
+  const auto answer = second::merge(lent(table), i, {into.data(), into.size()});
+  count(answer.refusal, "merged");
+  check(same_from(before, into, answer.refusal ? 0 : second::image_words), "merge changes an image's words at most");
+  return answer;
+}
+
+std::string lend_report(const std::string& input) {
+  const std::string report = second::report(lent(input));
+  const second::Refusal refusal = refusal_in(report);
+  count_refusal(refusal);
+  if (refusal) {
+    count_outcome("report refused");
+    check(std::count(report.begin(), report.end(), '\n') == 1, "a refusal prints one line only");
+  } else {
+    const std::size_t last = report.rfind('\n', report.size() - 2);
+    const bool stable = report.compare(last == std::string::npos ? 0 : last + 1, 7, "stable\t") == 0;
+    count_outcome(stable ? "report stable" : "report unsettled");
+  }
+  return report;
+}
+
+second::Refusal refusal_in(const std::string& report) {
+  second::Refusal refusal;
+  if (report.compare(0, 8, "refused\t") != 0) return refusal;
+  std::size_t at = 8;
+  refusal.number = std::stoull(report.substr(at));
+  at = report.find('\t', at);
+  while (at != std::string::npos && refusal.places < 4) {
+    refusal.place[refusal.places++] = std::stoull(report.substr(at + 1));
+    at = report.find(',', at + 1);
+  }
+  return refusal;
+}
+
+Part parts_of(const second::State& state) { return Part(state.parts, state.parts + state.count); }
+
+second::State state_of(const Part& parts) {
+  second::State state;
+  for (std::uint8_t part : parts) state.parts[state.count++] = part;
+  return state;
+}
+
+Table image(const Text& text) {
+  Table table(second::image_words, 0);
+  const auto answer = lend_read(text, table);
+  check(!answer.refusal, "read as a model: " + shown(answer.refusal) + " in\n" + text);
+  return table;
+}
+
+Text tabbed(Text text) {
+  for (char& byte : text) {
+    if (byte == ' ') byte = '\t';
+    else if (byte == '_') byte = ' ';
+  }
+  return text;
+}
+
+const Text m = tabbed(
+    "comp 2 0\n"
+    "act 0 out\n"
+    "act 1 uout\n"
+    "clk 0 1\n"
+    "row 0 0 0 - 1\n"
+    "row 1 - 1 0 0\n"
+    "comp 3 0\n"
+    "act 1 uin\n"
+    "act 2 uout\n"
+    "row 0 - 1 - 1\n"
+    "row 1 - 1 - 1\n"
+    "row 1 - 2 - 2\n"
+    "row 2 - 1 - 2\n");
+
+Text m_with(const Text& piece, const Text& other) {
+  Text text = m;
+  const std::size_t at = text.find(tabbed(piece));
+  check(at != Text::npos, "M has the piece " + piece);
+  if (at != Text::npos) text.replace(at, piece.size(), tabbed(other));
+  return text;
+}

@@ -1,0 +1,41 @@
+#include <chrono>
+#include <cstdio>
+
+#include "check.hpp"
+#include "tests.hpp"
+
+namespace {
+
+void timed(const char* name, void (*test)()) {
+  const auto start = std::chrono::steady_clock::now();
+  test();
+  const std::chrono::duration<double> took = std::chrono::steady_clock::now() - start;
+  std::printf("%-24s %6.2f s\n", name, took.count());
+  std::fflush(stdout);
+}
+
+}  // namespace
+
+int main(int count, char** arguments) {
+  if (count != 4) {
+    std::fprintf(stderr, "usage: second-tests PROGRAM EXAMPLES SCRATCH\n");
+    return 2;
+  }
+  timed("paper examples", test_paper_examples);
+  test_program(arguments[1], arguments[2], arguments[3]);
+  timed("text refusals", test_text_refusals);
+  timed("model refusals", test_model_refusals);
+  timed("call refusals", test_call_refusals);
+  timed("request refusals", test_request_refusals);
+  timed("round trips", test_round_trips);
+  timed("image words", test_image_words);
+  timed("active by force", test_active_by_force);
+  timed("confluence by force", test_confluence_by_force);
+  timed("literal product", test_literal_product);
+  timed("all orders", test_all_orders);
+  timed("merged runs", test_merged_runs);
+  timed("timed runs", test_timed_runs);
+  timed("damaged inputs", test_damaged_inputs);
+  timed("generator", test_generator);
+  return conclude();
+}

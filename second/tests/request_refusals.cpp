@@ -1,0 +1,100 @@
+// The program's request line: 9, what is no 9, and the order of refusals behind it.
+#include "check.hpp"
+#include "lending.hpp"
+#include "tests.hpp"
+
+namespace {
+
+struct RequestCase {
+  Text request;  // spaces stand for tabs
+  second::Refusal refusal;
+};
+
+using second::refuse;
+
+// Each before model M.
+const RequestCase cases[] = {
+    {"from 1,0 100\n", {}},
+    {"from 0,2 0\n", {}},
+    {"from 1,0 4096\n", {}},
+    {"from 1,0 4097\n", refuse(22, {0})},
+    {"from 1,0 99999\n", refuse(22, {0})},
+    {"from 1,0 100000\n", refuse(9, {0})},
+    {"from 1,0 05\n", refuse(9, {0})},
+    {"from 1,0 +5\n", refuse(9, {0})},
+    {"from 1,0 -\n", refuse(9, {0})},
+    {"from 1,0 \n", refuse(9, {0})},
+    {"from 1,0\n", refuse(9, {0})},
+    {"from 1,0 1 1\n", refuse(9, {0})},
+    {"from 1,0 1 \n", refuse(9, {0})},
+    {"from 1,0 1\r\n", refuse(9, {0})},
+    {" from 1,0 1\n", refuse(9, {0})},
+    {"From 1,0 1\n", refuse(9, {0})},
+    {"from_1,0_1\n", refuse(9, {0})},
+    {"from  1,0 1\n", refuse(9, {0})},
+    {"\n", refuse(9, {0})},
+    {"", refuse(9, {0})},
+    {"from - 1\n", refuse(9, {0})},
+    {"from  1\n", refuse(9, {0})},
+    {"from 1, 1\n", refuse(9, {0})},
+    {"from ,1 1\n", refuse(9, {0})},
+    {"from 1,,0 1\n", refuse(9, {0})},
+    {"from 1,-0 1\n", refuse(9, {0})},
+    {"from 1,00 1\n", refuse(9, {0})},
+    {"from 1,100000 1\n", refuse(9, {0})},
+    {"from 1,_0 1\n", refuse(9, {0})},
+    {"from 2,0 1\n", refuse(21, {0})},
+    {"from 1,3 1\n", refuse(21, {0})},
+    {"from 1,64 1\n", refuse(21, {0})},
+    {"from 257,0 1\n", refuse(21, {0})},
+    {"from 1,256 1\n", refuse(21, {0})},
+    {"from 65537,0 1\n", refuse(21, {0})},
+    {"from 99999,0 1\n", refuse(21, {0})},
+    {"from 1 1\n", refuse(21, {0})},
+    {"from 1,0,0 1\n", refuse(21, {0})},
+    {"from 0,0,0,0,0,0,0,0,0,0,0,0,0,0,0,0,0,0 1\n", refuse(21, {0})},
+    {"from 1,3 4097\n", refuse(21, {0})},
+};
+
+// `from`, `count` zeros joined by commas, budget: 6 + 2 * count + the budget's digits + 1 bytes... by
+// its own length.
+Text long_request(unsigned length) {
+  Text request = "from\t0";
+  while (request.size() + 4 < length) request += ",0";
+  request += request.size() + 4 == length ? "\t10\n" : "\t1\n";
+  return request;
+}
+
+}  // namespace
+
+void test_request_refusals() {
+  for (const RequestCase& entry : cases) {
+    const second::Refusal refusal = refusal_in(lend_report(tabbed(entry.request) + m));
+    check(refusal == entry.refusal, shown(refusal) + " for the request\n" + entry.request);
+  }
+  check(lend_report("") == "refused\t9\t0\n", "no input");
+  check(lend_report(tabbed("from 1,0 100")) == "refused\t9\t0\n", "a request without LF");
+  check(lend_report(tabbed("from 1,0 100\n")) == "refused\t8\t0\n", "a request and no text");
+  check(lend_report(tabbed("from 0,0 5\n") + m) == "stable\t0\t-\t0,0\n", "no step");
+  check(lend_report(tabbed("from 1,0 0\n") + m) == "unsettled\t0\t-\t1,0\n", "budget 0");
+  check(lend_report(tabbed("from 1,1 9\n") + m) == tabbed("step 1 1 0 0,1\nstep 2 2 - 0,2\nstable 2 0 0,2\n"), "from 1,1");
+
+  for (unsigned length = 250; length <= 262; ++length) {
+    const Text request = long_request(length);
+    check(request.size() == length, "a request of " + std::to_string(length));
+    const std::uint64_t expected = length <= 256 ? 21 : 9;
+    check(refusal_in(lend_report(request + m)).number == expected, "a request of " + std::to_string(length));
+  }
+  check(lend_report(Text(300, 'x') + "\n" + m) == "refused\t9\t0\n", "no LF among the first 256");
+
+  // 1 counts the text alone, lines are counted from the model's first (H5).
+  const Text request = tabbed("from 9,9 9999\n");
+  check(lend_report(request + Text(32769, 'x')) == "refused\t1\t0\n", "1");
+  check(lend_report(request + Text(32768, 'x')) == "refused\t2\t1\n", "2 at 1");
+  check(lend_report(request + Text(100000, 'x')) == "refused\t1\t0\n", "1, far over");
+  check(lend_report(request + tabbed("comp 1 0\nact 0 in\nact 0 in\n")) == "refused\t6\t3\n", "6 at 3");
+  check(lend_report(request + m_with("row 2 - 1 - 2\n", "")) == "refused\t12\t1,2,1\n", "12 before 21");
+  check(lend_report(request + m_with("row 1 - 2 - 2", "row 1 - 2 - 0")) == "refused\t18\t1,1,1,2\n", "18 before 21");
+  check(lend_report(request + m) == "refused\t21\t0\n", "21 before 22");
+  check(lend_report(tabbed("from 9,9\n") + "x") == "refused\t9\t0\n", "9 first");
+}
