@@ -8,7 +8,7 @@ use native.Mathlib.Nat.{div-one, mod-lt, div-div-eq-div-mul, div-eq-of-lt, div-s
 use lib.Arith.{bin-ind, half-le}
 use lib.Pow.{pow-mono, pow-lt, pow-pos, pow-add, shl-shr}
 use native.Mathlib.Decide.{decLt, ℕ-discrete}
-use lib.Bits.{bitAnd, bitOr, bitXor, differ, and-step, or-step, xor-step, or-shr, and-shr, xor-shr, or-comm, and-comm, or-zero-r, and-zero-r, and-mask, xor-add-and}
+use lib.Bits.{bitAnd, bitOr, bitXor, differ, and-step, or-step, xor-step, or-shr, and-shr, xor-shr, or-comm, and-comm, or-zero-r, and-zero-r, and-mask, xor-add-and, and-le-l}
 use lib.Dec.{eqb}
 use borrow.Author.Tests.{eqb-true, eq-eqb, ne-eqb, not-true}
 use Rattle.laws.specs.Sets.{bit, has, _∖_ as without, within, _∈_, _⊆_, Apart}
@@ -184,3 +184,19 @@ and-not k s t h p = bit-ext (bitAnd s (2 ^ k - 1 - t)) (without s t) (λ x. rw (
     by-cases (decLt x k)
     (λ q. rw (bit-ones k x q) (omega arith))
     (λ q. rw (bit-above k s x h (let r : k ≤ x = omega arith in r)) (omega arith))))
+
+-- ---- sets by their members
+pub same-members : (s t : ℕ) → s ⊆ t → t ⊆ s → s ≡ t
+same-members s t f g = has-ext s t (λ x. agree (has s x) (has t x) (f x) (g x))
+  where
+    agree : (a b : Bool) → (a ≡ true → b ≡ true) → (b ≡ true → a ≡ true) → a ≡ b
+    agree true b p q = sym (p refl)
+    agree false true p q = q refl
+    agree false false p q = refl
+
+pub without-lt : (k s t : ℕ) → s < 2 ^ k → without s t < 2 ^ k
+without-lt k s t h = omega (arith, and-le-l s (bitXor s t))
+
+-- the set of one member tells it
+pub one-same : (x y : ℕ) → 2 ^ x ≡ 2 ^ y → x ≡ y
+one-same x y e = one-in y x (ap (λ n. has n x) (sym e) ∙ in-one x)
