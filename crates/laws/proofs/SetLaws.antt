@@ -8,7 +8,7 @@ use native.Mathlib.Nat.{div-one, mod-lt, div-div-eq-div-mul, div-eq-of-lt, div-s
 use lib.Arith.{bin-ind, half-le}
 use lib.Pow.{pow-mono, pow-lt, pow-pos, pow-add, shl-shr}
 use native.Mathlib.Decide.{decLt, ℕ-discrete}
-use lib.Bits.{bitAnd, bitOr, bitXor, differ, and-step, or-step, xor-step, or-shr, and-shr, xor-shr, or-comm, and-comm, or-zero-r, and-zero-r, and-mask, xor-add-and}
+use lib.Bits.{bitAnd, bitOr, bitXor, differ, and-step, or-step, xor-step, or-shr, and-shr, xor-shr, or-comm, and-comm, or-zero-r, and-zero-r, and-mask, and-le-l, xor-add-and}
 use lib.Dec.{eqb}
 use borrow.Author.Tests.{eqb-true, eq-eqb, ne-eqb, not-true}
 use Rattle.laws.specs.Sets.{bit, has, _∖_ as without, within, _∈_, _⊆_, Apart}
@@ -156,6 +156,10 @@ true-within s t f = eq-eqb (bitAnd s t) s (has-ext (bitAnd s t) s (λ x. has-and
     same : (x : ℕ) (b : Bool) → has s x ≡ b → (has s x && has t x) ≡ has s x
     same x true e = rw (e, f x e)
     same x false e = rw e
+
+-- a set within another is at most as great a number
+pub subset-le : (s t : ℕ) → s ⊆ t → s ≤ t
+subset-le s t f = omega (arith, eqb-true (bitAnd s t) s (true-within s t f), and-comm s t, and-le-l t s)
 
 -- the members of a set of one
 pub in-one : (x : ℕ) → x ∈ 2 ^ x
