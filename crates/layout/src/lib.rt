@@ -1,0 +1,1 @@
+// The table: where each word stands.

@@ -1,0 +1,1 @@
+// Sets of clocks or of actions as one 64-bit number, by masks.
