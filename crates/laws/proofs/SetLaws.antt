@@ -8,7 +8,7 @@ use native.Mathlib.Nat.{div-one, mod-lt, div-div-eq-div-mul, div-eq-of-lt, div-s
 use lib.Arith.{bin-ind, half-le}
 use lib.Pow.{pow-mono, pow-lt, pow-pos, pow-add, shl-shr}
 use native.Mathlib.Decide.{decLt, ℕ-discrete}
-use lib.Bits.{bitAnd, bitOr, bitXor, differ, and-step, or-step, xor-step, or-shr, and-shr, xor-shr, or-comm, and-comm, or-zero-r, and-zero-r, and-mask, xor-add-and}
+use lib.Bits.{bitAnd, bitOr, bitXor, differ, and-step, or-step, xor-step, or-shr, and-shr, xor-shr, or-comm, and-comm, or-zero-r, and-zero-r, and-mask, and-le-l, xor-add-and}
 use lib.Dec.{eqb}
 use borrow.Author.Tests.{eqb-true, eq-eqb, ne-eqb, not-true}
 use Rattle.laws.specs.Sets.{bit, has, _∖_ as without, within, _∈_, _⊆_, Apart}
@@ -157,6 +157,10 @@ true-within s t f = eq-eqb (bitAnd s t) s (has-ext (bitAnd s t) s (λ x. has-and
     same x true e = rw (e, f x e)
     same x false e = rw e
 
+-- a set within another is at most as great a number
+pub subset-le : (s t : ℕ) → s ⊆ t → s ≤ t
+subset-le s t f = omega (arith, eqb-true (bitAnd s t) s (true-within s t f), and-comm s t, and-le-l t s)
+
 -- the members of a set of one
 pub in-one : (x : ℕ) → x ∈ 2 ^ x
 in-one x = ap (λ n. eqb n 1) (bit-one-same x)
@@ -184,3 +188,14 @@ and-not k s t h p = bit-ext (bitAnd s (2 ^ k - 1 - t)) (without s t) (λ x. rw (
     by-cases (decLt x k)
     (λ q. rw (bit-ones k x q) (omega arith))
     (λ q. rw (bit-above k s x h (let r : k ≤ x = omega arith in r)) (omega arith))))
+
+-- ---- sets by their members
+pub same-members : (s t : ℕ) → s ⊆ t → t ⊆ s → s ≡ t
+same-members s t f g = omega (arith, subset-le s t f, subset-le t s g)
+
+pub without-lt : (k s t : ℕ) → s < 2 ^ k → without s t < 2 ^ k
+without-lt k s t h = omega (arith, and-le-l s (bitXor s t))
+
+-- the set of one member tells it
+pub one-same : (x y : ℕ) → 2 ^ x ≡ 2 ^ y → x ≡ y
+one-same x y e = one-in y x (ap (λ n. has n x) (sym e) ∙ in-one x)
