@@ -2,11 +2,12 @@
 ghost use mathlib.Core.Path.{_≡_};
 ghost use mathlib.Core.Option.{some};
 ghost use Prim.Native.Nat.{_-_, _<_};
-ghost use lib.ListN.{drop};
-ghost use Rattle.iosa.specs.Reading.{exactly, theByte, isDigit, moreDigits, number as numberOf, field};
+ghost use lib.ListN.{length, drop};
+ghost use Rattle.iosa.specs.Reading.{exactly, theByte, isDigit, moreDigits, number as numberOf, guardOrDash, kind as kindScan, moreNumbers, numbersOrDash, field};
 ghost use Rattle.answer.specs.Limits.{maxDigits};
-ghost use Rattle.fields.specs.Fields.{past, gotNumber};
-//ghost use Rattle.fields.specs.Resets.{gotResets, mapGot, fold, summary, joined, firstReset, noResets};
+ghost use Rattle.fields.specs.Fields.{past, gotNumber, gotGuard, gotKind};
+ghost use Rattle.fields.specs.Resets.{gotResets, valued, first, with, withAll, summary};
+use answer::Model;
 
 pub struct Cursor {
     pub at: usize,
@@ -39,6 +40,43 @@ pub enum Step {
 
 pub enum NumberScan {
     Is(u64, Cursor),
+    Missing,
+}
+
+// "guard (a clock or `-`)".
+pub enum Guard {
+    Dash,
+    Clock(u64),
+}
+
+pub enum GuardScan {
+    Is(Guard, Cursor),
+    Missing,
+}
+
+// "`in`, `out`, `uin` or `uout`".
+pub enum Kind {
+    In,
+    Out,
+    Uin,
+    Uout,
+}
+
+pub enum KindScan {
+    Is(Kind, Cursor),
+    Missing,
+}
+
+// What reading needs of the numbers of a resets field: that all of them are clocks, that they ascend, the last one, and the set.
+pub struct Resets {
+    pub clocks: bool,
+    pub ascend: bool,
+    pub last: u64,
+    pub set: u64,
+}
+
+pub enum ResetsScan {
+    Is(Resets, Cursor),
     Missing,
 }
 
@@ -126,4 +164,117 @@ pub fn number_field(text: &[u8], c: Cursor) -> NumberScan
         return NumberScan::Missing;
     };
     number(text, d)
+}
+
+pub fn guard_of(text: &[u8], c: Cursor) -> GuardScan
+    ensures { λ r. ⌜ gotGuard (now (text .entry)) r ≡ guardOrDash (drop (c .at) (now (text .entry))) ⌝ }
+{
+    if let Step::Past(d) = byte(text, c, Sign::DASH) {
+        return GuardScan::Is(Guard::Dash, d);
+    }
+    match number(text, c) {
+        NumberScan::Is(n, d) => GuardScan::Is(Guard::Clock(n), d),
+        NumberScan::Missing => GuardScan::Missing,
+    }
+}
+
+pub fn kind_of(text: &[u8], c: Cursor) -> KindScan
+    ensures { λ r. ⌜ gotKind (now (text .entry)) r ≡ kindScan (drop (c .at) (now (text .entry))) ⌝ }
+{
+    if let Step::Past(d) = word(text, c, b"in") {
+        return KindScan::Is(Kind::In, d);
+    }
+    if let Step::Past(d) = word(text, c, b"out") {
+        return KindScan::Is(Kind::Out, d);
+    }
+    if let Step::Past(d) = word(text, c, b"uin") {
+        return KindScan::Is(Kind::Uin, d);
+    }
+    if let Step::Past(d) = word(text, c, b"uout") {
+        return KindScan::Is(Kind::Uout, d);
+    }
+    KindScan::Missing
+}
+
+fn first_reset(n: u64) -> Resets
+    ensures { λ r. ⌜ r ≡ first n ⌝ }
+{
+    if n < Model::CLOCKS as u64 {
+        Resets {
+            clocks: true,
+            ascend: true,
+            last: n,
+            set: sets::single(n),
+        }
+    } else {
+        Resets {
+            clocks: false,
+            ascend: true,
+            last: n,
+            set: 0,
+        }
+    }
+}
+
+fn with_reset(s: Resets, n: u64) -> Resets
+    ensures { λ r. ⌜ r ≡ with s n ⌝ }
+{
+    let ascend = s.ascend && s.last < n;
+    if n < Model::CLOCKS as u64 {
+        Resets {
+            clocks: s.clocks,
+            ascend,
+            last: n,
+            set: sets::union(s.set, sets::single(n)),
+        }
+    } else {
+        Resets {
+            clocks: false,
+            ascend,
+            last: n,
+            set: s.set,
+        }
+    }
+}
+
+// Further numbers, each behind a comma.
+fn more_resets(text: &[u8], s: Resets, c: Cursor) -> ResetsScan
+    ensures { λ r.
+        ⌜ gotResets (now (text .entry)) r
+        ≡ valued (withAll s) (moreNumbers (length (drop (c .at) (now (text .entry)))) (drop (c .at) (now (text .entry)))) ⌝ }
+{
+    let mut sum = s;
+    let mut at = c.at;
+    while at < text.len() {
+        if text[at] != Sign::COMMA {
+            return ResetsScan::Is(sum, Cursor { at });
+        }
+        let NumberScan::Is(n, next) = number(text, Cursor { at: at + 1 }) else {
+            return ResetsScan::Missing;
+        };
+        let more = with_reset(sum, n);
+        sum = more;
+        at = next.at;
+    }
+    ResetsScan::Is(sum, Cursor { at })
+}
+
+pub fn resets_of(text: &[u8], c: Cursor) -> ResetsScan
+    ensures { λ r. ⌜ gotResets (now (text .entry)) r ≡ valued summary (numbersOrDash (drop (c .at) (now (text .entry)))) ⌝ }
+{
+    if let Step::Past(d) = byte(text, c, Sign::DASH) {
+        return ResetsScan::Is(
+            Resets {
+                clocks: true,
+                ascend: true,
+                last: 0,
+                set: 0,
+            },
+            d,
+        );
+    }
+    let NumberScan::Is(n, d) = number(text, c) else {
+        return ResetsScan::Missing;
+    };
+    more_resets(text, first_reset(n), d)
 }

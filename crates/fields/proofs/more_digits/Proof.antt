@@ -13,7 +13,6 @@ use Rattle.fields.proofs.ScanLaws.{more-full, digits-end, digits-stop, 
 use Rattle.fields.proofs.more_digits.Statement.{statement}
 use Rattle.fields.proofs.more_digits.Tie as tie
 
-
 abbrev Inv-loop : tie.InvT-loop
 Inv-loop text first n₀ at₀ k₀ n at k = (1 ≤ k) × (k ≤ 5) × (n < 10 ^ k) × (moreDigits (5 - k) n (drop at text) ≡ moreDigits 4 first (drop at₀ text))
 

@@ -19,7 +19,7 @@ loop-holds : tie.Need-loop-holds Inv-loop μ-loop
 loop-holds c = (omega arith, refl)
 
 returns : tie.Need-returns Inv-loop μ-loop
-returns c =     let a = c .before .before .before .args in
+returns c = let a = c .before .before .before .args in
     let l = c .before .before .loop in
     sym (word-short (now (a .w)) (now (a .text)) (l .i) (l .at) (c .before .loop-test .taken) (c .if1 .taken)) ∙ l .inv .1
 
@@ -30,7 +30,7 @@ shared-slice-read-if2-2 : tie.Need-shared-slice-read-if2-2 Inv-loop μ-loop
 shared-slice-read-if2-2 c = omega arith
 
 returns-2 : tie.Need-returns-2 Inv-loop μ-loop
-returns-2 c =     let a = c .before .before .before .before .before .before .args in
+returns-2 c = let a = c .before .before .before .before .before .before .args in
     let l = c .before .before .before .before .before .loop in
     sym (word-other (now (a .w)) (now (a .text)) (l .i) (l .at) (omega arith) (omega arith) (c .if2 .taken)) ∙ l .inv .1
 
@@ -44,12 +44,12 @@ loop-less : tie.Need-loop-less Inv-loop μ-loop
 loop-less c = omega arith
 
 loop-again : tie.Need-loop-again Inv-loop μ-loop
-loop-again c =     let a = c .before .before .before .before .before .before .args in
+loop-again c = let a = c .before .before .before .before .before .before .args in
     let l = c .before .before .before .before .before .loop in
     (omega arith, sym (word-on (now (a .w)) (now (a .text)) (l .i) (l .at) (omega arith) (omega arith) (c .if2 .left)) ∙ l .inv .1)
 
 returns-3 : tie.Need-returns-3 Inv-loop μ-loop
-returns-3 c =     let a = c .before .before .args in
+returns-3 c = let a = c .before .before .args in
     let l = c .before .loop in
     sym (word-done (now (a .w)) (now (a .text)) (l .i) (l .at) (c .loop-test .left)) ∙ l .inv .1
 
