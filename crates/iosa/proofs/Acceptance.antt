@@ -8,3 +8,6 @@ pub mod Check12
 pub mod Check13
 pub mod Enabled
 pub mod GreatestSets
+pub mod Check14
+pub mod Pairs
+pub mod Accepted

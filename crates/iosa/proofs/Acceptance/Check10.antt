@@ -10,7 +10,7 @@ use lib.ListN.{length}
 use lib.Dec.{eqb}
 use borrow.Author.Tests.{eqb-true, eqb-false, eq-eqb, ne-eqb, not-true}
 use Rattle.laws.specs.Sets.{has, _∈_, _∪_, only}
-use Rattle.laws.proofs.SetLaws.{in-or, or-in-l, or-in-r, or-cases}
+use Rattle.laws.proofs.SetLaws.{in-or, or-in-l, or-in-r, or-cases, or-right}
 use Rattle.laws.proofs.SearchLaws.{least-none, none-least}
 use Rattle.laws.proofs.TestLaws.{and-true, not-so}
 use Rattle.iosa.specs.Model.{Row, Comp, rowAt, guardSet, outputs, urgents}
@@ -32,8 +32,11 @@ module _ (c : Comp) (w : WellComp c) where
   -- ---- the test of a row
   pub guard-broken : (k : ℕ) → k < length (c .rows) → badGuard c k ≡ true → Broken10 c k
   unfolding badGuard
-  guard-broken k h e = record { inside = h; against = ⊎-elim (λ p. inl (first p)) (λ p. inr (second p)) (or-cases
-      (has (unclocked c) (rowAt c k .action) && not (eqb (rowAt c k .guard) 0)) (has (c .outs) (rowAt c k .action) && eqb (rowAt c k .guard) 0) e) }
+  guard-broken k h e = record {
+    inside = h;
+    against = ⊎-elim (λ p. inl (first p)) (λ p. inr (second p)) (or-cases
+        (has (unclocked c) (rowAt c k .action) && not (eqb (rowAt c k .guard) 0)) (has (c .outs) (rowAt c k .action) && eqb (rowAt c k .guard) 0) e);
+  }
     where
       first : (has (unclocked c) (rowAt c k .action) && not (eqb (rowAt c k .guard) 0)) ≡ true → AgainstA (autoOf c) (guardSet (rowAt c k .guard)) (rowAt c k .action)
       first p =
@@ -54,27 +57,27 @@ module _ (c : Comp) (w : WellComp c) where
           → ((has (unclocked c) (rowAt c k .action) && not (eqb (rowAt c k .guard) 0)) || (has (c .outs) (rowAt c k .action) && eqb (rowAt c k .guard) 0)) ≡ true
       go (inl p) = simp (p .0, ne-eqb (rowAt c k .guard) 0 (λ z. p .1 (ap guardSet z)))
       go (inr p) = elim (ℕ-discrete (rowAt c k .guard) 0) [
-        | yes z ↦ right (has (unclocked c) (rowAt c k .action) && not (eqb (rowAt c k .guard) 0)) (simp (calm-out (rowAt c k .action) (p .0) (p .1), eq-eqb (rowAt c k .guard) 0 z))
+        | yes z ↦ or-right (has (unclocked c) (rowAt c k .action) && not (eqb (rowAt c k .guard) 0)) (has (c .outs) (rowAt c k .action) && eqb (rowAt c k .guard) 0) (simp (calm-out (rowAt c k .action) (p .0) (p .1), eq-eqb (rowAt c k .guard) 0 z))
         | no ne ↦ let x = guard-some (rowAt c k .guard) ne in absurd (p .2 (x .0) (x .1))
       ]
-        where
-          right : (x : Bool) {y : Bool} → y ≡ true → (x || y) ≡ true
-          right true e = refl
-          right false e = e
 
   -- ---- the search
   pub check10-exactly : (check10 c ≡ none) ↔ CondA (autoOf c) × CondB (autoOf c)
   unfolding check10
   check10-exactly = (
     λ e. (
-      record { unguarded = λ l h. elim (ℕ-discrete (rowAt c (l .place) .guard) 0) [
-        | yes z ↦ sym (l .guard) ∙ ap guardSet z
-        | no ne ↦ absurd (sound e (l .place) (record { inside = l .inside; against = inl (rw (l .action) h, λ z. ne (guard-zero (rowAt c (l .place) .guard) z)) }))
-      ] },
-      record { guarded = λ l h n. elim (ℕ-discrete (rowAt c (l .place) .guard) 0) [
-        | yes z ↦ absurd (sound e (l .place) (record { inside = l .inside; against = inr (rw (l .action) h, (λ u. n (rw (l .action) at u)), λ x y. only-some x (sym y ∙ ap guardSet z)) }))
-        | no ne ↦ let x = guard-some (rowAt c (l .place) .guard) ne in (x .0, sym (l .guard) ∙ x .1)
-      ] },
+      record {
+        unguarded = λ l h. elim (ℕ-discrete (rowAt c (l .place) .guard) 0) [
+          | yes z ↦ sym (l .guard) ∙ ap guardSet z
+          | no ne ↦ absurd (sound e (l .place) (record { inside = l .inside; against = inl (rw (l .action) h, λ z. ne (guard-zero (rowAt c (l .place) .guard) z)) }))
+        ];
+      },
+      record {
+        guarded = λ l h n. elim (ℕ-discrete (rowAt c (l .place) .guard) 0) [
+          | yes z ↦ absurd (sound e (l .place) (record { inside = l .inside; against = inr (rw (l .action) h, (λ u. n (rw (l .action) at u)), λ x y. only-some x (sym y ∙ ap guardSet z)) }))
+          | no ne ↦ let x = guard-some (rowAt c (l .place) .guard) ne in (x .0, sym (l .guard) ∙ x .1)
+        ];
+      },
     ),
     λ p. none-least (badGuard c) (length (c .rows)) (λ k h. not-so (badGuard c k) (λ e. refute (p .0) (p .1) k (guard-broken k h e))),
   )

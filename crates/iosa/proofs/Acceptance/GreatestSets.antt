@@ -1,4 +1,4 @@
--- (f): `greatest` gives the greatest sets, they are determined, and any sets will do exactly if these will.
+-- (f) by the greatest sets: they are determined, and sets that will do can be given exactly if these will.
 use mathlib.Core.Path.{_≡_, refl, sym, _∙_, ap, subst}
 use mathlib.Core.Logic.{_≢_, _↔_, ⊎-elim, by-cases}
 use mathlib.Core.Bool.{Bool, true, false, _&&_, not, cond, true≢false, false≢true}
