@@ -126,8 +126,8 @@ void test_25_26() {
   check(lend_merge(image(tabbed("comp 64 0\ncomp 64 0\n")), 0, into).refusal == refuse(26, {0}), "26: 4,096 states");
   check(lend_merge(image(tabbed("comp 64 0\ncomp 2 0\n")), 0, shorter).refusal == refuse(24, {42120}), "24 before 26");
 
-  // Rows are those of the whole model (G3): 16 + 16 become 8 * 2 * 2 * 8; with what the third has
-  // it is just the limit, or one over.
+  // Rows are those of the whole model (G3): 32 and 32 become 64 times 8, and the third component
+  // has as many again, which is just the limit.
   Text pair;
   for (unsigned c = 0; c < 2; ++c) {
     pair += "comp 8 0\n";
@@ -144,12 +144,13 @@ void test_25_26() {
         "26: 1,025 rows in all");
 
   // Few rows, but long ones: bytes are those of the whole model too.
-  Text wide = "comp 8 0\nact 0 in\n", all;
+  Text wide = "comp 8 0\nact 0 in\nact 9 in\n", all;
   for (unsigned c = 0; c < 64; ++c) {
     wide += "clk " + std::to_string(c) + " 0\n";
     all += (c > 0 ? "," : "") + std::to_string(c);
   }
-  for (unsigned s = 0; s < 8; ++s) wide += "row " + std::to_string(s) + " - 0 " + all + " 0\n";
+  for (unsigned s = 0; s < 8; ++s)
+    for (unsigned a : {0, 9}) wide += "row " + std::to_string(s) + " - " + std::to_string(a) + " " + all + " 0\n";
   Text tall = "comp 8 0\n";
   for (unsigned a = 1; a < 4; ++a) tall += "act " + std::to_string(a) + " in\n";
   for (unsigned s = 0; s < 8; ++s)

@@ -56,8 +56,7 @@ const RequestCase cases[] = {
     {"from 1,3 4097\n", refuse(21, {0})},
 };
 
-// `from`, `count` zeros joined by commas, budget: 6 + 2 * count + the budget's digits + 1 bytes... by
-// its own length.
+// A well shaped request of just this length with its LF.
 Text long_request(unsigned length) {
   Text request = "from\t0";
   while (request.size() + 4 < length) request += ",0";
