@@ -1,1 +1,3 @@
 -- Reading and writing undo each other; reading by its faults.
+pub mod Number
+pub mod Fields

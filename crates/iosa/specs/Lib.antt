@@ -4,6 +4,7 @@ pub mod Product
 pub mod Text
 pub mod WellFormed
 pub mod Reading
+pub mod Line
 pub mod Checks
 pub mod Step
 pub mod Settle
