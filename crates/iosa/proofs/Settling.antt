@@ -1,1 +1,4 @@
 -- Steps exactly, the product is an automaton again, and demand 3.
+pub mod Each
+pub mod Parts
+pub mod Closed

@@ -6,6 +6,8 @@ pub mod WellFormed
 pub mod Reading
 pub mod Line
 pub mod Checks
+pub mod Faults
+pub mod Greatest
 pub mod Step
 pub mod Settle
 pub mod Timed
