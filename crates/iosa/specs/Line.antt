@@ -1,12 +1,12 @@
 -- A line as it is printed, for every line that a scan can read (01, "The model text"); and what it is that scanning and printing undo each other.
 use mathlib.Core.Path.{_≡_}
 use mathlib.Core.Option.{Option, none, some}
-use mathlib.Core.Bool.{Bool, false}
+use mathlib.Core.Bool.{false}
 use mathlib.Core.List.{List, [], _∷_, _++_}
-use Prim.Native.Nat.{ℕ, zero, suc, _^_, _<_}
+use Prim.Native.Nat.{ℕ, _^_, _<_}
 use lib.Dec.{eqb}
 use Rattle.answer.specs.Limits.{maxDigits}
-use Rattle.iosa.specs.Text.{comma, dash, compWord, actWord, clkWord, rowWord, Kind, kindWord, decimal, joined, guardField, fieldsAfter}
+use Rattle.iosa.specs.Text.{comma, dash, compWord, actWord, clkWord, rowWord, kindWord, decimal, joined, guardField, fieldsAfter}
 use Rattle.iosa.specs.Reading.{Got, got, isDigit, Entry, comp-entry, act-entry, clk-entry, row-entry, guardOf}
 
 -- "Numbers are decimal, 1 to 5 digits"

@@ -2,20 +2,20 @@
 use mathlib.Core.Path.{_≡_, refl, sym, _∙_, ap, ap₂}
 use mathlib.Core.Logic.{_⊎_, inl, inr, ⊎-elim}
 use mathlib.Core.Option.{Option, none, some, Option·some-inj}
-use mathlib.Core.Bool.{Bool, true, false, _&&_, false≢true, true≢false}
+use mathlib.Core.Bool.{Bool, true, false}
 use mathlib.Core.List.{List, [], _∷_, _++_, append-assoc}
-use Prim.Native.Nat.{ℕ, zero, suc, _+_, _*_, _-_, _/_, _%_, _^_, _≤_, _<_}
+use Prim.Native.Nat.{ℕ, zero, suc, _+_, _-_, _≤_}
 use native.Mathlib.Omega.{arith}
 use lib.ListN.{length, length-append}
-use lib.Dec.{eqb, ltb, leb}
-use borrow.Author.Tests.{ltb-true, ltb-false, leb-true, lt-ltb, le-ltb, le-leb, eqb-true, eqb-false, ne-eqb, eq-eqb}
+use lib.Dec.{eqb}
+use borrow.Author.Tests.{eqb-true, ne-eqb, eq-eqb}
 use Rattle.laws.specs.Search.{orElse}
 use Rattle.laws.proofs.SearchLaws.{no-some}
 use Rattle.answer.specs.Limits.{maxDigits}
-use Rattle.iosa.specs.Text.{byte0, comma, dash, tab, lf, Kind, in-kind, out-kind, uin-kind, uout-kind, kindWord, decimal, joined, guardField, fieldsAfter}
-use Rattle.iosa.specs.Reading.{Got, got, then, exactly, theByte, field, number, moreNumbers, numbers, guardOrDash, numbersOrDash, kind, guardOf}
+use Rattle.iosa.specs.Text.{byte0, comma, dash, Kind, in-kind, out-kind, uin-kind, uout-kind, kindWord, decimal, joined, guardField}
+use Rattle.iosa.specs.Reading.{Got, got, then, exactly, theByte, number, moreNumbers, numbers, guardOrDash, numbersOrDash, kind, guardOf}
 use Rattle.iosa.specs.Line.{Fits, AllFit, GuardFits, listField, Ends, Any, Exact}
-use Rattle.iosa.proofs.Reading.Number.{NoDigit, Digits, digits-of, number-printed, number-scanned}
+use Rattle.iosa.proofs.Reading.Number.{NoDigit, digits-of, number-printed, number-scanned}
 
 -- ---- scans one after the other
 pub then-some : {A B : Type 0} (o : Option (Got A)) (f : A → List ℕ → Option (Got B)) {g : Got B} → then o f ≡ some g → (h : Got A) × (o ≡ some h) × (f (h .value) (h .rest) ≡ some g)

@@ -1,15 +1,13 @@
 -- Each line is scanned as it is printed, and printed as it was scanned.
-use mathlib.Core.Path.{_≡_, refl, sym, _∙_, ap, ap₂, subst}
+use mathlib.Core.Path.{_≡_, refl, sym, _∙_, ap, subst}
 use mathlib.Core.Option.{Option, none, some, Option·some-inj}
 use mathlib.Core.List.{List, [], _∷_, _++_, append-assoc}
-use Prim.Native.Nat.{ℕ, zero, suc, _+_, _≤_, _<_}
-use native.Mathlib.Omega.{arith}
-use lib.ListN.{length, length-append}
+use Prim.Native.Nat.{ℕ}
 use Rattle.laws.proofs.SearchLaws.{no-some}
 use Rattle.iosa.specs.Text.{tab, lf, compWord, actWord, clkWord, rowWord, Kind, kindWord, decimal, guardField, fieldsAfter}
 use Rattle.iosa.specs.Reading.{Got, got, then, exactly, theByte, field, ended, number, guardOrDash, numbersOrDash, kind, guardOf, Entry, comp-entry, act-entry, clk-entry, row-entry, compEntry, actEntry, clkEntry, rowEntry, entry}
 use Rattle.iosa.specs.Line.{Fits, AllFit, GuardFits, listField, lineOf, LineFits, Ends, Any, Exact}
-use Rattle.iosa.proofs.Reading.Fields.{then-some, exactly-printed, exactly-scanned, number-exact, kind-exact, guard-exact, list-exact}
+use Rattle.iosa.proofs.Reading.Fields.{then-some, exactly-scanned, number-exact, kind-exact, guard-exact, list-exact}
 
 -- ---- a field behind a tab, and the line's end
 fields-end : (fs : List (List ℕ)) (bs : List ℕ) → Ends (fieldsAfter fs ++ bs)
@@ -71,7 +69,8 @@ row-printed s g a r t bs h =
       field-printed guardOrDash (λ o. guardField (guardOf o)) GuardFits guard-exact g (h .1) (decimal a ∷ listField r ∷ decimal t ∷ []) bs,
       num a (h .2) (listField r ∷ decimal t ∷ []) bs,
       field-printed numbersOrDash listField AllFit list-exact r (h .3) (decimal t ∷ []) bs,
-      num t (h .4) [] bs)
+      num t (h .4) [] bs,
+    )
     (ended-printed (row-entry s g a r t) bs)
 
 entry-printed : (e : Entry) (bs : List ℕ) → LineFits e → entry (lineOf e ++ bs) ≡ got e bs
@@ -153,9 +152,9 @@ row-scanned : (bs : List ℕ) (h : Got Entry) → rowEntry bs ≡ some h → Rea
 unfolding rowEntry
 row-scanned bs h e =
     let s = then-some (field number bs) (λ s cs.
-      then (field guardOrDash cs) (λ g ds. then (field number ds) (λ a es. then (field numbersOrDash es) (λ r fs. then (field number fs) (λ t gs. ended (row-entry s g a r t) gs))))) e in
+    then (field guardOrDash cs) (λ g ds. then (field number ds) (λ a es. then (field numbersOrDash es) (λ r fs. then (field number fs) (λ t gs. ended (row-entry s g a r t) gs))))) e in
     let g = then-some (field guardOrDash (s .0 .rest)) (λ g ds.
-      then (field number ds) (λ a es. then (field numbersOrDash es) (λ r fs. then (field number fs) (λ t gs. ended (row-entry (s .0 .value) g a r t) gs)))) (s .2) in
+    then (field number ds) (λ a es. then (field numbersOrDash es) (λ r fs. then (field number fs) (λ t gs. ended (row-entry (s .0 .value) g a r t) gs)))) (s .2) in
     let a = then-some (field number (g .0 .rest)) (λ a es. then (field numbersOrDash es) (λ r fs. then (field number fs) (λ t gs. ended (row-entry (s .0 .value) (g .0 .value) a r t) gs))) (g .2) in
     let r = then-some (field numbersOrDash (a .0 .rest)) (λ r fs. then (field number fs) (λ t gs. ended (row-entry (s .0 .value) (g .0 .value) (a .0 .value) r t) gs)) (a .2) in
     let t = then-some (field number (r .0 .rest)) (λ t gs. ended (row-entry (s .0 .value) (g .0 .value) (a .0 .value) (r .0 .value) t) gs) (r .2) in

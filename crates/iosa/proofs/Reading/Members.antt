@@ -1,17 +1,16 @@
 -- A set printed is the ascending list of its members, and such a list is the members of its set.
 use mathlib.Core.Path.{_≡_, refl, sym, _∙_, ap, ap₂}
-use mathlib.Core.Logic.{_⊎_, inl, inr, ⊎-elim, by-cases}
-use mathlib.Core.Bool.{Bool, true, false, _&&_, _||_, cond, false≢true, true≢false}
-use mathlib.Core.List.{List, [], _∷_, _++_}
+use mathlib.Core.Logic.{⊎-elim, by-cases}
+use mathlib.Core.Bool.{Bool, true, false, cond, true≢false}
+use mathlib.Core.List.{List, [], _∷_}
 use Prim.Native.Nat.{ℕ, zero, suc, _+_, _^_, _≤_, _<_}
 use native.Mathlib.Omega.{arith}
-use native.Mathlib.Decide.{ℕ-discrete, decLt}
-use lib.ListN.{length}
-use lib.Dec.{eqb, ltb}
+use native.Mathlib.Decide.{ℕ-discrete}
+use lib.Dec.{ltb}
 use borrow.Author.Tests.{ltb-true, lt-ltb}
-use Rattle.laws.specs.Sets.{has, _∪_, only, _∈_, _⊆_}
-use Rattle.laws.proofs.SetLaws.{has-or, has-ext, in-below, in-one, one-in, none-in, in-or, or-in-l, or-in-r, or-not}
-use Rattle.laws.proofs.TestLaws.{and-true, not-so, apart-cases}
+use Rattle.laws.specs.Sets.{has, only, _∈_, _⊆_}
+use Rattle.laws.proofs.SetLaws.{has-or, in-below, in-one, one-in, none-in, in-or, or-in-l, or-in-r, or-not, same-members}
+use Rattle.laws.proofs.TestLaws.{and-true, not-so}
 use Rattle.answer.specs.Limits.{maxClocks}
 use Rattle.iosa.specs.Text.{joined, members, setField}
 use Rattle.iosa.specs.Reading.{allBelow, allIn, ascending, setOf}
@@ -98,8 +97,8 @@ up-members (suc n) k m (x ∷ xs) e u = go (up-members n (suc k) m xs (omega ari
         → members (setOf (x ∷ xs)) (suc n) k ≡ x ∷ xs
     go here later (yes p) =
         rw (or-in-l (only x) (setOf xs) k (rw p (in-one k))) (ap₂ {C = List ℕ} (λ n l. n ∷ l) (sym p) (
-          members-same (setOf (x ∷ xs)) (setOf xs) n (suc k) (λ y h. has-or (only x) (setOf xs) y ∙ rw (not-so (has (only x) y) (λ q. omega (arith, one-in x y q))))
-          ∙ here (up-lower (suc k) (suc x) m xs (omega arith) (u .2))))
+        members-same (setOf (x ∷ xs)) (setOf xs) n (suc k) (λ y h. has-or (only x) (setOf xs) y ∙ rw (not-so (has (only x) y) (λ q. omega (arith, one-in x y q))))
+        ∙ here (up-lower (suc k) (suc x) m xs (omega arith) (u .2))))
     go here later (no p) = rw (up-not-in (suc k) m (x ∷ xs) k (omega (arith, u .0), u .1, u .2) (omega arith)) (later (omega (arith, u .0), u .1, u .2))
 
 -- a set is the set of its members
@@ -123,21 +122,12 @@ members-in s (suc n) k t h = go (members-in s n (suc k) t h) (has s k) refl
     go ih true e = rw (h k e) ih
     go ih false e = ih
 
-subset-ext : (s t : ℕ) → s ⊆ t → t ⊆ s → s ≡ t
-subset-ext s t f g = has-ext s t (λ x. go x (has s x) refl (has t x) refl)
-  where
-    go : (x : ℕ) (a : Bool) → has s x ≡ a → (b : Bool) → has t x ≡ b → a ≡ b
-    go x true p true q = refl
-    go x false p false q = refl
-    go x true p false q = absurd (true≢false (sym (f x p) ∙ q))
-    go x false p true q = absurd (true≢false (sym (g x q) ∙ p))
-
 -- ---- sets of clocks
 abbrev pub clocksOf : ℕ → List ℕ
 clocksOf s = members s maxClocks 0
 
 pub set-of-members : (s : ℕ) → s < 2 ^ maxClocks → setOf (clocksOf s) ≡ s
-set-of-members s h = subset-ext (setOf (clocksOf s)) s
+set-of-members s h = same-members (setOf (clocksOf s)) s
     (in-set-of s (clocksOf s) (members-in s maxClocks 0 s (λ x p. p)))
     (λ x p. has-members s maxClocks 0 x p (omega arith) (omega (arith, in-below maxClocks s x h p)))
 

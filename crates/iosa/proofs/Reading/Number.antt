@@ -1,14 +1,14 @@
 -- A number printed is scanned back, and what is scanned as a number is that number printed.
 use mathlib.Core.Path.{_≡_, refl, sym, _∙_, ap, ap₂}
 use mathlib.Core.Option.{Option, none, some, Option·some-inj}
-use mathlib.Core.Bool.{Bool, true, false, _&&_, false≢true, true≢false}
+use mathlib.Core.Bool.{Bool, true, false}
 use mathlib.Core.List.{List, [], _∷_, _++_, append-assoc}
 use Prim.Native.Nat.{ℕ, zero, suc, _+_, _*_, _-_, _/_, _%_, _^_, _≤_, _<_}
 use native.Mathlib.Omega.{arith}
 use native.Mathlib.Decide.{ℕ-discrete, decLt}
 use lib.ListN.{length, length-append}
 use lib.Dec.{eqb, ltb, leb}
-use borrow.Author.Tests.{ltb-true, ltb-false, leb-true, lt-ltb, le-ltb, le-leb, eqb-true, eqb-false, ne-eqb}
+use borrow.Author.Tests.{ltb-true, leb-true, lt-ltb, le-ltb, le-leb, eqb-true, eqb-false, ne-eqb}
 use Rattle.laws.proofs.TestLaws.{and-true}
 use Rattle.laws.proofs.SearchLaws.{no-some}
 use Rattle.answer.specs.Limits.{maxDigits}
@@ -163,7 +163,7 @@ number-printed n bs h e = go (digits-of (maxDigits - 1) n h) (ℕ-discrete n 0)
         ap (λ (l : List ℕ). number (l ++ bs)) (d .here)
         ∙ number-lead (d .lead) (d .more ++ bs) (d .some (omega arith)) (d .digit)
         ∙ ap {B = Option (Got ℕ)} some (
-          digits-taken (maxDigits - 1) (d .lead) bs (d .worth) (omega (arith, d .fits)) ∙ digits-end (maxDigits - 1 - length (d .more)) n bs e)
+        digits-taken (maxDigits - 1) (d .lead) bs (d .worth) (omega (arith, d .fits)) ∙ digits-end (maxDigits - 1 - length (d .more)) n bs e)
 
 pub number-scanned : (bs : List ℕ) (g : Got ℕ) → number bs ≡ some g → (bs ≡ decimal (g .value) ++ g .rest) × (g .value < 10 ^ maxDigits)
 unfolding number decimal digitsOf
