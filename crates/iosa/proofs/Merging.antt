@@ -1,1 +1,2 @@
 -- Merging gives the product.
+pub mod Labels

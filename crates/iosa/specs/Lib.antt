@@ -11,3 +11,4 @@ pub mod Timed
 pub mod Merge
 pub mod Report
 pub mod Examples
+pub mod MergedExactly
