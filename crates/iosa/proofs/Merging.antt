@@ -3,3 +3,4 @@ pub mod Labels
 pub mod Guards
 pub mod Rows
 pub mod Product
+pub mod Ascend
