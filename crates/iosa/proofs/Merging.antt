@@ -4,3 +4,5 @@ pub mod Guards
 pub mod Rows
 pub mod Product
 pub mod Ascend
+pub mod WellFormed
+pub mod Models

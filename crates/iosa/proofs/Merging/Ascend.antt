@@ -83,12 +83,12 @@ retarget g g′ R R′ u u′ v v′ f h =
     ⊎-elim
     (λ l. lower-less g g′ (R ∷ v ∷ []) (R′ ∷ v′ ∷ []) l)
     (λ p. lower-same g g′ (R ∷ v ∷ []) (R′ ∷ v′ ∷ []) (p .0) ∙ ⊎-elim
-        (λ l. lower-less R R′ (v ∷ []) (v′ ∷ []) l)
-        (λ q. lower-same R R′ (v ∷ []) (v′ ∷ []) (q .0) ∙ ⊎-elim
-            (λ l. lower-less v v′ [] [] (f l))
-            (λ z. absurd (false≢true (z .1)))
-            (lower-cases u u′ [] [] (q .1)))
-        (lower-cases R R′ (u ∷ []) (u′ ∷ []) (p .1)))
+    (λ l. lower-less R R′ (v ∷ []) (v′ ∷ []) l)
+    (λ q. lower-same R R′ (v ∷ []) (v′ ∷ []) (q .0) ∙ ⊎-elim
+    (λ l. lower-less v v′ [] [] (f l))
+    (λ z. absurd (false≢true (z .1)))
+    (lower-cases u u′ [] [] (q .1)))
+    (lower-cases R R′ (u ∷ []) (u′ ∷ []) (p .1)))
     (lower-cases g g′ (R ∷ u ∷ []) (R′ ∷ u′ ∷ []) h)
 
 -- ---- the rows of one state and action ascend too
@@ -144,10 +144,10 @@ module _ (c : Comp) (o : Conditions (autoOf c)) (s a : ℕ) where
           ⊎-elim
           (λ l. omega arith)
           (λ p.
-              let i : x ∈ guardSet (r .guard) = rw e (in-one x) in
-              let k : x ∈ guardSet (q .guard) = rw (← p .0) i in
-              let z = o .condC .same x i k lr lq in
-              absurd (not-before r q b same-from (p .0) same-action (z .2) (z .3)))
+          let i : x ∈ guardSet (r .guard) = rw e (in-one x) in
+          let k : x ∈ guardSet (q .guard) = rw (← p .0) i in
+          let z = o .condC .same x i k lr lq in
+          absurd (not-before r q b same-from (p .0) same-action (z .2) (z .3)))
           (lower-cases (r .guard) (q .guard) (r .resets ∷ r .target ∷ []) (q .resets ∷ q .target ∷ []) (tail-of r q same-from same-action b))
 
       go : (v : Bool) → has (unclocked c) a ≡ v → Clocked c a r q
@@ -174,7 +174,7 @@ module _ (d : Comp) (s t : ℕ) where
       (pairwise-map Before Before (bothMove d s t r) qs k (λ q q′ m n. f r q q′ (here refl) m n))
       (each-with-ascend rs qs (p .1) k (λ r q q′ m. f r q q′ (there m)) (λ r r′ q q′ m n. g r r′ q q′ (there m) (there n)))
       (λ x y m n. let u = map-in (bothMove d s t r) qs m in let v = each-with-in d s t rs qs n in
-          rw (u .2, v .4) (g r (v .0) (u .0) (v .1) (here refl) (there (v .2)) (u .1) (v .3) (p .0 (v .0) (v .2))))
+      rw (u .2, v .4) (g r (v .0) (u .0) (v .1) (here refl) (there (v .2)) (u .1) (v .3) (p .0 (v .0) (v .2))))
 
   first-ascends : 1 ≤ d .states → (rs : List Row) (a : ℕ) → Ascending (rowsBy rs s a) → Ascending (map (firstMoves d s t) (rowsBy rs s a))
   first-ascends some rs a p = pairwise-map Before Before (firstMoves d s t) (rowsBy rs s a) p go

@@ -36,7 +36,7 @@ module _ (c d : Comp) (wc : WellComp c) (wd : WellComp d) (j : Compatible (autoO
       (λ p. calm-or-urgent d wd a p (⊎-elim (λ u. j .left a u (calm-act d a p)) (λ u. u) (in-or (urgents c) (urgents d) a k)))
       (in-or (calmActs c) (calmActs d) a h)
 
-  kinds-apart : Apart ((c .ins ∪ d .ins) ∪ (c .outs ∪ d .outs)) ((c .uins ∪ d .uins) ∪ (c .uouts ∪ d .uouts))
+  pub kinds-apart : Apart ((c .ins ∪ d .ins) ∪ (c .outs ∪ d .outs)) ((c .uins ∪ d .uins) ∪ (c .uouts ∪ d .uouts))
   kinds-apart a h k =
       calm-or-urgent-in-both a
       (rw (or-regroup (c .ins) (d .ins) (c .outs) (d .outs)) at h)
