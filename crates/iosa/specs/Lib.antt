@@ -14,3 +14,4 @@ pub mod Timed
 pub mod Merge
 pub mod Report
 pub mod Examples
+pub mod MergedExactly
