@@ -3,3 +3,4 @@ pub mod Each
 pub mod Parts
 pub mod Closed
 pub mod Descent
+pub mod Rule
