@@ -4,3 +4,4 @@ pub mod Parts
 pub mod Closed
 pub mod Descent
 pub mod Rule
+pub mod ProductConditions
