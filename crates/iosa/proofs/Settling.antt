@@ -5,3 +5,5 @@ pub mod Closed
 pub mod Descent
 pub mod Rule
 pub mod ProductConditions
+pub mod ProductConfluent
+pub mod ProductOfMany

@@ -78,10 +78,10 @@ side I O U X Y W a f g h k = ⊎-elim
 
 module _ (A B : Automaton) (k : Compatible A B) (a : ℕ) where
   -- an urgent action of either side is urgent in A, where A has it
-  urgent-left : a ∈ A .urgent ∪ B .urgent → a ∈ alphabet A → a ∈ A .urgent
+  pub urgent-left : a ∈ A .urgent ∪ B .urgent → a ∈ alphabet A → a ∈ A .urgent
   urgent-left u h = ⊎-elim (λ p. p) (λ p. k .right a p h) (in-or (A .urgent) (B .urgent) a u)
 
-  urgent-right : a ∈ A .urgent ∪ B .urgent → a ∈ alphabet B → a ∈ B .urgent
+  pub urgent-right : a ∈ A .urgent ∪ B .urgent → a ∈ alphabet B → a ∈ B .urgent
   urgent-right u h = ⊎-elim (λ p. k .left a p h) (λ p. p) (in-or (A .urgent) (B .urgent) a u)
 
   unclocked-left : a ∈ (A ⊗ B) .inputs ∪ (A ⊗ B) .urgent → a ∈ alphabet A → a ∈ A .inputs ∪ A .urgent
