@@ -2,3 +2,5 @@ pub mod SetLaws
 pub mod SearchLaws
 pub mod FoldLaws
 pub mod TestLaws
+pub mod ListLaws
+pub mod PairLaws

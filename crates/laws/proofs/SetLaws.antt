@@ -85,10 +85,10 @@ pub or-cases : (a b : Bool) → (a || b) ≡ true → (a ≡ true) ⊎ (b ≡ tr
 or-cases true b e = inl refl
 or-cases false b e = inr e
 
-or-left : (a b : Bool) → a ≡ true → (a || b) ≡ true
+pub or-left : (a b : Bool) → a ≡ true → (a || b) ≡ true
 or-left a b e = rw e
 
-or-right : (a b : Bool) → b ≡ true → (a || b) ≡ true
+pub or-right : (a b : Bool) → b ≡ true → (a || b) ≡ true
 or-right true b e = refl
 or-right false b e = e
 
@@ -188,3 +188,14 @@ and-not k s t h p = bit-ext (bitAnd s (2 ^ k - 1 - t)) (without s t) (λ x. rw (
     by-cases (decLt x k)
     (λ q. rw (bit-ones k x q) (omega arith))
     (λ q. rw (bit-above k s x h (let r : k ≤ x = omega arith in r)) (omega arith))))
+
+-- ---- sets by their members
+pub same-members : (s t : ℕ) → s ⊆ t → t ⊆ s → s ≡ t
+same-members s t f g = omega (arith, subset-le s t f, subset-le t s g)
+
+pub without-lt : (k s t : ℕ) → s < 2 ^ k → without s t < 2 ^ k
+without-lt k s t h = omega (arith, and-le-l s (bitXor s t))
+
+-- the set of one member tells it
+pub one-same : (x y : ℕ) → 2 ^ x ≡ 2 ^ y → x ≡ y
+one-same x y e = one-in y x (ap (λ n. has n x) (sym e) ∙ in-one x)
