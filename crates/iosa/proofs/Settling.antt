@@ -7,3 +7,4 @@ pub mod Rule
 pub mod ProductConditions
 pub mod ProductConfluent
 pub mod ProductOfMany
+pub mod UrgentOutputs
