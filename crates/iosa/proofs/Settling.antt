@@ -8,3 +8,5 @@ pub mod ProductConditions
 pub mod ProductConfluent
 pub mod ProductOfMany
 pub mod UrgentOutputs
+pub mod Moves
+pub mod Steps
