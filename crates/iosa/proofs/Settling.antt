@@ -10,3 +10,6 @@ pub mod ProductOfMany
 pub mod UrgentOutputs
 pub mod Moves
 pub mod Steps
+pub mod Commute
+pub mod SeriesAndRuns
+pub mod Demand3

@@ -17,6 +17,7 @@ use Rattle.iosa.specs.WellFormed.{WellComp, WellFormed}
 use Rattle.iosa.specs.Automaton.{Automaton, alphabet, autoOf, UrgentRow, Stable, Conforming, Joinable, Conditions}
 use Rattle.iosa.specs.Product.{_⊗_, productFrom, product, embed, stateOf, Within}
 use Rattle.iosa.specs.Step.{Gone, Went, moveAll, isUout, urgentStep, lowest, isStable}
+use Rattle.iosa.specs.Demand3.{GoesOn}
 use Rattle.iosa.proofs.Acceptance.Rows.{Single, urgent-unclocked}
 use Rattle.iosa.proofs.Settling.Each.{All, each-all, all-map}
 use Rattle.iosa.proofs.Settling.Parts.{GoAll, parts-row, row-parts, within-length}
@@ -150,10 +151,10 @@ module _ (c : Comp) (cs : List Comp) (well : WellFormed (c ∷ cs)) (conf : Conf
 
   -- a state is stable, or an urgent row leaves it
   pub stable-or-goes-on : (s : List ℕ) → Within (c ∷ cs) s
-      → Stable (product c cs) (stateOf c cs s) ⊎ (a : ℕ) × (R : ℕ) × (y : product c cs .State) × UrgentRow (product c cs) (stateOf c cs s) 0 a R y
+      → Stable (product c cs) (stateOf c cs s) ⊎ GoesOn (product c cs) (stateOf c cs s)
   stable-or-goes-on s w = go (lowest (urgentStep (c ∷ cs)) s) refl
     where
       go : (o : Option (Went (List ℕ))) → lowest (urgentStep (c ∷ cs)) s ≡ o
-          → Stable (product c cs) (stateOf c cs s) ⊎ (a : ℕ) × (R : ℕ) × (y : product c cs .State) × UrgentRow (product c cs) (stateOf c cs s) 0 a R y
+          → Stable (product c cs) (stateOf c cs s) ⊎ GoesOn (product c cs) (stateOf c cs s)
       go none e = inl (stuck-stable s w (lowest-none (urgentStep (c ∷ cs)) s steps-are-bounded e))
-      go (some v) e = inr (v .action, v .gone .resets, stateOf c cs (v .gone .after), lowest-numbered s w v e .0)
+      go (some v) e = inr (0, v .action, v .gone .resets, stateOf c cs (v .gone .after), lowest-numbered s w v e .0)
