@@ -13,3 +13,4 @@ pub mod Pairs
 pub mod Accepted
 pub mod Check18
 pub mod ConfluentExactly
+pub mod Ranks
