@@ -54,6 +54,13 @@ module _ {A : Type 0} where
   pub decided-exactly : {F : List ℕ → A → Type 0} {o : Option A} → Decides F o → (t : A) → (o ≡ some t) ↔ First F t
   decided-exactly d t = (d .found t, d .first t)
 
+  pub decided-none : {F : List ℕ → A → Type 0} {o : Option A} → Decides F o → (o ≡ none) ↔ ((q : List ℕ) (t : A) → F q t → ⊥)
+  decided-none {F} {o} d = (d .nowhere, λ f. go f o refl)
+    where
+      go : ((q : List ℕ) (t : A) → F q t → ⊥) → (v : Option A) → o ≡ v → v ≡ none
+      go f none e = refl
+      go f (some t) e = let p = d .found t e in absurd (f (p .rank) t (p .here))
+
   -- the same faults by other words
   pub decides-as : {F G : List ℕ → A → Type 0} {o : Option A} → ((q : List ℕ) (t : A) → F q t ↔ G q t) → Decides F o → Decides G o
   decides-as f d = record {
