@@ -1,0 +1,15 @@
+-- Bytes by the members of a set (01, "The model text").
+use mathlib.Core.Bool.{cond}
+use Prim.Native.Nat.{ℕ, _+_}
+use lib.ListN.{length}
+use Rattle.laws.specs.Sets.{has}
+use Rattle.laws.specs.Fold.{tab, sum}
+use Rattle.iosa.specs.Text.{decimal}
+
+-- "one 64-bit number": the members of a set lie below this
+abbrev pub wordBits : ℕ
+wordBits = 64
+
+-- the bytes of all members of s in decimal, with e bytes beside each
+unfoldable pub perMember : ℕ → ℕ → ℕ
+perMember s e = sum (tab (λ x. cond (has s x) (e + length (decimal x)) 0) 0 wordBits)

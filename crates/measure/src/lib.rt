@@ -1,0 +1,1 @@
+// How long the text of a table is, without writing it.
