@@ -60,3 +60,7 @@ module _ (f g : ℕ → ℕ) where
 pub sum-at-most : (f : ℕ → ℕ) (b k n : ℕ) → ((j : ℕ) → k ≤ j → j < k + n → f j ≤ b) → sum (tab f k n) ≤ b * n
 sum-at-most f b k zero h = omega arith
 sum-at-most f b k (suc n) h = omega (arith, h k (omega arith) (omega arith), sum-at-most f b (suc k) n (λ j p q. h j (omega arith) (omega arith)))
+
+pub sum-scale : (b : ℕ) (f : ℕ → ℕ) (k n : ℕ) → sum (tab (λ j. b * f j) k n) ≡ b * sum (tab f k n)
+sum-scale b f k zero = omega arith
+sum-scale b f k (suc n) = omega (arith, sum-scale b f (suc k) n)

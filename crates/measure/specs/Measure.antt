@@ -4,11 +4,8 @@ use Prim.Native.Nat.{ℕ, _+_}
 use lib.ListN.{length}
 use Rattle.laws.specs.Sets.{has}
 use Rattle.laws.specs.Fold.{tab, sum}
+use Rattle.sets.specs.Members.{wordBits}
 use Rattle.iosa.specs.Text.{decimal}
-
--- "one 64-bit number": the members of a set lie below this
-abbrev pub wordBits : ℕ
-wordBits = 64
 
 -- the bytes of all members of s in decimal, with e bytes beside each
 unfoldable pub perMember : ℕ → ℕ → ℕ
