@@ -4,6 +4,7 @@ use mathlib.Core.Bool.{Bool, true, false, cond, true≢false, false≢true}
 use mathlib.Core.List.{List, [], _∷_, _++_}
 use Prim.Native.Nat.{ℕ, zero, suc, _+_, _*_, _-_, _/_, _%_, _^_, _≤_, _<_}
 use native.Mathlib.Omega.{arith}
+use native.Mathlib.Nat.{mul-le-mul-right}
 use native.Mathlib.Decide.{decLt, ℕ-discrete}
 use mathlib.Core.Logic.{by-cases}
 use lib.ListN.{length, length-append}
@@ -17,7 +18,7 @@ use Rattle.laws.proofs.RangeLaws.{tab-same, sum-add, sum-scale, sum-at-most}
 use Rattle.answer.specs.Limits.{maxDigits, maxClocks}
 use Rattle.iosa.specs.Text.{digitsOf, decimal, joined, members, guardField, setField, comma}
 use Rattle.sets.specs.Members.{wordBits, sizeOf}
-use Rattle.measure.specs.Measure.{perMember}
+use Rattle.measure.specs.Measure.{mostBeside, perMember}
 
 -- ---- a number
 one-digit : (k n : ℕ) → n < 10 → length (digitsOf (suc k) n) ≡ 1
@@ -92,6 +93,22 @@ members-sized s e =
     sym (sum-add (λ x. cond (has s x) (e + length (decimal x)) 0) (λ x. cond (has (bitAnd s low) x) 1 0) 0 wordBits)
     ∙ ap sum (tab-same (λ x. cond (has s x) (e + length (decimal x)) 0 + cond (has (bitAnd s low) x) 1 0) (λ x. (e + 2) * cond (has s x) 1 0) 0 wordBits (λ x p q. each-member s e x (omega arith) (has s x) refl))
     ∙ sum-scale (e + 2) (λ x. cond (has s x) 1 0) 0 wordBits
+
+pub size-most : (s : ℕ) → sizeOf s ≤ wordBits
+unfolding sizeOf
+size-most s = omega (arith, sum-at-most (λ x. cond (has s x) 1 0) 1 0 wordBits (λ x p q. go (has s x)))
+  where
+    go : (b : Bool) → cond b 1 0 ≤ 1
+    go true = omega arith
+    go false = omega arith
+
+-- as the machine counts: n members, m of them of one digit
+module _ (s e n m : ℕ) (p : n ≡ sizeOf s) (q : m ≡ sizeOf (bitAnd s low)) where
+  pub counted-most : e ≤ mostBeside → (e + 2) * n ≤ (mostBeside + 2) * wordBits
+  counted-most h = omega (arith, mul-le-mul-right n (let g : e + 2 ≤ mostBeside + 2 = omega arith in g), size-most s)
+
+  pub counted : m + perMember s e ≡ (e + 2) * n
+  counted = omega (arith, members-sized s e, ap (λ k. (e + 2) * k) p)
 
 pub members-most : (s e : ℕ) → perMember s e ≤ (e + maxDigits) * wordBits
 unfolding perMember
@@ -175,3 +192,8 @@ pub guard-most : (g : ℕ) → length (guardField g) ≤ maxDigits
 unfolding guardField
 guard-most zero = omega arith
 guard-most (suc x) = width-most x
+
+pub guard-clock : (g : ℕ) → 0 < g → length (decimal (g - 1)) ≡ length (guardField g)
+unfolding guardField
+guard-clock zero h = absurd (omega arith)
+guard-clock (suc x) h = let e : suc x - 1 ≡ x = omega arith in rw e
