@@ -165,6 +165,7 @@ set-nonempty s h k e = absurd (let z : s ≡ 0 = has-ext s 0 (λ x. by-cases (de
   where
     none : (x : ℕ) → has 0 x ≡ false
     none x = ap (λ n. eqb n 1) (bit-above 0 0 x (omega arith) (omega arith))
+
     beyond : (x : ℕ) → wordBits ≤ x → has s x ≡ false
     beyond x p = ap (λ n. eqb n 1) (bit-above wordBits s x k p)
 

@@ -8,12 +8,13 @@ use lib.ListN.{length, length-append}
 use Rattle.laws.specs.Sets.{has, _∪_, _∖_}
 use Rattle.laws.specs.Fold.{tab, spread, sum}
 use Rattle.laws.proofs.SetLaws.{has-or, has-without}
-use Rattle.laws.proofs.RangeLaws.{tab-same, spread-length, sum-add, sum-at-most}
+use Rattle.laws.proofs.FoldLaws.{tab-length}
+use Rattle.laws.proofs.RangeLaws.{tab-same, tab-next, tab-done, spread-next, spread-done, spread-length, sum-add}
 use Rattle.answer.specs.Limits.{maxDigits, maxActions, maxClocks}
 use Rattle.sets.specs.Members.{wordBits}
 use Rattle.iosa.specs.Model.{Row, Comp, Model, acts}
 use Rattle.iosa.specs.Text.{tab as tabByte, lf, Kind, in-kind, out-kind, uin-kind, uout-kind, kindWord, decimal, guardField, setField, fieldsAfter, compLine, actLine, clkLine, rowLine, kindOf, actPart, clkPart, rowLines, compText, textOf}
-use Rattle.measure.specs.Measure.{perMember}
+use Rattle.measure.specs.Measure.{actLines, clkLines, perMember}
 use Rattle.measure.proofs.Fields.{width-1, width-most, set-most, guard-most, members-most}
 
 -- ---- lines
@@ -51,8 +52,8 @@ row-most r =
     omega (arith, row-line r, width-most (r .from), guard-most (r .guard), width-most (r .action), set-most (r .resets), width-most (r .target))
 
 -- ---- the lines of one kind
-pub clks-width : (c : Comp) → length (spread (clkPart c) 0 maxClocks) ≡ perMember (c .clocks) 7
-unfolding perMember clkPart
+pub clks-width : (c : Comp) → length (clkLines c) ≡ perMember (c .clocks) 7
+unfolding perMember clkPart clkLines
 clks-width c = spread-length (clkPart c) 0 maxClocks ∙ ap sum (tab-same (λ x. length (clkPart c x)) (λ x. cond (has (c .clocks) x) (7 + length (decimal x)) 0) 0 maxClocks (λ x p q. go x (has (c .clocks) x)))
   where
     go : (x : ℕ) (b : Bool) → length (cond b (clkLine x (has (c .started) x)) []) ≡ cond b (7 + length (decimal x)) 0
@@ -111,8 +112,8 @@ module _ (i o u v : ℕ) where
       rw (has-or (i ∪ u) (o ∪ v) a, has-or i u a, has-or o v a, has-without o i a, has-without u (i ∪ o) a, has-without v (i ∪ o ∪ u) a, has-or (i ∪ o) u a, has-or i o a)
       (act-cases a (has i a) (has o a) (has u a) (has v a))
 
-pub acts-width : (c : Comp) → length (spread (actPart c) 0 maxActions) ≡ kindsWidth (c .ins) (c .outs) (c .uins) (c .uouts)
-unfolding actPart kindOf
+pub acts-width : (c : Comp) → length (actLines c) ≡ kindsWidth (c .ins) (c .outs) (c .uins) (c .uouts)
+unfolding actPart kindOf actLines
 acts-width c =
     spread-length (actPart c) 0 maxActions
     ∙ ap sum (tab-same (λ a. length (actPart c a)) (λ a. ins (c .ins) (c .outs) (c .uins) (c .uouts) a + outs (c .ins) (c .outs) (c .uins) (c .uouts) a + uins (c .ins) (c .outs) (c .uins) (c .uouts) a + uouts (c .ins) (c .outs) (c .uins) (c .uouts) a) 0 maxActions (λ a p q. each-act (c .ins) (c .outs) (c .uins) (c .uouts) a))
@@ -140,8 +141,8 @@ four-parts : (a b c d : List ℕ) → length (a ++ b ++ c ++ d) ≡ length a + l
 four-parts a b c d = simp length-append (omega arith)
 
 pub comp-width : (c : Comp) → length (compText c)
-    ≡ length (compLine c) + length (spread (actPart c) 0 maxActions) + length (spread (clkPart c) 0 maxClocks) + length (rowLines (c .rows))
-unfolding compText
+    ≡ length (compLine c) + length (actLines c) + length (clkLines c) + length (rowLines (c .rows))
+unfolding compText actLines clkLines
 comp-width c = four-parts (compLine c) (spread (actPart c) 0 maxActions) (spread (clkPart c) 0 maxClocks) (rowLines (c .rows))
 
 pub text-more : (c : Comp) (m : Model) → length (textOf (c ∷ m)) ≡ length (compText c) + length (textOf m)
@@ -151,3 +152,28 @@ text-more c m = length-append (compText c) (textOf m)
 pub no-text : length (textOf []) ≡ 0
 unfolding textOf
 no-text = refl
+
+-- ---- over a range, one place at a time
+module _ (f : ℕ → Row) (lo hi : ℕ) where
+  pub rows-next : lo < hi → length (rowLines (tab f lo (hi - lo))) ≡ length (rowLine (f lo)) + length (rowLines (tab f (lo + 1) (hi - (lo + 1))))
+  rows-next h = ap (λ l. length (rowLines l)) (tab-next f lo hi h) ∙ rows-more (f lo) (tab f (lo + 1) (hi - (lo + 1)))
+
+  pub rows-done : hi ≤ lo → length (rowLines (tab f lo (hi - lo))) ≡ 0
+  rows-done h = ap (λ l. length (rowLines l)) (tab-done f lo hi h) ∙ no-rows
+
+  pub range-most : length (rowLines (tab f lo (hi - lo))) ≤ 512 * hi
+  range-most = omega (arith, rows-most (tab f lo (hi - lo)), tab-length f lo (hi - lo))
+
+module _ (g : ℕ → List Row) (lo hi : ℕ) where
+  pub ranges-next : lo < hi → length (rowLines (spread g lo (hi - lo))) ≡ length (rowLines (g lo)) + length (rowLines (spread g (lo + 1) (hi - (lo + 1))))
+  ranges-next h = ap (λ l. length (rowLines l)) (spread-next g lo hi h) ∙ rows-append (g lo) (spread g (lo + 1) (hi - (lo + 1)))
+
+  pub ranges-done : hi ≤ lo → length (rowLines (spread g lo (hi - lo))) ≡ 0
+  ranges-done h = ap (λ l. length (rowLines l)) (spread-done g lo hi h) ∙ no-rows
+
+module _ (f : ℕ → Comp) (lo hi : ℕ) where
+  pub comps-next : lo < hi → length (textOf (tab f lo (hi - lo))) ≡ length (compText (f lo)) + length (textOf (tab f (lo + 1) (hi - (lo + 1))))
+  comps-next h = ap (λ m. length (textOf m)) (tab-next f lo hi h) ∙ text-more (f lo) (tab f (lo + 1) (hi - (lo + 1)))
+
+  pub comps-done : hi ≤ lo → length (textOf (tab f lo (hi - lo))) ≡ 0
+  comps-done h = ap (λ m. length (textOf m)) (tab-done f lo hi h) ∙ no-text
