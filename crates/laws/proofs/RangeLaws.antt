@@ -1,66 +1,187 @@
--- Laws of lists made over a range of numbers: put together, one place at a time, their lengths and sums.
-use mathlib.Core.Path.{_≡_, refl, sym, _∙_, ap, ap₂}
-use mathlib.Core.List.{List, [], _∷_, _++_, append-assoc}
-use Prim.Native.Nat.{ℕ, zero, suc, _+_, _*_, _-_, _≤_, _<_}
-use native.Mathlib.Numerals.{add-one}
+-- Laws of ranges: a fold or a search over a range, over another range, and over a list.
+use mathlib.Core.Path.{_≡_, refl, sym, _∙_, ap}
+use mathlib.Core.Option.{Option, none, some}
+use mathlib.Core.Bool.{Bool, true, false}
+use mathlib.Core.List.{List, [], _∷_, _++_}
+use Prim.Native.Nat.{ℕ, zero, suc, _+_, _-_, _≤_, _<_}
 use native.Mathlib.Omega.{arith}
-use lib.ListN.{length, length-append}
-use Rattle.laws.specs.Fold.{tab, spread, sum}
+use native.Mathlib.Decide.{ℕ-discrete}
+use lib.ListN.{length, getD}
+use Rattle.laws.specs.Search.{firstFrom, seek, when, isSome, orElse, mapSome, least, any}
+use Rattle.laws.specs.Fold.{overFrom, over, tab, spread}
 
-module _ {ℓ} {A : Type ℓ} (f : ℕ → A) where
-  pub tab-append : (k n m : ℕ) → tab f k (n + m) ≡ tab f k n ++ tab f (k + n) m
-  tab-append k zero m = let p : 0 + m ≡ m = omega arith in let q : k + 0 ≡ k = omega arith in rw (p, q)
-  tab-append k (suc n) m =
-      let p : suc n + m ≡ suc (n + m) = omega arith in
-      let q : k + suc n ≡ suc k + n = omega arith in
-      rw (p, q) (ap (λ l. f k ∷ l) (tab-append (suc k) n m))
+-- ---- folds
+module _ {A : Type 0} where
+  from-ext : (f g : ℕ → A → A) (n k : ℕ) (x : A) → ((j : ℕ) (y : A) → k ≤ j → j < k + n → f j y ≡ g j y) → overFrom f n k x ≡ overFrom g n k x
+  unfolding overFrom
+  from-ext f g zero k x h = refl
+  from-ext f g (suc n) k x h =
+      from-ext f g n (suc k) (f k x) (λ j y p q. h j y (omega arith) (omega arith)) ∙ ap (overFrom g n (suc k)) (h k x (omega arith) (omega arith))
 
-  pub tab-next : (lo hi : ℕ) → lo < hi → tab f lo (hi - lo) ≡ f lo ∷ tab f (lo + 1) (hi - (lo + 1))
-  tab-next lo hi h = let p : hi - lo ≡ suc (hi - suc lo) = omega arith in rw (add-one, p)
+  from-shift : (f : ℕ → A → A) (d n k : ℕ) (x : A) → overFrom f n (d + k) x ≡ overFrom (λ j. f (d + j)) n k x
+  unfolding overFrom
+  from-shift f d zero k x = refl
+  from-shift f d (suc n) k x = let e : suc (d + k) ≡ d + suc k = omega arith in rw e (from-shift f d n (suc k) (f (d + k) x))
 
-  pub tab-done : (lo hi : ℕ) → hi ≤ lo → tab f lo (hi - lo) ≡ []
-  tab-done lo hi h = let p : hi - lo ≡ 0 = omega arith in rw p
+  from-next : (f : ℕ → A → A) (n k : ℕ) (x : A) → overFrom f n (suc k) x ≡ overFrom (λ j. f (suc j)) n k x
+  unfolding overFrom
+  from-next f zero k x = refl
+  from-next f (suc n) k x = from-next f n (suc k) (f (suc k) x)
 
-pub tab-same {ℓ} : {A : Type ℓ} (f g : ℕ → A) (k n : ℕ) → ((j : ℕ) → k ≤ j → j < k + n → f j ≡ g j) → tab f k n ≡ tab g k n
-tab-same f g k zero h = refl
-tab-same f g k (suc n) h = ap₂ _∷_ (h k (omega arith) (omega arith)) (tab-same f g (suc k) n (λ j p q. h j (omega arith) (omega arith)))
+  from-split : (f : ℕ → A → A) (n m k : ℕ) (x : A) → overFrom f (n + m) k x ≡ overFrom f m (k + n) (overFrom f n k x)
+  unfolding overFrom
+  from-split f zero m k x =
+      let e : k + 0 ≡ k = omega arith in
+      let w : 0 + m ≡ m = omega arith in
+      rw (e, w)
+  from-split f (suc n) m k x =
+      let e : k + suc n ≡ suc k + n = omega arith in
+      let w : suc n + m ≡ suc (n + m) = omega arith in
+      rw (e, w) (from-split f n m (suc k) (f k x))
 
-module _ {ℓ} {A : Type ℓ} (f : ℕ → List A) where
-  pub spread-append : (k n m : ℕ) → spread f k (n + m) ≡ spread f k n ++ spread f (k + n) m
-  spread-append k zero m = let p : 0 + m ≡ m = omega arith in let q : k + 0 ≡ k = omega arith in rw (p, q)
-  spread-append k (suc n) m =
-      let p : suc n + m ≡ suc (n + m) = omega arith in
-      let q : k + suc n ≡ suc k + n = omega arith in
-      rw (p, q) (ap (λ l. f k ++ l) (spread-append (suc k) n m) ∙ sym (append-assoc (f k) (spread f (suc k) n) (spread f (suc k + n) m)))
+  pub over-ext : (f g : ℕ → A → A) (lo hi : ℕ) (x : A) → ((j : ℕ) (y : A) → lo ≤ j → j < hi → f j y ≡ g j y) → over f lo hi x ≡ over g lo hi x
+  unfolding over
+  over-ext f g lo hi x h = from-ext f g (hi - lo) lo x (λ j y p q. h j y p (omega arith))
 
-  pub spread-next : (lo hi : ℕ) → lo < hi → spread f lo (hi - lo) ≡ f lo ++ spread f (lo + 1) (hi - (lo + 1))
-  spread-next lo hi h = let p : hi - lo ≡ suc (hi - suc lo) = omega arith in rw (add-one, p)
+  pub over-shift : (f : ℕ → A → A) (d lo hi : ℕ) (x : A) → over f (d + lo) (d + hi) x ≡ over (λ j. f (d + j)) lo hi x
+  unfolding over
+  over-shift f d lo hi x = let e : d + hi - (d + lo) ≡ hi - lo = omega arith in rw e (from-shift f d (hi - lo) lo x)
 
-  pub spread-done : (lo hi : ℕ) → hi ≤ lo → spread f lo (hi - lo) ≡ []
-  spread-done lo hi h = let p : hi - lo ≡ 0 = omega arith in rw p
+  pub over-split : (f : ℕ → A → A) (lo mid hi : ℕ) (x : A) → lo ≤ mid → mid ≤ hi → over f lo hi x ≡ over f mid hi (over f lo mid x)
+  unfolding over
+  over-split f lo mid hi x p q =
+      let e : hi - lo ≡ mid - lo + (hi - mid) = omega arith in
+      let w : lo + (mid - lo) ≡ mid = omega arith in
+      rw e (from-split f (mid - lo) (hi - mid) lo x ∙ ap (λ k. overFrom f (hi - mid) k (overFrom f (mid - lo) lo x)) w)
 
-  pub spread-length : (k n : ℕ) → length (spread f k n) ≡ sum (tab (λ j. length (f j)) k n)
-  spread-length k zero = refl
-  spread-length k (suc n) = length-append (f k) (spread f (suc k) n) ∙ ap (λ m. length (f k) + m) (spread-length (suc k) n)
+  from-still : (f : ℕ → A → A) (n k : ℕ) (x : A) → ((j : ℕ) (y : A) → k ≤ j → j < k + n → f j y ≡ y) → overFrom f n k x ≡ x
+  unfolding overFrom
+  from-still f zero k x h = refl
+  from-still f (suc n) k x h = from-still f n (suc k) (f k x) (λ j y p q. h j y (omega arith) (omega arith)) ∙ h k x (omega arith) (omega arith)
 
-pub spread-same {ℓ} : {A : Type ℓ} (f g : ℕ → List A) (k n : ℕ) → ((j : ℕ) → k ≤ j → j < k + n → f j ≡ g j) → spread f k n ≡ spread g k n
-spread-same f g k zero h = refl
-spread-same f g k (suc n) h = ap₂ _++_ (h k (omega arith) (omega arith)) (spread-same f g (suc k) n (λ j p q. h j (omega arith) (omega arith)))
+  -- a range in which nothing happens
+  pub over-still : (f : ℕ → A → A) (lo hi : ℕ) (x : A) → ((j : ℕ) (y : A) → lo ≤ j → j < hi → f j y ≡ y) → over f lo hi x ≡ x
+  unfolding over
+  over-still f lo hi x h = from-still f (hi - lo) lo x (λ j y p q. h j y p (omega arith))
 
--- ---- sums over a range
-module _ (f g : ℕ → ℕ) where
-  pub sum-add : (k n : ℕ) → sum (tab (λ j. f j + g j) k n) ≡ sum (tab f k n) + sum (tab g k n)
-  sum-add k zero = refl
-  sum-add k (suc n) = omega (arith, sum-add (suc k) n)
+  -- nothing happens outside a part of the range
+  pub over-narrow : (f : ℕ → A → A) (lo from to hi : ℕ) (x : A) → lo ≤ from → from ≤ to → to ≤ hi
+      → ((j : ℕ) (y : A) → lo ≤ j → j < from → f j y ≡ y) → ((j : ℕ) (y : A) → to ≤ j → j < hi → f j y ≡ y) → over f lo hi x ≡ over f from to x
+  over-narrow f lo from to hi x p q r a b =
+      over-split f lo from hi x p (omega arith)
+      ∙ over-split f from to hi (over f lo from x) q r
+      ∙ over-still f to hi (over f from to (over f lo from x)) b
+      ∙ ap (over f from to) (over-still f lo from x a)
 
-  pub sum-le : (k n : ℕ) → ((j : ℕ) → k ≤ j → j < k + n → f j ≤ g j) → sum (tab f k n) ≤ sum (tab g k n)
-  sum-le k zero h = omega arith
-  sum-le k (suc n) h = omega (arith, h k (omega arith) (omega arith), sum-le (suc k) n (λ j p q. h j (omega arith) (omega arith)))
+-- ---- folds of a list
+abbrev pub folded : {A B : Type 0} → (A → B → B) → List A → B → B
+folded g [] x = x
+folded g (r ∷ rs) x = folded g rs (g r x)
 
-pub sum-at-most : (f : ℕ → ℕ) (b k n : ℕ) → ((j : ℕ) → k ≤ j → j < k + n → f j ≤ b) → sum (tab f k n) ≤ b * n
-sum-at-most f b k zero h = omega arith
-sum-at-most f b k (suc n) h = omega (arith, h k (omega arith) (omega arith), sum-at-most f b (suc k) n (λ j p q. h j (omega arith) (omega arith)))
+module _ {A B : Type 0} (g : A → B → B) where
+  pub folded-append : (xs ys : List A) (x : B) → folded g (xs ++ ys) x ≡ folded g ys (folded g xs x)
+  folded-append [] ys x = refl
+  folded-append (r ∷ rs) ys x = folded-append rs ys (g r x)
 
-pub sum-scale : (b : ℕ) (f : ℕ → ℕ) (k n : ℕ) → sum (tab (λ j. b * f j) k n) ≡ b * sum (tab f k n)
-sum-scale b f k zero = omega arith
-sum-scale b f k (suc n) = omega (arith, sum-scale b f (suc k) n)
+  tab-from : (h : ℕ → A) (n k : ℕ) (x : B) → folded g (tab h k n) x ≡ overFrom (λ j. g (h j)) n k x
+  unfolding overFrom
+  tab-from h zero k x = refl
+  tab-from h (suc n) k x = tab-from h n (suc k) (g (h k) x)
+
+  pub folded-tab : (h : ℕ → A) (lo hi : ℕ) (x : B) → folded g (tab h lo (hi - lo)) x ≡ over (λ j. g (h j)) lo hi x
+  unfolding over
+  folded-tab h lo hi x = tab-from h (hi - lo) lo x
+
+  -- every list but one leaves the value alone
+  spread-still : (h : ℕ → List A) (k n : ℕ) (x : B) → ((j : ℕ) (y : B) → k ≤ j → j < k + n → folded g (h j) y ≡ y) → folded g (spread h k n) x ≡ x
+  spread-still h k zero x e = refl
+  spread-still h k (suc n) x e =
+      folded-append (h k) (spread h (suc k) n) x
+      ∙ spread-still h (suc k) n (folded g (h k) x) (λ j y p q. e j y (omega arith) (omega arith))
+      ∙ e k x (omega arith) (omega arith)
+
+  pub folded-spread : (h : ℕ → List A) (k n s : ℕ) (x : B) → k ≤ s → s < k + n → ((j : ℕ) (y : B) → (j ≡ s → ⊥) → folded g (h j) y ≡ y) → folded g (spread h k n) x ≡ folded g (h s) x
+  folded-spread h k zero s x p q e = absurd (omega arith)
+  folded-spread h k (suc n) s x p q e = folded-append (h k) (spread h (suc k) n) x ∙ go (ℕ-discrete k s) (λ a b. folded-spread h (suc k) n s x a b e)
+    where
+      go : Dec (k ≡ s) → (suc k ≤ s → s < suc k + n → folded g (spread h (suc k) n) x ≡ folded g (h s) x) → folded g (spread h (suc k) n) (folded g (h k) x) ≡ folded g (h s) x
+      go (yes w) ih = spread-still h (suc k) n (folded g (h k) x) (λ j y a b. e j y (λ v. omega arith)) ∙ ap (λ j. folded g (h j) x) w
+      go (no w) ih = rw (e k x w) (ih (omega arith) (omega arith))
+
+  list-from : (d : A) (rs : List A) (x : B) → overFrom (λ k. g (getD rs k d)) (length rs) 0 x ≡ folded g rs x
+  unfolding overFrom
+  list-from d [] x = refl
+  list-from d (r ∷ rs) x = from-next (λ k. g (getD (r ∷ rs) k d)) (length rs) 0 (g r x) ∙ list-from d rs (g r x)
+
+  -- a list by its places
+  pub over-list : (d : A) (rs : List A) (x : B) → over (λ k. g (getD rs k d)) 0 (length rs) x ≡ folded g rs x
+  unfolding over
+  over-list d rs x = let e : length rs - 0 ≡ length rs = omega arith in rw e (list-from d rs x)
+
+-- ---- searches
+-- the search as a fold that keeps its first answer
+abbrev pub keep : {A : Type 0} → (ℕ → Option A) → ℕ → Option A → Option A
+keep f k o = orElse o (f k)
+
+else-none : {A : Type 0} (o : Option A) → orElse o none ≡ o
+else-none none = refl
+else-none (some x) = refl
+
+module _ {A : Type 0} where
+  keep-some : (f : ℕ → Option A) (n k : ℕ) (x : A) → overFrom (keep f) n k (some x) ≡ some x
+  unfolding overFrom
+  keep-some f zero k x = refl
+  keep-some f (suc n) k x = keep-some f n (suc k) x
+
+  keep-first : (f : ℕ → Option A) (n k : ℕ) → overFrom (keep f) n k none ≡ firstFrom f n k
+  unfolding overFrom firstFrom
+  keep-first f zero k = refl
+  keep-first f (suc n) k = go (f k) (keep-first f n (suc k))
+    where
+      go : (o : Option A) → overFrom (keep f) n (suc k) none ≡ firstFrom f n (suc k) → overFrom (keep f) n (suc k) o ≡ (elim o as (λ p. Option A) [ none ↦ firstFrom f n (suc k) | some x ↦ some x ])
+      go none e = e
+      go (some x) e = keep-some f n (suc k) x
+
+  pub over-seek : (f : ℕ → Option A) (lo hi : ℕ) → over (keep f) lo hi none ≡ seek f lo hi
+  unfolding over seek
+  over-seek f lo hi = keep-first f (hi - lo) lo
+
+  pub seek-ext : (f g : ℕ → Option A) (lo hi : ℕ) → ((j : ℕ) → lo ≤ j → j < hi → f j ≡ g j) → seek f lo hi ≡ seek g lo hi
+  seek-ext f g lo hi h = sym (over-seek f lo hi) ∙ over-ext (keep f) (keep g) lo hi none (λ j o p q. ap (orElse o) (h j p q)) ∙ over-seek g lo hi
+
+  pub seek-shift : (f : ℕ → Option A) (d lo hi : ℕ) → seek f (d + lo) (d + hi) ≡ seek (λ j. f (d + j)) lo hi
+  seek-shift f d lo hi = sym (over-seek f (d + lo) (d + hi)) ∙ over-shift (keep f) d lo hi none ∙ over-seek (λ j. f (d + j)) lo hi
+
+  pub seek-narrow : (f : ℕ → Option A) (lo from to hi : ℕ) → lo ≤ from → from ≤ to → to ≤ hi
+      → ((j : ℕ) → lo ≤ j → j < from → f j ≡ none) → ((j : ℕ) → to ≤ j → j < hi → f j ≡ none) → seek f lo hi ≡ seek f from to
+  seek-narrow f lo from to hi p q r a b =
+      sym (over-seek f lo hi)
+      ∙ over-narrow (keep f) lo from to hi none p q r (λ j o u v. ap (orElse o) (a j u v) ∙ else-none o) (λ j o u v. ap (orElse o) (b j u v) ∙ else-none o)
+      ∙ over-seek f from to
+
+-- what is answered where a test holds
+pub seek-map : {A : Type 0} (p : ℕ → Bool) (g : ℕ → A) (lo hi : ℕ) → seek (λ k. when (p k) (g k)) lo hi ≡ mapSome g (seek (λ k. when (p k) k) lo hi)
+unfolding seek firstFrom
+seek-map {A} p g lo hi = from (hi - lo) lo
+  where
+    from : (n k : ℕ) → firstFrom (λ k. when (p k) (g k)) n k ≡ mapSome g (firstFrom (λ k. when (p k) k) n k)
+    from zero k = refl
+    from (suc n) k = go (p k) (from n (suc k))
+      where
+        go : (b : Bool) → firstFrom (λ k. when (p k) (g k)) n (suc k) ≡ mapSome g (firstFrom (λ k. when (p k) k) n (suc k))
+            → (elim (when b (g k)) as (λ o. Option A) [ none ↦ firstFrom (λ k. when (p k) (g k)) n (suc k) | some x ↦ some x ])
+            ≡ mapSome g (elim (when b k) as (λ o. Option ℕ) [ none ↦ firstFrom (λ k. when (p k) k) n (suc k) | some x ↦ some x ])
+        go true e = refl
+        go false e = e
+
+some-map : {A B : Type 0} (g : A → B) (o : Option A) → isSome (mapSome g o) ≡ isSome o
+some-map g none = refl
+some-map g (some x) = refl
+
+-- whether there is one does not depend on what is answered
+pub seek-any : {A B : Type 0} (p : ℕ → Bool) (g : ℕ → A) (h : ℕ → B) (lo hi : ℕ) → isSome (seek (λ k. when (p k) (g k)) lo hi) ≡ isSome (seek (λ k. when (p k) (h k)) lo hi)
+seek-any p g h lo hi =
+    ap isSome (seek-map p g lo hi)
+    ∙ some-map g (seek (λ k. when (p k) k) lo hi)
+    ∙ sym (some-map h (seek (λ k. when (p k) k) lo hi))
+    ∙ ap isSome (sym (seek-map p h lo hi))

@@ -8,7 +8,7 @@ use lib.ListN.{length}
 use Rattle.laws.specs.Fold.{tab, spread, sum}
 use Rattle.laws.specs.Sets.{_∪_, _∖_}
 use Rattle.laws.proofs.FoldLaws.{tab-length}
-use Rattle.laws.proofs.RangeLaws.{spread-length, sum-at-most}
+use Rattle.laws.proofs.TabLaws.{spread-length, sum-at-most}
 use Rattle.answer.specs.Limits.{maxDigits, maxActions, maxClocks, maxStates, maxRows, maxComponents}
 use Rattle.iosa.specs.Model.{Row, Comp, Model}
 use Rattle.iosa.specs.Text.{decimal, compLine, rowLines, compText, textOf}

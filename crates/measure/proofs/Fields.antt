@@ -14,7 +14,7 @@ use borrow.Author.Tests.{ltb-true, ltb-false, lt-ltb, le-ltb}
 use Rattle.laws.specs.Sets.{has, bit}
 use Rattle.laws.specs.Fold.{tab, sum}
 use Rattle.laws.proofs.SetLaws.{bit-ones, bit-above, has-and, has-ext}
-use Rattle.laws.proofs.RangeLaws.{tab-same, sum-add, sum-scale, sum-at-most}
+use Rattle.laws.proofs.TabLaws.{tab-same, sum-add, sum-scale, sum-at-most}
 use Rattle.answer.specs.Limits.{maxDigits, maxClocks}
 use Rattle.iosa.specs.Text.{digitsOf, decimal, joined, members, guardField, setField, comma}
 use Rattle.sets.specs.Members.{wordBits, sizeOf}

@@ -9,7 +9,7 @@ use Rattle.laws.specs.Sets.{has, _∪_, _∖_}
 use Rattle.laws.specs.Fold.{tab, spread, sum}
 use Rattle.laws.proofs.SetLaws.{has-or, has-without}
 use Rattle.laws.proofs.FoldLaws.{tab-length}
-use Rattle.laws.proofs.RangeLaws.{tab-same, tab-next, tab-done, spread-next, spread-done, spread-length, sum-add}
+use Rattle.laws.proofs.TabLaws.{tab-same, tab-next, tab-done, spread-next, spread-done, spread-length, sum-add}
 use Rattle.answer.specs.Limits.{maxDigits, maxActions, maxClocks}
 use Rattle.sets.specs.Members.{wordBits}
 use Rattle.iosa.specs.Model.{Row, Comp, Model, acts}
