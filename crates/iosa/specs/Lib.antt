@@ -4,10 +4,15 @@ pub mod Product
 pub mod Text
 pub mod WellFormed
 pub mod Reading
+pub mod Line
 pub mod Checks
+pub mod Faults
+pub mod Greatest
 pub mod Step
 pub mod Settle
+pub mod Demand3
 pub mod Timed
 pub mod Merge
 pub mod Report
 pub mod Examples
+pub mod MergedExactly

@@ -4,3 +4,5 @@ pub mod FoldLaws
 pub mod TestLaws
 pub mod ListLaws
 pub mod PairLaws
+pub mod RangeLaws
+pub mod TabLaws
