@@ -3,3 +3,4 @@ pub mod Number
 pub mod Fields
 pub mod Lines
 pub mod Members
+pub mod Tests
