@@ -4,3 +4,4 @@ pub mod Fields
 pub mod Lines
 pub mod Members
 pub mod Tests
+pub mod Faults

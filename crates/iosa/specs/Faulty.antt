@@ -8,7 +8,8 @@ use Prim.Native.Nat.{ℕ, suc, _≤_, _<_}
 use lib.ListN.{length}
 use Rattle.laws.specs.Sets.{_∈_}
 use Rattle.answer.specs.Limits.{maxComponents, maxRows, maxStates, maxActions, maxClocks, maxBytes}
-use Rattle.iosa.specs.Model.{Comp, acts, rowCount}
+use Rattle.answer.specs.Told.{tell, Answer, answered, refused}
+use Rattle.iosa.specs.Model.{Comp, Model, acts, rowCount}
 use Rattle.iosa.specs.WellFormed.{before}
 use Rattle.iosa.specs.Reading.{got, Entry, comp-entry, act-entry, clk-entry, row-entry, entry, Progress, current, atStart, turn, rowOf, takeIn}
 
@@ -121,3 +122,10 @@ pub record FaultAt (t : List ℕ) (n k : ℕ) : Type 0 where
   pub reached : Reaches t k progress bytes
   pub line : ¬ (bytes ≡ [])
   pub lowest : Lowest progress bytes n
+
+-- what is answered to t: a model, or 1, 8, or a line's lowest fault
+pub data Reply (t : List ℕ) (a : Answer Model) : Type 0 where
+  is-model : (m : Model) → a ≡ answered m → Reply t a
+  is-too-long : maxBytes < length t → a ≡ refused (tell 1 (0 ∷ [])) → Reply t a
+  is-empty : t ≡ [] → a ≡ refused (tell 8 (0 ∷ [])) → Reply t a
+  has-fault : (n k : ℕ) → FaultAt t n k → a ≡ refused (tell n (k ∷ [])) → Reply t a
