@@ -5,3 +5,6 @@ pub mod Lines
 pub mod Members
 pub mod Tests
 pub mod Faults
+pub mod GrowActs
+pub mod GrowClocks
+pub mod GrowRows

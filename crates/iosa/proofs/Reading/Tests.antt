@@ -42,14 +42,14 @@ turn-decided (some d) e = (go (eqb (turn e) 0) refl, back)
     back (inr h) = rw (le-ltb (turn e) (turn d) h) (stop (not (eqb (turn e) 0)))
 
 -- ---- lists and guards
-each-below : (m : ℕ) (xs : List ℕ) → (allBelow m xs ≡ true) ↔ Each (λ x. x < m) xs
+pub each-below : (m : ℕ) (xs : List ℕ) → (allBelow m xs ≡ true) ↔ Each (λ x. x < m) xs
 unfolding allBelow
 each-below m [] = (λ h. tt, λ h. refl)
 each-below m (x ∷ xs) =
     let ih = each-below m xs in
     (λ h. let p = and-true (ltb x m) (allBelow m xs) h in (ltb-true x m (p .0), ih .0 (p .1)), λ h. both (ltb x m) (allBelow m xs) (lt-ltb x m (h .0)) (ih .1 (h .1)))
 
-each-in : (s : ℕ) (xs : List ℕ) → (allIn s xs ≡ true) ↔ Each (λ x. x ∈ s) xs
+pub each-in : (s : ℕ) (xs : List ℕ) → (allIn s xs ≡ true) ↔ Each (λ x. x ∈ s) xs
 unfolding allIn
 each-in s [] = (λ h. tt, λ h. refl)
 each-in s (x ∷ xs) =
@@ -64,7 +64,7 @@ guard-in : (s : ℕ) (g : Option ℕ) → (guardIn s g ≡ true) ↔ GuardIs (λ
 guard-in s none = (λ h. tt, λ h. refl)
 guard-in s (some x) = (λ h. h, λ h. h)
 
-ascends-decided : (xs : List ℕ) → (ascending xs ≡ true) ↔ Ascends xs
+pub ascends-decided : (xs : List ℕ) → (ascending xs ≡ true) ↔ Ascends xs
 unfolding ascending
 ascends-decided [] = (λ h. tt, λ h. refl)
 ascends-decided (x ∷ []) = (λ h. tt, λ h. refl)
