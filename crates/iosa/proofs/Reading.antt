@@ -8,3 +8,4 @@ pub mod Faults
 pub mod GrowActs
 pub mod GrowClocks
 pub mod GrowRows
+pub mod TextOfRead

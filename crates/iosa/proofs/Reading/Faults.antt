@@ -286,3 +286,45 @@ read-answers t = by-cases (decLt maxBytes (length t)) (λ h. is-too-long h (read
         ended [] w = is-empty (sym (none-taken r w .1)) (e ∙ ap finish w)
         ended (c ∷ cs) w = is-model (reverse (c ∷ cs)) (e ∙ ap finish w)
     go s (at-fault {k} {p} {b} {bs} {n} r l e) = has-fault n k (record { short = s; progress = p; bytes = b ∷ bs; reached = r; line = cons≢nil; lowest = l }) e
+
+-- a model that was read: every line is faultless in its turn, and nothing is left
+pub record ReadModel (t : List ℕ) (m : Model) : Type 0 where
+  pub short : length t ≤ maxBytes
+  pub lines : ℕ
+  pub progress : Progress
+  pub reached : Reaches t lines progress []
+  pub some : 1 ≤ length (progress .comps)
+  pub model : m ≡ reverse (progress .comps)
+
+pub model-read : (t : List ℕ) (m : Model) → readOf t ≡ answered m → ReadModel t m
+model-read t m e = by-cases (decLt maxBytes (length t)) (λ h. absurd (not-refused (sym e ∙ read-long t h))) (λ h. go (omega arith) (read-ends t (omega arith)))
+  where
+    go : length t ≤ maxBytes → End t (readOf t) → ReadModel t m
+    go s (at-fault r l f) = absurd (not-refused (sym e ∙ f))
+    go s (at-end {k} {p} r f) = ended (p .comps) refl
+      where
+        ended : (cs : List Comp) → p .comps ≡ cs → ReadModel t m
+        ended [] w = absurd (not-refused (sym e ∙ f ∙ ap finish w))
+        ended (c ∷ cs) w =
+            record {
+              short = s;
+              lines = k;
+              progress = p;
+              reached = r;
+              some = omega (arith, ap length w);
+              model = let q : _≡_ {A = Answer Model} (answered m) (answered (reverse (c ∷ cs))) = sym e ∙ f ∙ ap finish w in let z : m ≡ reverse (c ∷ cs) = cc in z ∙ ap reverse (sym w);
+            }
+
+pub read-model : (t : List ℕ) (m : Model) → ReadModel t m → readOf t ≡ answered m
+unfolding linesFrom
+read-model t m r =
+    let g = reading-goes-on (r .reached) in
+    read-short t (r .short) ∙ g .2 ∙ ended (g .0) (r .lines) (r .progress) ∙ finished (r .progress .comps) (r .some) ∙ ap {B = Answer Model} answered (sym (r .model))
+  where
+    ended : (f k : ℕ) (p : Progress) → linesFrom f k p [] ≡ finish (p .comps)
+    ended zero k p = refl
+    ended (suc f) k p = refl
+
+    finished : (cs : List Comp) → 1 ≤ length cs → finish cs ≡ answered (reverse cs)
+    finished [] h = absurd (omega arith)
+    finished (c ∷ cs) h = refl

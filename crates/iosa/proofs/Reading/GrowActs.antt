@@ -87,7 +87,7 @@ act-lines c a k h below = spread-added (actPart c) (actPart (withAct c a k)) (ac
     there x ne = ap₂ (λ b j. cond b (actLine x j) []) (ap (λ s. has s x) (act-acts c a k) ∙ added-there (acts c) a x ne) (kind-there c a k x ne)
 
 -- the text of a component with no clock and no row yet
-bare-text : (c : Comp) → c .clocks ≡ 0 → c .rows ≡ [] → compText c ≡ compLine c ++ spread (actPart c) 0 maxActions
+pub bare-text : (c : Comp) → c .clocks ≡ 0 → c .rows ≡ [] → compText c ≡ compLine c ++ spread (actPart c) 0 maxActions
 unfolding compText clkPart rowLines
 bare-text c e f =
     ap₂ (λ (l m : List ℕ). compLine c ++ spread (actPart c) 0 maxActions ++ l ++ m) (spread-none (clkPart c) 0 maxClocks (λ x p. rw e (rw (not-so (has 0 x) (none-in x))))) (ap rowLines f)
