@@ -9,3 +9,4 @@ pub mod GrowActs
 pub mod GrowClocks
 pub mod GrowRows
 pub mod TextOfRead
+pub mod ReadOfText
