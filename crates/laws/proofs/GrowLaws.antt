@@ -71,6 +71,6 @@ module _ {A : Type 0} where
   spread-added f g l a k zero p q none here there = absurd (omega arith)
   spread-added f g l a k (suc n) p q none here there = by-cases (ℕ-discrete k a)
       (λ e. ap₂ {C = List A} (λ x y. x ++ y) (ap g e ∙ here) (spread-none g (suc k) n (λ j h. there j (omega arith) ∙ none j (omega arith)))
-        ∙ append-nil l ∙ sym (ap (λ (x : List A). x ++ l) (spread-none f k (suc n) (λ j h. none j (omega arith)))))
+      ∙ append-nil l ∙ sym (ap (λ (x : List A). x ++ l) (spread-none f k (suc n) (λ j h. none j (omega arith)))))
       (λ e. ap₂ {C = List A} (λ x y. x ++ y) (there k e) (spread-added f g l a (suc k) n (omega arith) (omega arith) none here there)
-        ∙ sym (append-assoc (f k) (spread f (suc k) n) l))
+      ∙ sym (append-assoc (f k) (spread f (suc k) n) l))

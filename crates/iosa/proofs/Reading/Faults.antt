@@ -2,14 +2,13 @@
 use mathlib.Core.Path.{_≡_, refl, sym, _∙_, ap, subst}
 use mathlib.Core.Logic.{_⊎_, inl, inr, _↔_, ⊎-elim, by-cases}
 use mathlib.Core.Option.{Option, none, some, Option·some-inj}
-use mathlib.Core.Bool.{Bool, true, false, true≢false, false≢true}
-use mathlib.Core.List.{List, [], _∷_, _++_, cons≢nil, head-eq-of-cons-eq, reverse}
-use Prim.Native.Nat.{ℕ, zero, suc, _+_, _≤_, _<_}
+use mathlib.Core.Bool.{Bool, true, false, true≢false}
+use mathlib.Core.List.{List, [], _∷_, cons≢nil, head-eq-of-cons-eq, reverse}
+use Prim.Native.Nat.{ℕ, zero, suc, _≤_, _<_}
 use native.Mathlib.Omega.{arith}
 use native.Mathlib.Decide.{decLt}
 use lib.ListN.{length, length-append}
-use lib.Dec.{ltb}
-use borrow.Author.Tests.{ltb-true, ltb-false, lt-ltb, le-ltb}
+use borrow.Author.Tests.{lt-ltb, le-ltb}
 use Rattle.laws.specs.Search.{when, orElse}
 use Rattle.laws.proofs.SearchLaws.{no-some}
 use Rattle.laws.proofs.TestLaws.{apart-cases}
@@ -106,7 +105,8 @@ none-fault p e f = rw (
   range-decided (current p) e .1 (f .in-range),
   names-decided (current p) e .1 (f .named),
   order-decided (p .last) e .1 (f .in-order),
-  room-decided (p .comps) e .1 (f .room))
+  room-decided (p .comps) e .1 (f .room),
+)
 
 one-lowest : (p : Progress) (bs : List ℕ) (m n : ℕ) → Lowest p bs m → Lowest p bs n → m ≡ n
 one-lowest p bs m n a b = apart-cases m n (λ e. e) (λ h. absurd (b .least m h (a .fault))) (λ h. absurd (a .least n h (b .fault)))
@@ -269,8 +269,8 @@ fault-exactly t n k l h = (there, back)
     there e = by-cases (decLt maxBytes (length t))
         (λ w. absurd (omega (arith, same-told (sym (read-long t w) ∙ e) .0)))
         (λ w. ⊎-elim (λ q. absurd (omega (arith, q .0)))
-          (λ q. record { short = omega arith; progress = q .0; bytes = q .1 ∷ q .2; reached = q .3; line = cons≢nil; lowest = q .4 })
-          (refused-at (readOf t) n k (read-ends t (omega arith)) e))
+        (λ q. record { short = omega arith; progress = q .0; bytes = q .1 ∷ q .2; reached = q .3; line = cons≢nil; lowest = q .4 })
+        (refused-at (readOf t) n k (read-ends t (omega arith)) e))
 
     back : FaultAt t n k → readOf t ≡ refused (tell n (k ∷ []))
     back a = let g = reading-goes-on (a .reached) in read-short t (a .short) ∙ g .2 ∙ line-refused (g .0) k (a .progress) (a .bytes) n (a .line) (g .1) (a .lowest)

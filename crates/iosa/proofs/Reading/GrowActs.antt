@@ -1,21 +1,20 @@
 -- An `act` line more: the component that it makes, its text, and that it is well-formed.
 use mathlib.Core.Path.{_≡_, refl, sym, _∙_, ap, ap₂}
-use mathlib.Core.Logic.{by-cases}
-use mathlib.Core.Bool.{Bool, true, false, cond, true≢false}
-use mathlib.Core.List.{List, [], _∷_, _++_, append-assoc, append-nil}
-use Prim.Native.Nat.{ℕ, zero, suc, _+_, _^_, _≤_, _<_}
+use mathlib.Core.Bool.{false, cond}
+use mathlib.Core.List.{List, [], _++_, append-assoc, append-nil}
+use Prim.Native.Nat.{ℕ, _^_, _≤_, _<_}
 use native.Mathlib.Omega.{arith}
 use lib.ListN.{length}
 use lib.Bits.{or-lt}
 use lib.Pow.{pow-lt}
-use Rattle.laws.specs.Sets.{has, _∪_, only, _∈_, Apart}
+use Rattle.laws.specs.Sets.{has, _∪_, only, _∈_}
 use Rattle.laws.specs.Fold.{spread}
 use Rattle.laws.proofs.SetLaws.{not-or, none-in, or-assoc}
 use Rattle.laws.proofs.TestLaws.{not-so}
-use Rattle.laws.proofs.GrowLaws.{added-here, added-there, added-apart, apart-flip, or-past, spread-none, spread-same, spread-added}
+use Rattle.laws.proofs.GrowLaws.{added-here, added-there, added-apart, apart-flip, or-past, spread-none, spread-added}
 use Rattle.answer.specs.Limits.{maxActions, maxClocks}
-use Rattle.iosa.specs.Model.{Row, Comp, acts}
-use Rattle.iosa.specs.Text.{Kind, in-kind, out-kind, uin-kind, uout-kind, compLine, actLine, clkLine, kindOf, actPart, clkPart, rowLines, compText}
+use Rattle.iosa.specs.Model.{Comp, acts}
+use Rattle.iosa.specs.Text.{Kind, in-kind, out-kind, uin-kind, uout-kind, compLine, actLine, kindOf, actPart, clkPart, rowLines, compText}
 use Rattle.iosa.specs.WellFormed.{WellComp}
 use Rattle.iosa.specs.Reading.{withAct, act-entry}
 use Rattle.iosa.specs.Line.{lineOf}
@@ -116,49 +115,84 @@ pub act-well : (c : Comp) (a : ℕ) (k : Kind) → WellComp c → a < maxActions
 act-well c a in-kind w h e f =
     let n = no-kind c a e in
     record {
-      some = w .some; states = w .states; start = w .start;
-      ins = bound (c .ins) a (w .ins) h; outs = w .outs; uins = w .uins; uouts = w .uouts;
+      some = w .some;
+      states = w .states;
+      start = w .start;
+      ins = bound (c .ins) a (w .ins) h;
+      outs = w .outs;
+      uins = w .uins;
+      uouts = w .uouts;
       ins-outs = added-apart (c .ins) (c .outs) a (w .ins-outs) (n .outs);
       ins-uins = added-apart (c .ins) (c .uins) a (w .ins-uins) (n .uins);
       ins-uouts = added-apart (c .ins) (c .uouts) a (w .ins-uouts) (n .uouts);
-      outs-uins = w .outs-uins; outs-uouts = w .outs-uouts; uins-uouts = w .uins-uouts;
-      clocks = w .clocks; started = w .started;
-      rows = λ j p. absurd (omega (arith, ap length f)); ascend = λ j p. absurd (omega (arith, ap length f));
+      outs-uins = w .outs-uins;
+      outs-uouts = w .outs-uouts;
+      uins-uouts = w .uins-uouts;
+      clocks = w .clocks;
+      started = w .started;
+      rows = λ j p. absurd (omega (arith, ap length f));
+      ascend = λ j p. absurd (omega (arith, ap length f));
     }
 act-well c a out-kind w h e f =
     let n = no-kind c a e in
     record {
-      some = w .some; states = w .states; start = w .start;
-      ins = w .ins; outs = bound (c .outs) a (w .outs) h; uins = w .uins; uouts = w .uouts;
+      some = w .some;
+      states = w .states;
+      start = w .start;
+      ins = w .ins;
+      outs = bound (c .outs) a (w .outs) h;
+      uins = w .uins;
+      uouts = w .uouts;
       ins-outs = apart-flip (c .outs ∪ only a) (c .ins) (added-apart (c .outs) (c .ins) a (apart-flip (c .ins) (c .outs) (w .ins-outs)) (n .ins));
-      ins-uins = w .ins-uins; ins-uouts = w .ins-uouts;
+      ins-uins = w .ins-uins;
+      ins-uouts = w .ins-uouts;
       outs-uins = added-apart (c .outs) (c .uins) a (w .outs-uins) (n .uins);
       outs-uouts = added-apart (c .outs) (c .uouts) a (w .outs-uouts) (n .uouts);
       uins-uouts = w .uins-uouts;
-      clocks = w .clocks; started = w .started;
-      rows = λ j p. absurd (omega (arith, ap length f)); ascend = λ j p. absurd (omega (arith, ap length f));
+      clocks = w .clocks;
+      started = w .started;
+      rows = λ j p. absurd (omega (arith, ap length f));
+      ascend = λ j p. absurd (omega (arith, ap length f));
     }
 act-well c a uin-kind w h e f =
     let n = no-kind c a e in
     record {
-      some = w .some; states = w .states; start = w .start;
-      ins = w .ins; outs = w .outs; uins = bound (c .uins) a (w .uins) h; uouts = w .uouts;
-      ins-outs = w .ins-outs; ins-uouts = w .ins-uouts; outs-uouts = w .outs-uouts;
+      some = w .some;
+      states = w .states;
+      start = w .start;
+      ins = w .ins;
+      outs = w .outs;
+      uins = bound (c .uins) a (w .uins) h;
+      uouts = w .uouts;
+      ins-outs = w .ins-outs;
+      ins-uouts = w .ins-uouts;
+      outs-uouts = w .outs-uouts;
       ins-uins = apart-flip (c .uins ∪ only a) (c .ins) (added-apart (c .uins) (c .ins) a (apart-flip (c .ins) (c .uins) (w .ins-uins)) (n .ins));
       outs-uins = apart-flip (c .uins ∪ only a) (c .outs) (added-apart (c .uins) (c .outs) a (apart-flip (c .outs) (c .uins) (w .outs-uins)) (n .outs));
       uins-uouts = added-apart (c .uins) (c .uouts) a (w .uins-uouts) (n .uouts);
-      clocks = w .clocks; started = w .started;
-      rows = λ j p. absurd (omega (arith, ap length f)); ascend = λ j p. absurd (omega (arith, ap length f));
+      clocks = w .clocks;
+      started = w .started;
+      rows = λ j p. absurd (omega (arith, ap length f));
+      ascend = λ j p. absurd (omega (arith, ap length f));
     }
 act-well c a uout-kind w h e f =
     let n = no-kind c a e in
     record {
-      some = w .some; states = w .states; start = w .start;
-      ins = w .ins; outs = w .outs; uins = w .uins; uouts = bound (c .uouts) a (w .uouts) h;
-      ins-outs = w .ins-outs; ins-uins = w .ins-uins; outs-uins = w .outs-uins;
+      some = w .some;
+      states = w .states;
+      start = w .start;
+      ins = w .ins;
+      outs = w .outs;
+      uins = w .uins;
+      uouts = bound (c .uouts) a (w .uouts) h;
+      ins-outs = w .ins-outs;
+      ins-uins = w .ins-uins;
+      outs-uins = w .outs-uins;
       ins-uouts = apart-flip (c .uouts ∪ only a) (c .ins) (added-apart (c .uouts) (c .ins) a (apart-flip (c .ins) (c .uouts) (w .ins-uouts)) (n .ins));
       outs-uouts = apart-flip (c .uouts ∪ only a) (c .outs) (added-apart (c .uouts) (c .outs) a (apart-flip (c .outs) (c .uouts) (w .outs-uouts)) (n .outs));
       uins-uouts = apart-flip (c .uouts ∪ only a) (c .uins) (added-apart (c .uouts) (c .uins) a (apart-flip (c .uins) (c .uouts) (w .uins-uouts)) (n .uins));
-      clocks = w .clocks; started = w .started;
-      rows = λ j p. absurd (omega (arith, ap length f)); ascend = λ j p. absurd (omega (arith, ap length f));
+      clocks = w .clocks;
+      started = w .started;
+      rows = λ j p. absurd (omega (arith, ap length f));
+      ascend = λ j p. absurd (omega (arith, ap length f));
     }

@@ -1,7 +1,7 @@
 -- A `clk` line more: the component that it makes, its text, and that it is well-formed.
 use mathlib.Core.Path.{_≡_, refl, sym, _∙_, ap, ap₂}
 use mathlib.Core.Bool.{Bool, true, false, cond}
-use mathlib.Core.List.{List, [], _∷_, _++_, append-assoc, append-nil}
+use mathlib.Core.List.{List, [], _++_, append-assoc, append-nil}
 use Prim.Native.Nat.{ℕ, zero, suc, _≤_, _<_}
 use native.Mathlib.Omega.{arith}
 use lib.ListN.{length}
@@ -10,7 +10,7 @@ use lib.Pow.{pow-lt}
 use lib.Dec.{eqb}
 use Rattle.laws.specs.Sets.{has, _∪_, only, _∈_, _⊆_}
 use Rattle.laws.specs.Fold.{spread}
-use Rattle.laws.proofs.SetLaws.{or-in-l, in-one}
+use Rattle.laws.proofs.SetLaws.{or-in-l}
 use Rattle.laws.proofs.TestLaws.{not-so}
 use Rattle.laws.proofs.GrowLaws.{added-here, added-there, added-within, spread-same, spread-added}
 use Rattle.answer.specs.Limits.{maxActions, maxClocks}
@@ -74,10 +74,21 @@ set-within false s u x f = λ y m. or-in-l u (only x) y (f y m)
 pub clk-well : (c : Comp) (x b : ℕ) → WellComp c → x < maxClocks → c .rows ≡ [] → WellComp (withClk c x b)
 clk-well c x b w h f =
     record {
-      some = w .some; states = w .states; start = w .start;
-      ins = w .ins; outs = w .outs; uins = w .uins; uouts = w .uouts;
-      ins-outs = w .ins-outs; ins-uins = w .ins-uins; ins-uouts = w .ins-uouts; outs-uins = w .outs-uins; outs-uouts = w .outs-uouts; uins-uouts = w .uins-uouts;
+      some = w .some;
+      states = w .states;
+      start = w .start;
+      ins = w .ins;
+      outs = w .outs;
+      uins = w .uins;
+      uouts = w .uouts;
+      ins-outs = w .ins-outs;
+      ins-uins = w .ins-uins;
+      ins-uouts = w .ins-uouts;
+      outs-uins = w .outs-uins;
+      outs-uouts = w .outs-uouts;
+      uins-uouts = w .uins-uouts;
       clocks = or-lt maxClocks (c .clocks) (only x) (w .clocks) (pow-lt h);
       started = set-within (eqb b 1) (c .started) (c .clocks) x (w .started);
-      rows = λ j p. absurd (omega (arith, ap length f)); ascend = λ j p. absurd (omega (arith, ap length f));
+      rows = λ j p. absurd (omega (arith, ap length f));
+      ascend = λ j p. absurd (omega (arith, ap length f));
     }

@@ -2,27 +2,27 @@
 use mathlib.Core.Path.{_≡_, refl, sym, _∙_, ap, ap₂, subst}
 use mathlib.Core.Logic.{by-cases}
 use mathlib.Core.Option.{Option, none, some}
-use mathlib.Core.Bool.{Bool, true, false}
+use mathlib.Core.Bool.{true}
 use mathlib.Core.List.{List, [], _∷_, _++_, append-assoc, append-nil}
-use Prim.Native.Nat.{ℕ, zero, suc, _+_, _^_, _≤_, _<_}
+use Prim.Native.Nat.{ℕ, suc, _^_, _<_}
 use native.Mathlib.Omega.{arith}
-use native.Mathlib.Decide.{decLt, ℕ-discrete}
-use lib.ListN.{length, length-append, getD, List·getD-append}
+use native.Mathlib.Decide.{decLt}
+use lib.ListN.{length, length-append, List·getD-append}
 use lib.Seq.{getD-at}
 use lib.Bits.{or-lt}
 use lib.Pow.{pow-lt}
-use Rattle.laws.specs.Sets.{has, only, _∈_, _⊆_}
+use Rattle.laws.specs.Sets.{only, _∈_, _⊆_}
 use Rattle.laws.specs.Fold.{spread}
-use Rattle.laws.proofs.SetLaws.{none-in, one-in, subset-le}
+use Rattle.laws.proofs.SetLaws.{none-in, one-in}
 use Rattle.laws.proofs.GrowLaws.{spread-same}
 use Rattle.answer.specs.Limits.{maxActions, maxClocks}
-use Rattle.iosa.specs.Model.{Row, Comp, noRow, rowAt, acts, guardSet}
-use Rattle.iosa.specs.Text.{guardField, decimal, fieldsAfter, rowWord, rowLine, rowLines, compText, kindOf, actPart, clkPart, compLine, setField}
+use Rattle.iosa.specs.Model.{Row, Comp, noRow, rowAt, guardSet}
+use Rattle.iosa.specs.Text.{rowLine, rowLines, compText, kindOf, actPart, clkPart, compLine, setField}
 use Rattle.iosa.specs.WellFormed.{before, WellRow, WellComp}
-use Rattle.iosa.specs.Reading.{Entry, row-entry, Progress, guardOf, rowOf, setOf, allBelow, allIn, ascending, withRow}
+use Rattle.iosa.specs.Reading.{row-entry, guardOf, rowOf, setOf, withRow}
 use Rattle.iosa.specs.Line.{lineOf, listField}
 use Rattle.iosa.specs.Faulty.{Each, GuardIs, InRange, Named, Ascends}
-use Rattle.iosa.proofs.Reading.Members.{in-set-of, set-printed, members-of-set, clocksOf}
+use Rattle.iosa.proofs.Reading.Members.{in-set-of, set-printed, members-of-set}
 use Rattle.iosa.proofs.Reading.Tests.{each-below, each-in, ascends-decided}
 
 -- ---- its text
@@ -63,10 +63,23 @@ row-well c s g a r t h n =
 pub rows-well : (c : Comp) (q : Row) → WellComp c → WellRow c q → ((k : ℕ) → suc k ≡ length (c .rows) → before (rowAt c k) q ≡ true) → WellComp (withRow c q)
 rows-well c q w h last =
     record {
-      some = w .some; states = w .states; start = w .start;
-      ins = w .ins; outs = w .outs; uins = w .uins; uouts = w .uouts;
-      ins-outs = w .ins-outs; ins-uins = w .ins-uins; ins-uouts = w .ins-uouts; outs-uins = w .outs-uins; outs-uouts = w .outs-uouts; uins-uouts = w .uins-uouts;
-      clocks = w .clocks; started = w .started; rows = each; ascend = up;
+      some = w .some;
+      states = w .states;
+      start = w .start;
+      ins = w .ins;
+      outs = w .outs;
+      uins = w .uins;
+      uouts = w .uouts;
+      ins-outs = w .ins-outs;
+      ins-uins = w .ins-uins;
+      ins-uouts = w .ins-uouts;
+      outs-uins = w .outs-uins;
+      outs-uouts = w .outs-uouts;
+      uins-uouts = w .uins-uouts;
+      clocks = w .clocks;
+      started = w .started;
+      rows = each;
+      ascend = up;
     }
   where
     keep : (r : Row) → WellRow c r → WellRow (withRow c q) r

@@ -1,13 +1,13 @@
 -- The text of a well-formed model is read, and the model is answered.
 use mathlib.Core.Path.{_≡_, refl, sym, _∙_, ap, ap₂, subst, subst₂}
-use mathlib.Core.Logic.{_⊎_, inl, inr, ⊎-elim}
+use mathlib.Core.Logic.{inl, inr, ⊎-elim, _↔_}
 use mathlib.Core.Option.{Option, none, some}
 use mathlib.Core.Bool.{Bool, true, false, cond, true≢false}
 use mathlib.Core.List.{List, [], _∷_, _++_, append-assoc, append-nil, reverse, reverseAux, reverse-reverse}
 use Prim.Native.Nat.{ℕ, zero, suc, _+_, _%_, _^_, _≤_, _<_}
 use native.Mathlib.Omega.{arith}
 use native.Mathlib.Nat.{mod-eq-of-lt}
-use lib.ListN.{length, length-append, length-reverse}
+use lib.ListN.{length, length-append, length-reverse, getD}
 use lib.Bits.{or-lt}
 use lib.Dec.{eqb}
 use Rattle.laws.specs.Sets.{has, _∪_, only, _∈_, _⊆_}
@@ -16,12 +16,12 @@ use Rattle.laws.proofs.SetLaws.{in-or, in-below, in-one, subset-le}
 use Rattle.laws.proofs.TestLaws.{not-so}
 use Rattle.laws.proofs.ListLaws.{All, at-all}
 use Rattle.laws.proofs.GrowLaws.{below-zero, below-in, below-out}
-use Rattle.answer.specs.Limits.{maxComponents, maxRows, maxActions, maxClocks, maxBytes}
-use Rattle.answer.specs.Told.{answered}
-use Rattle.iosa.specs.Model.{Row, Comp, Model, noRow, noComp, rowAt, acts, guardSet, rowCount}
-use Rattle.iosa.specs.Text.{Kind, in-kind, out-kind, uin-kind, uout-kind, compLine, actLine, clkLine, rowLine, kindOf, actPart, clkPart, rowLines, compText, textOf}
+use Rattle.answer.specs.Limits.{maxComponents, maxRows, maxActions, maxClocks}
+use Rattle.answer.specs.Told.{Answer, answered}
+use Rattle.iosa.specs.Model.{Row, Comp, Model, noRow, noComp, acts, guardSet, rowCount}
+use Rattle.iosa.specs.Text.{Kind, in-kind, compLine, actLine, clkLine, rowLine, kindOf, actPart, clkPart, rowLines, compText, textOf}
 use Rattle.iosa.specs.WellFormed.{before, WellRow, WellComp, WellFormed}
-use Rattle.iosa.specs.Reading.{Entry, comp-entry, act-entry, clk-entry, row-entry, entry, got, Progress, atStart, turn, newComp, withAct, withClk, withRow, guardOf, rowOf, takeIn, readOf}
+use Rattle.iosa.specs.Reading.{Entry, comp-entry, act-entry, clk-entry, row-entry, entry, Progress, atStart, turn, newComp, withAct, withClk, guardOf, rowOf, takeIn, readOf}
 use Rattle.iosa.specs.Line.{lineOf, GuardFits, LineFits}
 use Rattle.iosa.specs.Faulty.{GuardIs, InTurn, InRange, Named, InOrder, After, Faultless, taken, Reaches, first-line, next-line}
 use Rattle.iosa.proofs.Reading.Lines.{entry-exact}
@@ -29,6 +29,7 @@ use Rattle.iosa.proofs.Reading.Members.{clocksOf, set-of-members, set-p
 use Rattle.iosa.proofs.Reading.Tests.{each-below, each-in, ascends-decided}
 use Rattle.iosa.proofs.Reading.Faults.{read-model}
 use Rattle.iosa.proofs.Reading.GrowActs.{no-kind}
+use Rattle.iosa.proofs.Reading.TextOfRead.{text-of-read}
 
 -- a line as printed is read and taken in
 line-on : {t : List ℕ} {k : ℕ} {p : Progress} {bs : List ℕ} (e : Entry) (cs : List ℕ) → Reaches t k p bs → bs ≡ lineOf e ++ cs → LineFits e → Faultless p e → Reaches t (suc k) (taken p e) cs
@@ -168,7 +169,7 @@ module _ {t : List ℕ} (c : Comp) (m : List Comp) (w : WellComp c) where
       rest = spread (actPart c) (suc a) n ++ bs
 
       go : ((d : Entry) (bs : List ℕ) → suc a + n ≡ maxActions → ActLast (suc a) d → At t (actsUpTo c (suc a)) m d (spread (actPart c) (suc a) n ++ bs)
-            → (e : Entry) × ActLast maxActions e × At t (actsUpTo c maxActions) m e bs)
+          → (e : Entry) × ActLast maxActions e × At t (actsUpTo c maxActions) m e bs)
           → (b : Bool) → has (acts c) a ≡ b → (e : Entry) × ActLast maxActions e × At t (actsUpTo c maxActions) m e bs
       go ih false e =
           ih d bs (omega arith) (act-follows a in-kind d h .2)
@@ -193,7 +194,7 @@ module _ {t : List ℕ} (c : Comp) (m : List Comp) (w : WellComp c) where
       rest = spread (clkPart c) (suc x) n ++ bs
 
       go : ((d : Entry) (bs : List ℕ) → suc x + n ≡ maxClocks → ClkLast (suc x) d → At t (clksUpTo c (suc x)) m d (spread (clkPart c) (suc x) n ++ bs)
-            → (e : Entry) × ClkLast maxClocks e × At t (clksUpTo c maxClocks) m e bs)
+          → (e : Entry) × ClkLast maxClocks e × At t (clksUpTo c maxClocks) m e bs)
           → (b : Bool) → has (c .clocks) x ≡ b → (e : Entry) × ClkLast maxClocks e × At t (clksUpTo c maxClocks) m e bs
       go ih false e =
           ih d bs (omega arith) (clk-follows x 0 d h .2)
@@ -306,3 +307,114 @@ row-phase c m w rs (q ∷ qs) d bs h f l r =
           });
     })) in
     (z .0, move (ap (withRows c) (append-assoc rs (q ∷ []) qs)) refl (z .1))
+
+first-follows : (x : ℕ) (d : Entry) (r : Row) → ClkLast x d → After d (rowRead r)
+first-follows x (comp-entry n s) r h = tt
+first-follows x (act-entry a k) r h = tt
+first-follows x (clk-entry y b) r h = tt
+first-follows x (row-entry s g a q t) r h = absurd h
+
+abbrev Up : List Row → Type 0
+Up rs = (k : ℕ) → suc k < length rs → before (getD rs k noRow) (getD rs (suc k) noRow) ≡ true
+
+rows-behind : (c : Comp) → WellComp c → (r : Row) (rs : List Row) → All (WellRow c) (r ∷ rs) → Up (r ∷ rs) → Follow (rowRead r) rs
+unfolding rowBack
+rows-behind c w r [] h b = tt
+rows-behind c w r (q ∷ qs) h b =
+    (ap₂ before (row-back r (resets-small c w r (h .0))) (row-back q (resets-small c w q (h .1 .0))) ∙ b 0 (omega arith), rows-behind c w q qs (h .1) (λ k l. b (suc k) (omega arith)))
+
+rows-follow : (c : Comp) → WellComp c → (x : ℕ) (d : Entry) → ClkLast x d → (rs : List Row) → All (WellRow c) rs → Up rs → Follow d rs
+rows-follow c w x d l [] h b = tt
+rows-follow c w x d l (r ∷ rs) h b = (first-follows x d r l, rows-behind c w r rs h b)
+
+-- ---- a component
+comp-in-turn : (l : Option Entry) (n s : ℕ) → InTurn l (comp-entry n s)
+comp-in-turn none n s = refl
+comp-in-turn (some d) n s = inl refl
+
+comp-in-order : (l : Option Entry) (n s : ℕ) → InOrder l (comp-entry n s)
+comp-in-order none n s = tt
+comp-in-order (some d) n s = (tt, tt)
+
+act-clk-last : (d : Entry) → ActLast maxActions d → ClkLast 0 d
+act-clk-last (comp-entry n s) h = tt
+act-clk-last (act-entry a k) h = tt
+act-clk-last (clk-entry x b) h = absurd h
+act-clk-last (row-entry s g a r t) h = absurd h
+
+acts-all : (c : Comp) → WellComp c → actsUpTo c maxActions ≡ clksUpTo c 0
+acts-all c w = λ i. record {
+  states = c .states;
+  start = c .start;
+  ins = mod-eq-of-lt (w .ins) i;
+  outs = mod-eq-of-lt (w .outs) i;
+  uins = mod-eq-of-lt (w .uins) i;
+  uouts = mod-eq-of-lt (w .uouts) i;
+  clocks = sym (below-zero (c .clocks)) i;
+  started = sym (below-zero (c .started)) i;
+  rows = [];
+}
+
+clks-all : (c : Comp) → WellComp c → clksUpTo c maxClocks ≡ withRows c []
+clks-all c w = ap₂ (withClocks c) (mod-eq-of-lt (w .clocks)) (mod-eq-of-lt (let h = subset-le (c .started) (c .clocks) (w .started) in let q : c .started < 2 ^ maxClocks = omega (arith, w .clocks) in q))
+
+comp-parts : (c : Comp) (bs : List ℕ)
+    → compText c ++ bs ≡ lineOf (comp-entry (c .states) (c .start)) ++ (spread (actPart c) 0 maxActions ++ (spread (clkPart c) 0 maxClocks ++ (rowLines (c .rows) ++ bs)))
+unfolding compText compLine lineOf
+comp-parts c bs = parts (compLine c) (spread (actPart c) 0 maxActions) (spread (clkPart c) 0 maxClocks) (rowLines (c .rows)) bs
+  where
+    parts : (l a k r bs : List ℕ) → l ++ a ++ k ++ r ++ bs ≡ l ++ (a ++ (k ++ (r ++ bs)))
+    parts l a k r bs = simp append-assoc
+
+comp-phase : {t : List ℕ} {k : ℕ} {p : Progress} (c : Comp) (bs : List ℕ) → WellComp c → length (p .comps) < maxComponents → length (c .rows) + rowCount (p .comps) ≤ maxRows
+    → Reaches t k p (compText c ++ bs) → (d : Entry) × At t c (p .comps) d bs
+unfolding takeIn
+comp-phase {t} {k} {p} c bs w l n r =
+    let clks = spread (clkPart c) 0 maxClocks ++ (rowLines (c .rows) ++ bs) in
+    let start : At t (newComp (c .states) (c .start)) (p .comps) (comp-entry (c .states) (c .start)) (spread (actPart c) 0 maxActions ++ clks) = record {
+      line = suc k;
+      reached =
+          line-on (comp-entry (c .states) (c .start)) (spread (actPart c) 0 maxActions ++ clks) r (comp-parts c bs) (omega (arith, w .states), omega (arith, w .states, w .start))
+          (record {
+            in-turn = comp-in-turn (p .last) (c .states) (c .start);
+            in-range = (w .some, w .states, w .start);
+            named = tt;
+            in-order = comp-in-order (p .last) (c .states) (c .start);
+            room = l;
+          });
+    } in
+    let none-yet = same-kinds c (sym (below-zero (c .ins))) (sym (below-zero (c .outs))) (sym (below-zero (c .uins))) (sym (below-zero (c .uouts))) in
+    let a = act-phase c (p .comps) w maxActions 0 (comp-entry (c .states) (c .start)) clks refl tt (move none-yet refl start) in
+    let x = clk-phase c (p .comps) w maxClocks 0 (a .0) (rowLines (c .rows) ++ bs) refl (act-clk-last (a .0) (a .1)) (move (acts-all c w) refl (a .2)) in
+    let each = at-all (WellRow c) noRow (c .rows) (w .rows) in
+    row-phase c (p .comps) w [] (c .rows) (x .0) bs each (rows-follow c w maxClocks (x .0) (x .1) (c .rows) each (w .ascend)) (omega arith) (move (clks-all c w) refl (x .2))
+
+-- ---- the whole text
+comps-phase : {t : List ℕ} {k : ℕ} (p : Progress) (cs : List Comp) → All WellComp cs → length (p .comps) + length cs ≤ maxComponents → rowCount (p .comps) + rowCount cs ≤ maxRows
+    → Reaches t k p (textOf cs) → (j : ℕ) × (q : Progress) × Reaches t j q [] × (q .comps ≡ reverseAux cs (p .comps))
+unfolding textOf rowCount
+comps-phase {t} {k} p [] h l n r = (k, p, r, refl)
+comps-phase p (c ∷ cs) h l n r =
+    let a = comp-phase c (textOf cs) (h .0) (omega arith) (omega arith) r in
+    comps-phase (record { comps = c ∷ p .comps; last = some (a .0) }) cs (h .1) (omega arith) (omega arith) (a .1 .reached)
+
+pub read-of-text : (m : Model) → WellFormed m → readOf (textOf m) ≡ answered m
+unfolding rowCount
+read-of-text m w =
+    let r = comps-phase {t = textOf m} atStart m (at-all WellComp noComp m (w .each)) (omega (arith, w .components)) (omega (arith, w .rows)) first-line in
+    read-model (textOf m) m (record {
+      short = w .bytes;
+      lines = r .0;
+      progress = r .1;
+      reached = r .2;
+      some = omega (arith, w .some, ap length (r .3), length-reverse m);
+      model = sym (ap reverse (r .3) ∙ reverse-reverse m);
+    })
+
+-- a text is read exactly when it is the text of a well-formed model, and then of that one
+pub read-exactly : (t : List ℕ) (m : Model) → (readOf t ≡ answered m) ↔ (WellFormed m × (textOf m ≡ t))
+read-exactly t m = (text-of-read t m, λ h. ap readOf (sym (h .1)) ∙ read-of-text m (h .0))
+
+-- "So one model has one text", and one text has one model
+pub one-model : (m n : Model) → WellFormed m → WellFormed n → textOf m ≡ textOf n → m ≡ n
+one-model m n v w e = let q : _≡_ {A = Answer Model} (answered m) (answered n) = sym (read-of-text m v) ∙ ap readOf e ∙ read-of-text n w in cc

@@ -1,20 +1,18 @@
 -- The tests of reading decide the predicates of a faultless line.
-use mathlib.Core.Path.{_≡_, refl, sym, _∙_, ap}
-use mathlib.Core.Logic.{_⊎_, inl, inr, _↔_}
+use mathlib.Core.Path.{_≡_, refl}
+use mathlib.Core.Logic.{inl, inr, _↔_}
 use mathlib.Core.Option.{Option, none, some}
-use mathlib.Core.Bool.{Bool, true, false, _&&_, not, true≢false, false≢true}
+use mathlib.Core.Bool.{Bool, true, false, _&&_, not}
 use mathlib.Core.List.{List, [], _∷_}
-use Prim.Native.Nat.{ℕ, zero, suc, _≤_, _<_}
-use native.Mathlib.Omega.{arith}
+use Prim.Native.Nat.{ℕ, _≤_, _<_}
 use lib.ListN.{length}
 use lib.Dec.{eqb, ltb, leb}
-use borrow.Author.Tests.{ltb-true, ltb-false, leb-true, leb-false, eqb-true, eqb-false, lt-ltb, le-ltb, le-leb, lt-leb, eq-eqb, not-false}
+use borrow.Author.Tests.{ltb-true, ltb-false, leb-true, leb-false, eqb-true, lt-ltb, le-ltb, le-leb, lt-leb, eq-eqb, not-false}
 use Rattle.laws.specs.Sets.{has, _∈_}
 use Rattle.laws.proofs.TestLaws.{and-true}
 use Rattle.answer.specs.Limits.{maxComponents, maxRows, maxStates, maxActions, maxClocks}
 use Rattle.iosa.specs.Model.{Comp, acts, rowCount}
-use Rattle.iosa.specs.WellFormed.{before}
-use Rattle.iosa.specs.Reading.{Entry, comp-entry, act-entry, clk-entry, row-entry, Progress, current, turn, outOfTurn, allBelow, guardBelow, outOfRange, allIn, guardIn, lacks, ascending, rowOf, follows, resetsAscend, outOfOrder, tooMany}
+use Rattle.iosa.specs.Reading.{Entry, comp-entry, act-entry, clk-entry, row-entry, turn, outOfTurn, allBelow, guardBelow, outOfRange, allIn, guardIn, lacks, ascending, follows, resetsAscend, outOfOrder, tooMany}
 use Rattle.iosa.specs.Faulty.{Each, GuardIs, InTurn, InRange, Named, After, Ascends, ResetsAscend, InOrder, Room}
 
 both : (a b : Bool) → a ≡ true → b ≡ true → (a && b) ≡ true
@@ -110,9 +108,12 @@ unfolding lacks
 names-decided c (comp-entry n s) = (λ h. tt, λ h. refl)
 names-decided c (act-entry a k) = (λ h. tt, λ h. refl)
 names-decided c (clk-entry x b) = (λ h. tt, λ h. refl)
-names-decided c (row-entry s g a r t) = (there, λ h. no-fault (guardIn (c .clocks) g && (has (acts c) a && allIn (c .clocks) r)) (
-    both (guardIn (c .clocks) g) (has (acts c) a && allIn (c .clocks) r) (guard-in (c .clocks) g .1 (h .0)) (
-    both (has (acts c) a) (allIn (c .clocks) r) (h .1) (each-in (c .clocks) r .1 (h .2)))))
+names-decided c (row-entry s g a r t) = (
+  there,
+  λ h. no-fault (guardIn (c .clocks) g && (has (acts c) a && allIn (c .clocks) r)) (
+      both (guardIn (c .clocks) g) (has (acts c) a && allIn (c .clocks) r) (guard-in (c .clocks) g .1 (h .0)) (
+      both (has (acts c) a) (allIn (c .clocks) r) (h .1) (each-in (c .clocks) r .1 (h .2)))),
+)
   where
     there : not (guardIn (c .clocks) g && (has (acts c) a && allIn (c .clocks) r)) ≡ false → Named c (row-entry s g a r t)
     there h =

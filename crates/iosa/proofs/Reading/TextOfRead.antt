@@ -1,27 +1,26 @@
 -- A text that is read is the text of the well-formed model that is answered.
 use mathlib.Core.Path.{_≡_, refl, sym, _∙_, ap, ap₂, subst}
-use mathlib.Core.Logic.{_⊎_, inl, inr, ⊎-elim}
+use mathlib.Core.Logic.{inl, inr, ⊎-elim}
 use mathlib.Core.Option.{Option, none, some}
-use mathlib.Core.Bool.{Bool, true, false}
+use mathlib.Core.Bool.{true}
 use mathlib.Core.List.{List, [], _∷_, _++_, append-assoc, append-nil, reverse, reverse-cons}
-use Prim.Native.Nat.{ℕ, zero, suc, _+_, _^_, _≤_, _<_}
+use Prim.Native.Nat.{ℕ, suc, _+_, _≤_, _<_}
 use native.Mathlib.Omega.{arith}
 use lib.ListN.{length, length-append, length-reverse}
 use lib.Seq.{getD-at}
-use Rattle.laws.specs.Sets.{has, _∪_, only, _∈_, _⊆_}
-use Rattle.laws.specs.Fold.{spread}
+use Rattle.laws.specs.Sets.{has, _∪_, only, _∈_}
 use Rattle.laws.proofs.SetLaws.{none-in, one-in, in-or, same-members}
 use Rattle.laws.proofs.TestLaws.{not-so}
 use Rattle.laws.proofs.ListLaws.{All, all-at, all-reverse}
 use Rattle.laws.proofs.GrowLaws.{spread-none}
-use Rattle.answer.specs.Limits.{maxComponents, maxRows, maxActions, maxClocks}
+use Rattle.answer.specs.Limits.{maxComponents, maxRows, maxActions}
 use Rattle.answer.specs.Told.{answered}
-use Rattle.iosa.specs.Model.{Row, Comp, Model, noRow, noComp, rowAt, acts, rowCount}
-use Rattle.iosa.specs.Text.{Kind, compLine, actPart, rowLine, compText, textOf}
+use Rattle.iosa.specs.Model.{Comp, Model, noRow, noComp, rowAt, acts, rowCount}
+use Rattle.iosa.specs.Text.{Kind, compLine, actPart, compText, textOf}
 use Rattle.iosa.specs.WellFormed.{before, WellComp, WellFormed}
-use Rattle.iosa.specs.Reading.{Entry, comp-entry, act-entry, clk-entry, row-entry, entry, got, Progress, newComp, withAct, withClk, withRow, rowOf, takeIn, readOf}
+use Rattle.iosa.specs.Reading.{Entry, comp-entry, act-entry, clk-entry, row-entry, Progress, newComp, withAct, withClk, withRow, rowOf, takeIn, readOf}
 use Rattle.iosa.specs.Line.{lineOf}
-use Rattle.iosa.specs.Faulty.{InTurn, After, Faultless, taken, Reaches, first-line, next-line}
+use Rattle.iosa.specs.Faulty.{InTurn, After, Faultless, Reaches, first-line, next-line}
 use Rattle.iosa.proofs.Reading.Lines.{entry-exact}
 use Rattle.iosa.proofs.Reading.Faults.{model-read}
 use Rattle.iosa.proofs.Reading.GrowActs.{act-kept, act-acts, act-text, act-well, bare-text}
@@ -42,11 +41,23 @@ new-text n s =
 new-well : (n s : ℕ) → 1 ≤ n → n ≤ 64 → s < n → WellComp (newComp n s)
 new-well n s p q h =
     record {
-      some = p; states = q; start = h;
-      ins = omega arith; outs = omega arith; uins = omega arith; uouts = omega arith;
-      ins-outs = none-in′; ins-uins = none-in′; ins-uouts = none-in′; outs-uins = none-in′; outs-uouts = none-in′; uins-uouts = none-in′;
-      clocks = omega arith; started = λ x m. m;
-      rows = λ k l. absurd (omega arith); ascend = λ k l. absurd (omega arith);
+      some = p;
+      states = q;
+      start = h;
+      ins = omega arith;
+      outs = omega arith;
+      uins = omega arith;
+      uouts = omega arith;
+      ins-outs = none-in′;
+      ins-uins = none-in′;
+      ins-uouts = none-in′;
+      outs-uins = none-in′;
+      outs-uouts = none-in′;
+      uins-uouts = none-in′;
+      clocks = omega arith;
+      started = λ x m. m;
+      rows = λ k l. absurd (omega arith);
+      ascend = λ k l. absurd (omega arith);
     }
   where
     none-in′ : (x : ℕ) → x ∈ 0 → x ∈ 0 → ⊥
@@ -191,11 +202,13 @@ pub text-of-read : (t : List ℕ) (m : Model) → readOf t ≡ answered m → We
 text-of-read t m e =
     let r = model-read t m e in
     let s = reaches-sound (r .reached) in
-    let z : textOf m ≡ t = ap textOf (r .model) ∙ sym (append-nil (textOf (reverse (r .progress .comps)))) ∙ sym (s .text) in
-    (record {
-      some = omega (arith, r .some, ap length (r .model), length-reverse (r .progress .comps));
-      components = omega (arith, s .many, ap length (r .model), length-reverse (r .progress .comps));
-      each = all-at WellComp noComp m (subst (All WellComp) (sym (r .model)) (all-reverse WellComp (r .progress .comps) [] (s .each) tt));
-      rows = omega (arith, s .rows, ap rowCount (r .model), count-reverse (r .progress .comps));
-      bytes = omega (arith, r .short, ap length z);
-    }, z)
+    let z : textOf m ≡ t = ap textOf (r .model) ∙ sym (append-nil (textOf (reverse (r .progress .comps)))) ∙ sym (s .text) in (
+      record {
+        some = omega (arith, r .some, ap length (r .model), length-reverse (r .progress .comps));
+        components = omega (arith, s .many, ap length (r .model), length-reverse (r .progress .comps));
+        each = all-at WellComp noComp m (subst (All WellComp) (sym (r .model)) (all-reverse WellComp (r .progress .comps) [] (s .each) tt));
+        rows = omega (arith, s .rows, ap rowCount (r .model), count-reverse (r .progress .comps));
+        bytes = omega (arith, r .short, ap length z);
+      },
+      z,
+    )
