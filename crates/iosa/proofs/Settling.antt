@@ -15,3 +15,4 @@ pub mod SeriesAndRuns
 pub mod Demand3
 pub mod Range
 pub mod Called
+pub mod Listed

@@ -30,6 +30,9 @@ no-answer p = let z : _≡_ {A = ℕ} 0 1 = cc in omega arith
 pub same-answer : {A : Type 0} {x y : A} → answered x ≡ answered y → x ≡ y
 same-answer p = cc
 
+pub same-refusal : {A : Type 0} {t u : Told} → _≡_ {A = Answer A} (refused t) (refused u) → t ≡ u
+same-refusal p = cc
+
 -- a refusal, or else an answer
 answers-exactly : {A : Type 0} (o : Option Told) (x y : A) → ((elim o as (λ _. Answer A) [ some t ↦ refused t | none ↦ answered x ]) ≡ answered y) ↔ (o ≡ none) × (x ≡ y)
 answers-exactly none x y = (λ e. (refl, same-answer e), λ p. ap answered (p .1))
