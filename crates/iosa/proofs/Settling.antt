@@ -16,3 +16,5 @@ pub mod Demand3
 pub mod Range
 pub mod Called
 pub mod Listed
+pub mod WellFormedTest
+pub mod Witness
