@@ -197,10 +197,6 @@ same-members s t f g = omega (arith, subset-le s t f, subset-le t s g)
 pub without-lt : (k s t : ℕ) → s < 2 ^ k → without s t < 2 ^ k
 without-lt k s t h = omega (arith, and-le-l s (bitXor s t))
 
--- the set of one member tells it
-pub one-same : (x y : ℕ) → 2 ^ x ≡ 2 ^ y → x ≡ y
-one-same x y e = one-in y x (ap (λ n. has n x) (sym e) ∙ in-one x)
-
 -- ---- sets regrouped
 pub or-regroup : (a b c d : ℕ) → bitOr (bitOr a b) (bitOr c d) ≡ bitOr (bitOr a c) (bitOr b d)
 or-regroup a b c d = or-assoc a b (bitOr c d) ∙ ap (bitOr a) (sym (or-assoc b c d) ∙ ap (λ n. bitOr n d) (or-comm b c) ∙ or-assoc c b d) ∙ sym (or-assoc a c (bitOr b d))

@@ -21,6 +21,7 @@ use Rattle.iosa.specs.Automaton.{autoOf, Conforming, Joinable}
 use Rattle.iosa.specs.Checks.{acceptOf}
 use Rattle.iosa.specs.Merge.{merged, mergedAt, neighbourFault, sizeFault, mergeOf}
 use Rattle.iosa.specs.MergedExactly.{MergedExactly, MergedModel}
+use Rattle.iosa.proofs.Acceptance.Accepted.{accepted-exactly}
 use Rattle.iosa.proofs.Merging.Product.{merged-is-the-product}
 use Rattle.iosa.proofs.Merging.WellFormed.{merged-is-well-formed}
 
@@ -111,6 +112,9 @@ module _ (m : Model) (i : ℕ) (w : WellFormed m) (o : Conforming m) (j : Joinab
     well-formed = merged-model-is-well-formed;
   }
 
--- what merging answers for an accepted model
-pub merging-is-exact : (m : Model) (i : ℕ) (room : Option Told) (n : Model) → WellFormed m → Conforming m → Joinable m → mergeOf m i room ≡ answered n → MergedModel m i n
-merging-is-exact m i room n w o j e = let p = merge-answers m i room n e in rw (p .0) (merged-model-is-exact m i w o j (p .2))
+-- what merging answers
+pub merging-is-exact : (m : Model) (i : ℕ) (room : Option Told) (n : Model) → WellFormed m → mergeOf m i room ≡ answered n → MergedModel m i n
+merging-is-exact m i room n w e =
+    let p = merge-answers m i room n e in
+    let a = accepted-exactly m w .0 (p .1) in
+    rw (p .0) (merged-model-is-exact m i w (a .0) (a .1) (p .2))
