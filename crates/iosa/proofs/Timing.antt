@@ -1,1 +1,3 @@
 -- The timed step takes a row of the product.
+pub mod Enabling
+pub mod Values

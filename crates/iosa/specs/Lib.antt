@@ -15,3 +15,4 @@ pub mod Merge
 pub mod Report
 pub mod Examples
 pub mod MergedExactly
+pub mod TimedExactly
