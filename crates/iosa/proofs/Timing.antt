@@ -1,3 +1,4 @@
 -- The timed step takes a row of the product.
 pub mod Enabling
 pub mod Values
+pub mod Least
