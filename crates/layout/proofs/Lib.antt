@@ -1,3 +1,5 @@
 pub mod Bridge
 pub mod ModelOf
 pub mod ReadBack
+pub mod RowsAscend
+pub mod ModelOfImage
