@@ -13,3 +13,5 @@ pub mod Steps
 pub mod Commute
 pub mod SeriesAndRuns
 pub mod Demand3
+pub mod Range
+pub mod Called
