@@ -2,3 +2,4 @@
 pub mod Enabling
 pub mod Values
 pub mod Least
+pub mod Fire
