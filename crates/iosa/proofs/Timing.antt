@@ -2,4 +2,7 @@
 pub mod Enabling
 pub mod Values
 pub mod Least
+pub mod Ticks
 pub mod Fire
+pub mod Shots
+pub mod Exactly

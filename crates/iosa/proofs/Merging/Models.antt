@@ -10,7 +10,7 @@ use lib.Dec.{ltb}
 use borrow.Author.Tests.{ltb-true, ltb-false, not-false}
 use Rattle.laws.specs.Search.{when, orElse}
 use Rattle.laws.proofs.SearchLaws.{or-else-none, when-none}
-use Rattle.laws.proofs.TestLaws.{apart-cases}
+use Rattle.laws.proofs.TestLaws.{apart-cases, or-false}
 use Rattle.laws.proofs.ListLaws.{joined-length, joined-before, joined-here, joined-after}
 use Rattle.answer.specs.Limits.{maxStates, maxRows, maxBytes}
 use Rattle.answer.specs.Told.{Told, Answer, answered, refused, tell}
@@ -31,10 +31,6 @@ pub record Fits (m : Model) (i : ℕ) : Type 0 where
   pub states : compAt m i .states * compAt m (suc i) .states ≤ maxStates
   pub rows : rowCount (mergedAt m i) ≤ maxRows
   pub bytes : length (textOf (mergedAt m i)) ≤ maxBytes
-
-or-false : (a b : Bool) → (a || b) ≡ false → (a ≡ false) × (b ≡ false)
-or-false true b e = absurd (true≢false e)
-or-false false b e = (refl, e)
 
 pub no-fault-fits : (m : Model) (i : ℕ) → neighbourFault m i ≡ none → sizeFault m i ≡ none → Fits m i
 unfolding neighbourFault sizeFault

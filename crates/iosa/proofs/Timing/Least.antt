@@ -40,18 +40,21 @@ module _ (P : ℕ → Type 0) (f : ℕ → Bool) (n : ℕ) (d : Decides P f n) w
   pub found-none : ((x : ℕ) → P x → ⊥) → least f n ≡ none
   found-none h = none-least f n (λ x l. not-so (f x) (λ t. h x (d .to x t)))
 
-module _ (W : ℕ → Type 0) (e : ℕ) (vs : List ℤ) (to : (x : ℕ) → x ∈ e → W x) (from : (x : ℕ) → W x → x ∈ e) (below : (x : ℕ) → x ∈ e → x < maxClocks) where
-  clock-below : (x : ℕ) → W x → x < maxClocks
-  clock-below x h = below x (from x h)
+-- the set e holds the clocks W
+pub record Clocks (W : ℕ → Type 0) (e : ℕ) : Type 0 where
+  pub to : (x : ℕ) → x ∈ e → W x
+  pub from : (x : ℕ) → W x → x ∈ e
+  pub below : (x : ℕ) → W x → x < maxClocks
 
+module _ (W : ℕ → Type 0) (e : ℕ) (vs : List ℤ) (w : Clocks W e) where
   -- ---- 29
   test-negative : (x : ℕ) → belowZero e vs x ≡ true → BelowZero W vs x
   unfolding belowZero
-  test-negative x t = let p = and-true (has e x) (ltZ (valueOf vs x) (pos 0)) t in record { waits = to x (p .0); negative = p .1 }
+  test-negative x t = let p = and-true (has e x) (ltZ (valueOf vs x) (pos 0)) t in record { waits = w .to x (p .0); negative = p .1 }
 
   negative-test : (x : ℕ) → BelowZero W vs x → belowZero e vs x ≡ true
   unfolding belowZero
-  negative-test x b = ap₂ _&&_ (from x (b .waits)) (b .negative)
+  negative-test x b = ap₂ _&&_ (w .from x (b .waits)) (b .negative)
 
   -- ---- the least value
   smaller : ℕ → ℕ → Bool
@@ -62,14 +65,14 @@ module _ (W : ℕ → Type 0) (e : ℕ) (vs : List ℤ) (to : (x : ℕ) → x �
   test-least x t =
       let p = and-true (has e x) (not (any (smaller x) maxClocks)) t in
       let n = any-false (smaller x) maxClocks (not-true (any (smaller x) maxClocks) (p .1)) in
-      record { waits = to x (p .0); least = λ y h. and-false (has e y) (ltZ (valueOf vs y) (valueOf vs x)) (n y (clock-below y h)) (from y h) }
+      record { waits = w .to x (p .0); least = λ y h. and-false (has e y) (ltZ (valueOf vs y) (valueOf vs x)) (n y (w .below y h)) (w .from y h) }
 
   least-test : (x : ℕ) → LeastOf W vs x → isLeast e vs x ≡ true
   unfolding isLeast smaller
-  least-test x l = ap₂ _&&_ (from x (l .waits)) (ap not (not-so (any (smaller x) maxClocks) (λ t.
+  least-test x l = ap₂ _&&_ (w .from x (l .waits)) (ap not (not-so (any (smaller x) maxClocks) (λ t.
       let p = any-true (smaller x) maxClocks t in
       let q = and-true (has e (p .0)) (ltZ (valueOf vs (p .0)) (valueOf vs x)) (p .2) in
-      true≢false (sym (q .1) ∙ l .least (p .0) (to (p .0) (q .0))))))
+      true≢false (sym (q .1) ∙ l .least (p .0) (w .to (p .0) (q .0))))))
 
   -- ---- 30
   another : ℕ → ℕ → Bool
@@ -87,23 +90,23 @@ module _ (W : ℕ → Type 0) (e : ℕ) (vs : List ℤ) (to : (x : ℕ) → x �
   unfolding shares another
   shares-test x s =
       ap₂ _&&_ (least-test x (s .here))
-      (true-any (another x) maxClocks (s .other) (clock-below (s .other) (s .there .waits)) (ap₂ _&&_ (ap not (ne-eqb (s .other) x (s .differs))) (least-test (s .other) (s .there))))
+      (true-any (another x) maxClocks (s .other) (w .below (s .other) (s .there .waits)) (ap₂ _&&_ (ap not (ne-eqb (s .other) x (s .differs))) (least-test (s .other) (s .there))))
 
   -- ---- what the three tests decide
   pub negatives : Decides (BelowZero W vs) (belowZero e vs) maxClocks
-  negatives = record { to = test-negative; from = negative-test; below = λ x b. clock-below x (b .waits) }
+  negatives = record { to = test-negative; from = negative-test; below = λ x b. w .below x (b .waits) }
 
   pub leasts : Decides (LeastOf W vs) (isLeast e vs) maxClocks
-  leasts = record { to = test-least; from = least-test; below = λ x l. clock-below x (l .waits) }
+  leasts = record { to = test-least; from = least-test; below = λ x l. w .below x (l .waits) }
 
   pub sharers : Decides (Shares W vs) (shares e vs) maxClocks
-  sharers = record { to = test-shares; from = shares-test; below = λ x s. clock-below x (s .here .waits) }
+  sharers = record { to = test-shares; from = shares-test; below = λ x s. w .below x (s .here .waits) }
 
   -- ---- there is a least value where there is a clock
   pub has-least : (x : ℕ) → W x → (y : ℕ) × LeastOf W vs y
   has-least x h =
-      let m = has-minimal (has e) (λ y z. ltZ (valueOf vs y) (valueOf vs z)) (λ y. less-irreflexive (valueOf vs y)) (λ y z u. less-transitive (valueOf vs y) (valueOf vs z) (valueOf vs u)) maxClocks x (clock-below x h) (from x h) in
-      (m .0, record { waits = to (m .0) (m .1 .here); least = λ y k. m .1 .least y (clock-below y k) (from y k) })
+      let m = has-minimal (has e) (λ y z. ltZ (valueOf vs y) (valueOf vs z)) (λ y. less-irreflexive (valueOf vs y)) (λ y z u. less-transitive (valueOf vs y) (valueOf vs z) (valueOf vs u)) maxClocks x (w .below x h) (w .from x h) in
+      (m .0, record { waits = w .to (m .0) (m .1 .here); least = λ y k. m .1 .least y (w .below y k) (w .from y k) })
 
   pub none-least-none-waits : least (isLeast e vs) maxClocks ≡ none → (x : ℕ) → W x → ⊥
   none-least-none-waits h x k =
@@ -126,4 +129,4 @@ module _ (W : ℕ → Type 0) (e : ℕ) (vs : List ℤ) (to : (x : ℕ) → x �
 
   -- and back: a value less than every other is the least, and not shared
   pub less-is-alone : (x : ℕ) → W x → ((y : ℕ) → y ≢ x → W y → ltZ (valueOf vs x) (valueOf vs y) ≡ true) → (y : ℕ) → LeastOf W vs y → y ≡ x
-  less-is-alone x h f y l = elim (ℕ-discrete y x) [ yes w ↦ w | no w ↦ absurd (true≢false (sym (f y w (l .waits)) ∙ l .least x h)) ]
+  less-is-alone x h f y l = elim (ℕ-discrete y x) [ yes i ↦ i | no i ↦ absurd (true≢false (sym (f y i (l .waits)) ∙ l .least x h)) ]
