@@ -17,7 +17,7 @@ use Rattle.laws.specs.Search.{when, orElse, least, any}
 use Rattle.laws.proofs.SetLaws.{or-in-r, in-one}
 use Rattle.laws.proofs.SearchLaws.{any-true, any-false, true-any}
 use Rattle.laws.proofs.TestLaws.{and-true, and-false, and-not-both, not-so}
-use Rattle.laws.proofs.TickLaws.{less-transitive, count-of}
+use Rattle.laws.proofs.TickLaws.{less-irreflexive, less-transitive, count-of}
 use Rattle.answer.specs.Limits.{maxClocks, maxTicks}
 use Rattle.answer.specs.Told.{Told, tell, Answer, answered, refused, fired, quiet}
 use Rattle.iosa.specs.Model.{Row, Comp, Model, declared, inputs, outputs, acts}
@@ -184,3 +184,96 @@ module _ (c : Comp) (cs : List Comp) (well : WellFormed (c ∷ cs)) (conf : Conf
         go : (o : Option ℕ) → check29 e vs ≡ o → TimedAnswer c cs s vs (timedFrom (c ∷ cs) s vs e)
         go none h = next h (check30 e vs) refl
         go (some x) h = rw (at29 (c ∷ cs) s vs e x h) (is29 r (lowest-found (BelowZero W vs) (belowZero e vs) maxClocks (negatives W e vs k) x h))
+
+    answers-so : TimedAnswer c cs s vs (timedOf (c ∷ cs) s vs)
+    answers-so = go (either (Within (c ∷ cs) s) (not (inRange (c ∷ cs) s)) range-decided (tell 21 (0 ∷ [])))
+      where
+        ticks : Within (c ∷ cs) s → Stable (product c cs) (stateOf c cs s) → InTicks (c ∷ cs) vs ⊎ (InTicks (c ∷ cs) vs → ⊥) → TimedAnswer c cs s vs (timedOf (c ∷ cs) s vs)
+        ticks ok st (inl t) = let r : Ready c cs s vs = record { within = ok; stable = st; ticks = t } in rw (when-ready r) (from-ready r)
+        ticks ok st (inr n) = rw (at28 (c ∷ cs) s vs acc (tell 28 (0 ∷ [])) (state-fine ok) (stable-fine ok st) (values-faulty n)) (is28 ok st n)
+
+        stable : Within (c ∷ cs) s → Stable (product c cs) (stateOf c cs s) ⊎ (Stable (product c cs) (stateOf c cs s) → ⊥) → TimedAnswer c cs s vs (timedOf (c ∷ cs) s vs)
+        stable ok (inl st) = ticks ok st (either (InTicks (c ∷ cs) vs) (badValues (c ∷ cs) vs) values-decided (tell 28 (0 ∷ [])))
+        stable ok (inr n) = rw (at27 (c ∷ cs) s vs acc (tell 27 (0 ∷ [])) (state-fine ok) (stable-faulty ok n)) (is27 ok n)
+
+        go : Within (c ∷ cs) s ⊎ (Within (c ∷ cs) s → ⊥) → TimedAnswer c cs s vs (timedOf (c ∷ cs) s vs)
+        go (inl ok) = stable ok (either (Stable (product c cs) (stateOf c cs s)) (not (isStable (c ∷ cs) s)) (stable-decided ok) (tell 27 (0 ∷ [])))
+        go (inr n) = rw (at21 (c ∷ cs) s vs acc (tell 21 (0 ∷ [])) (state-faulty n)) (is21 n)
+
+    -- ---- and what 01 says is what is answered
+    -- the firing clock is the only one with the least value, and no enabling clock is below zero
+    module _ (r : Ready c cs s vs) {x v a R : ℕ} {s′ : List ℕ} (f : Fires c cs s vs x v a R s′) where
+      above : (y : ℕ) → y ≢ x → Waits c cs s y → ltZ (valueOf vs x) (valueOf vs y) ≡ true
+      above y d h = rw (f .value) (f .least y d h)
+
+      not-negative : (y : ℕ) → BelowZero (Waits c cs s) vs y → ⊥
+      not-negative y b = elim (ℕ-discrete y x) [
+        | yes w ↦ true≢false (sym (b .negative) ∙ ap (λ n. ltZ (valueOf vs n) (pos 0)) w ∙ ap (λ z. ltZ z (pos 0)) (f .value) ∙ le-ltb v 0 (omega arith))
+        | no w ↦ true≢false (sym (less-transitive (pos v) (valueOf vs y) (pos 0) (f .least y w (b .waits)) (b .negative)) ∙ le-ltb v 0 (omega arith))
+      ]
+
+      only-least : (y : ℕ) → LeastOf (Waits c cs s) vs y → y ≡ x
+      only-least = less-is-alone (Waits c cs s) (enablingAll (c ∷ cs) s) vs (waiting c cs well conf join s (r .within)) x (f .waits) above
+
+      is-least : LeastOf (Waits c cs s) vs x
+      is-least = record {
+        waits = f .waits;
+        least = λ y h. not-so (ltZ (valueOf vs y) (valueOf vs x)) (λ t. elim (ℕ-discrete y x) [
+          | yes w ↦ true≢false (sym t ∙ ap (λ n. ltZ (valueOf vs n) (valueOf vs x)) w ∙ less-irreflexive (valueOf vs x))
+          | no w ↦ true≢false (sym (less-transitive (valueOf vs y) (valueOf vs x) (valueOf vs y) t (above y w h)) ∙ less-irreflexive (valueOf vs y))
+        ]);
+      }
+
+      not-shared : (y : ℕ) → Shares (Waits c cs s) vs y → ⊥
+      not-shared y z = z .differs (only-least (z .other) (z .there) ∙ sym (only-least y (z .here)))
+
+      fire-found : timedFrom (c ∷ cs) s vs (enablingAll (c ∷ cs) s) ≡ answered (fire (c ∷ cs) s vs x)
+      unfolding check29 check30
+      fire-found =
+          let W = Waits c cs s in
+          let e = enablingAll (c ∷ cs) s in
+          let k = waiting c cs well conf join s (r .within) in
+          at-fire (c ∷ cs) s vs e x
+          (found-none (BelowZero W vs) (belowZero e vs) maxClocks (negatives W e vs k) not-negative)
+          (found-none (Shares W vs) (shares e vs) maxClocks (sharers W e vs k) not-shared)
+          (found-lowest (LeastOf W vs) (isLeast e vs) maxClocks (leasts W e vs k) x (record { here = is-least; before = λ y l h. omega (arith, only-least y h) }))
+
+      -- (c): the product has one row with that clock
+      fire-answers : (us : List ℤ) → Falls (c ∷ cs) vs v us → answered (fire (c ∷ cs) s vs x) ≡ answered (record { shot = fired v a R; state = s′; values = us })
+      fire-answers us g =
+          let p = fire-is-a-row c cs well conf join s (r .within) vs x v (f .waits) (f .value) in
+          let q = system-is-an-automaton c cs well conf join .condC .same x (in-one x) (in-one x) (p .row) (f .row) in
+          let t = state-is-one-list c cs (p .s′) s′ (within-length (c ∷ cs) (p .s′) (p .within)) (within-length (c ∷ cs) s′ (f .within)) (q .3) in
+          let u = falls-once (c ∷ cs) vs v (agedFrom (declared (c ∷ cs)) (pos v) 0 vs) us (aged-falls (c ∷ cs) vs v) g in
+          ap answered (p .answer ∙ (λ i. record { shot = fired v (q .1 i) (q .2 i); state = t i; values = u i }))
+
+    so-answers : {t : Answer Timing} → TimedAnswer c cs s vs t → timedOf (c ∷ cs) s vs ≡ t
+    unfolding check29 check30
+    so-answers (is21 n) = at21 (c ∷ cs) s vs acc (tell 21 (0 ∷ [])) (state-faulty n)
+    so-answers (is27 ok n) = at27 (c ∷ cs) s vs acc (tell 27 (0 ∷ [])) (state-fine ok) (stable-faulty ok n)
+    so-answers (is28 ok st n) = at28 (c ∷ cs) s vs acc (tell 28 (0 ∷ [])) (state-fine ok) (stable-fine ok st) (values-faulty n)
+    so-answers (is29 {x} r l) =
+        let W = Waits c cs s in
+        let e = enablingAll (c ∷ cs) s in
+        when-ready r ∙ at29 (c ∷ cs) s vs e x (found-lowest (BelowZero W vs) (belowZero e vs) maxClocks (negatives W e vs (waiting c cs well conf join s (r .within))) x l)
+    so-answers (is30 {x} r n l) =
+        let W = Waits c cs s in
+        let e = enablingAll (c ∷ cs) s in
+        let k = waiting c cs well conf join s (r .within) in
+        when-ready r
+        ∙ at30 (c ∷ cs) s vs e x (found-none (BelowZero W vs) (belowZero e vs) maxClocks (negatives W e vs k) n) (found-lowest (Shares W vs) (shares e vs) maxClocks (sharers W e vs k) x l)
+    so-answers (is-quiet r n) =
+        let W = Waits c cs s in
+        let e = enablingAll (c ∷ cs) s in
+        let k = waiting c cs well conf join s (r .within) in
+        when-ready r
+        ∙ at-quiet (c ∷ cs) s vs e (found-none (BelowZero W vs) (belowZero e vs) maxClocks (negatives W e vs k) (λ y b. n y (b .waits)))
+        (found-none (Shares W vs) (shares e vs) maxClocks (sharers W e vs k) (λ y z. n y (z .here .waits))) (none-waits-none-least W e vs k n)
+    so-answers (is-fired {vs′ = us} r f g) = when-ready r ∙ fire-found r f ∙ fire-answers r f us g
+
+-- an accepted model's timed step answers t exactly when t is what 01 says of the product's rows and clocks
+pub timed-exactly : (c : Comp) (cs : List Comp) → WellFormed (c ∷ cs) → acceptOf (c ∷ cs) ≡ none → (s : List ℕ) (vs : List ℤ) (t : Answer Timing)
+    → (timedOf (c ∷ cs) s vs ≡ t) ↔ TimedAnswer c cs s vs t
+timed-exactly c cs well acc s vs t =
+    let a = accepted-exactly (c ∷ cs) well .0 acc in
+    (λ e. rw e at (answers-so c cs well (a .0) (a .1) s vs acc), so-answers c cs well (a .0) (a .1) s vs acc)
