@@ -6,3 +6,4 @@ pub mod Ticks
 pub mod Fire
 pub mod Shots
 pub mod Exactly
+pub mod Answered

@@ -102,7 +102,6 @@ module _ (m : Model) (s : List ℕ) (vs : List ℤ) (e : ℕ) where
   unfolding timedFrom
   at-fire x h k l = rw (h, timedFrom) (rw k (rw l))
 
-
 -- ---- the answers
 module _ (c : Comp) (cs : List Comp) (well : WellFormed (c ∷ cs)) (conf : Conforming (c ∷ cs)) (join : Joinable (c ∷ cs)) (s : List ℕ) (vs : List ℤ) where
   range-decided : (not (inRange (c ∷ cs) s) ≡ false) ↔ Within (c ∷ cs) s

@@ -163,27 +163,31 @@ enabling-shoots (c ∷ cs) w o j (s ∷ ss) ok x (inl h) =
     let p = clocked-is-output c (w .0) (o .0) x l in
     let k = enabling-clock c (w .0) s x h in
     let g = others-follow cs ss x (r .0 .action) (o .1) (fits-others c cs x (r .0 .action) (j .0) p k) (ok .1) in
-    let e : fireOne c s x (r .0 .action) ≡ some (record { resets = r .0 .resets; after = r .0 .target }) = rw (k, fireOne) (ap goneBy (r .1)) in
-    (r .0, record {
-      row = ap (λ z. orElse z (clockRowOf cs ss x)) (r .1);
-      owner = inl (p, k);
-      all = record {
-        gone = record { resets = r .0 .resets ∪ g .gone .resets; after = r .0 .target ∷ g .gone .after };
-        fires = ap₂ together e (g .fires);
-        steps = rw (← or-zero-r (only x)) (and (goes (component-closed c (w .0) .action l) l) (g .steps));
-      };
-    })
+    let e : fireOne c s x (r .0 .action) ≡ some (record { resets = r .0 .resets; after = r .0 .target }) = rw (k, fireOne) (ap goneBy (r .1)) in (
+      r .0,
+      record {
+        row = ap (λ z. orElse z (clockRowOf cs ss x)) (r .1);
+        owner = inl (p, k);
+        all = record {
+          gone = record { resets = r .0 .resets ∪ g .gone .resets; after = r .0 .target ∷ g .gone .after };
+          fires = ap₂ together e (g .fires);
+          steps = rw (← or-zero-r (only x)) (and (goes (component-closed c (w .0) .action l) l) (g .steps));
+        };
+      },
+    )
 enabling-shoots (c ∷ cs) w o j (s ∷ ss) ok x (inr h) =
     let q = enabling-shoots cs (w .1) (o .1) (j .1) ss (ok .1) x h in
     let n = not-both c cs x (q .0 .action) (j .0) (q .1 .owner) in
     let f = follows c (o .0) s x (q .0 .action) (ok .0) (n .0) (n .1) in
-    let g = q .1 .all in
-    (q .0, record {
-      row = ap (λ z. orElse z (clockRowOf cs ss x)) (no-clock-no-row c (w .0) s x (n .1)) ∙ q .1 .row;
-      owner = inr (q .1 .owner);
-      all = record {
-        gone = record { resets = f .gone .resets ∪ g .gone .resets; after = f .gone .after ∷ g .gone .after };
-        fires = ap₂ together (f .fires) (g .fires);
-        steps = and (f .steps) (g .steps);
-      };
-    })
+    let g = q .1 .all in (
+      q .0,
+      record {
+        row = ap (λ z. orElse z (clockRowOf cs ss x)) (no-clock-no-row c (w .0) s x (n .1)) ∙ q .1 .row;
+        owner = inr (q .1 .owner);
+        all = record {
+          gone = record { resets = f .gone .resets ∪ g .gone .resets; after = f .gone .after ∷ g .gone .after };
+          fires = ap₂ together (f .fires) (g .fires);
+          steps = and (f .steps) (g .steps);
+        };
+      },
+    )
