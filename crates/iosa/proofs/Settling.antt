@@ -15,3 +15,6 @@ pub mod SeriesAndRuns
 pub mod Demand3
 pub mod Range
 pub mod Called
+pub mod Listed
+pub mod WellFormedTest
+pub mod Witness

@@ -7,3 +7,4 @@ pub mod PairLaws
 pub mod TickLaws
 pub mod MinimalLaws
 pub mod RangeLaws
+pub mod TabLaws

@@ -6,6 +6,7 @@ use mathlib.Core.Option.{Option, none, some}
 use mathlib.Core.List.{List, [], _∷_}
 use Prim.Native.Nat.{ℕ, _≤_, _<_}
 use native.Mathlib.Omega.{arith}
+use lib.ListN.{length}
 use lib.Dec.{ltb}
 use borrow.Author.Tests.{ltb-false, le-ltb, not-false}
 use Rattle.laws.specs.Search.{when, orElse}
@@ -17,7 +18,7 @@ use Rattle.iosa.specs.WellFormed.{WellFormed}
 use Rattle.iosa.specs.Product.{Within}
 use Rattle.iosa.specs.Checks.{confluentOf}
 use Rattle.iosa.specs.Step.{urgentStep, inRange, stateFault}
-use Rattle.iosa.specs.Settle.{Settling, settle, budgetFault, traceFault, settleOf}
+use Rattle.iosa.specs.Settle.{Settling, settle, budgetFault, traceFault, play, settleOf, settleListOf}
 use Rattle.iosa.specs.Demand3.{Called}
 use Rattle.iosa.proofs.Acceptance.Accepted.{accepted-exactly}
 use Rattle.iosa.proofs.Acceptance.ConfluentExactly.{confluent-accepted}
@@ -30,9 +31,13 @@ no-answer p = let z : _≡_ {A = ℕ} 0 1 = cc in omega arith
 pub same-answer : {A : Type 0} {x y : A} → answered x ≡ answered y → x ≡ y
 same-answer p = cc
 
--- a refusal, or else an answer
-answers-exactly : {A : Type 0} (o : Option Told) (x y : A) → ((elim o as (λ _. Answer A) [ some t ↦ refused t | none ↦ answered x ]) ≡ answered y) ↔ (o ≡ none) × (x ≡ y)
-answers-exactly none x y = (λ e. (refl, same-answer e), λ p. ap answered (p .1))
+pub same-refusal : {A : Type 0} {t u : Told} → _≡_ {A = Answer A} (refused t) (refused u) → t ≡ u
+same-refusal p = cc
+
+-- a refusal, or else what follows
+answers-exactly : {A : Type 0} (o : Option Told) (x : Answer A) (y : A)
+    → ((elim o as (λ _. Answer A) [ some t ↦ refused t | none ↦ x ]) ≡ answered y) ↔ (o ≡ none) × (x ≡ answered y)
+answers-exactly none x y = (λ e. (refl, e), λ p. p .1)
 answers-exactly (some t) x y = (λ e. absurd (no-answer e), λ p. absurd (no-some (p .0) refl))
 
 none-of-four : {A : Type 0} (o p q r : Option A) → o ≡ none → p ≡ none → q ≡ none → r ≡ none → orElse o (orElse p (orElse q r)) ≡ none
@@ -59,18 +64,31 @@ pub settle-answers-exactly : (m : Model) (s : List ℕ) (budget room : ℕ) (d :
     → (settleOf m s budget room ≡ answered d) ↔ (confluentOf m ≡ none) × Within m s × (budget ≤ maxBudget) × (budget ≤ room) × (settle (urgentStep m) budget s ≡ d)
 unfolding settleOf
 settle-answers-exactly m s budget room d =
-    let x = answers-exactly (orElse (confluentOf m) (orElse (stateFault m s) (orElse (budgetFault budget) (traceFault budget room)))) (settle (urgentStep m) budget s) d in (
+    let x = answers-exactly (orElse (confluentOf m) (orElse (stateFault m s) (orElse (budgetFault budget) (traceFault budget room)))) (answered (settle (urgentStep m) budget s)) d in (
       λ e.
           let p = x .0 e in
           let q = or-else-none (confluentOf m) _ (p .0) in
           let r = or-else-none (stateFault m s) _ (q .1) in
           let t = or-else-none (budgetFault budget) _ (r .1) in
-          (q .0, state-faultless m s .0 (r .0), budget-faultless budget .0 (t .0), trace-faultless budget room .0 (t .1), p .1),
+          (q .0, state-faultless m s .0 (r .0), budget-faultless budget .0 (t .0), trace-faultless budget room .0 (t .1), same-answer (p .1)),
       λ p. x .1 (
         none-of-four (confluentOf m) (stateFault m s) (budgetFault budget) (traceFault budget room)
             (p .0) (state-faultless m s .1 (p .1)) (budget-faultless budget .1 (p .2)) (trace-faultless budget room .1 (p .3)),
-        p .4,
+        ap answered (p .4),
       ),
+    )
+
+pub settle-list-answers-exactly : (m : Model) (s l : List ℕ) (d : Settling (List ℕ))
+    → (settleListOf m s l ≡ answered d) ↔ (confluentOf m ≡ none) × Within m s × (length l ≤ maxBudget) × (play m 0 l s ≡ answered d)
+unfolding settleListOf
+settle-list-answers-exactly m s l d =
+    let x = answers-exactly (orElse (confluentOf m) (orElse (stateFault m s) (budgetFault (length l)))) (play m 0 l s) d in (
+      λ e.
+          let p = x .0 e in
+          let q = or-else-none (confluentOf m) _ (p .0) in
+          let r = or-else-none (stateFault m s) _ (q .1) in
+          (q .0, state-faultless m s .0 (r .0), budget-faultless (length l) .0 (r .1), p .1),
+      λ p. x .1 (simp (p .0, state-faultless m s .1 (p .1), budget-faultless (length l) .1 (p .2)), p .3),
     )
 
 pub demand-3-of-the-call : (c : Comp) (cs : List Comp) → WellFormed (c ∷ cs) → (s : List ℕ) (budget room : ℕ) (d : Settling (List ℕ))
