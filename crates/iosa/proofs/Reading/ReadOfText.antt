@@ -26,7 +26,7 @@ use Rattle.iosa.specs.Line.{lineOf, GuardFits, LineFits}
 use Rattle.iosa.specs.Faulty.{GuardIs, InTurn, InRange, Named, InOrder, After, Faultless, taken, Reaches, first-line, next-line}
 use Rattle.iosa.proofs.Reading.Lines.{entry-exact}
 use Rattle.iosa.proofs.Reading.Members.{clocksOf, set-of-members, set-printed, members-ascend, members-below, members-fit, members-within}
-use Rattle.iosa.proofs.Reading.Tests.{each-below, each-in, ascends-decided}
+use Rattle.iosa.proofs.Reading.Tests.{below-decided, in-decided, ascends-decided}
 use Rattle.iosa.proofs.Reading.Faults.{read-model}
 use Rattle.iosa.proofs.Reading.GrowActs.{no-kind}
 use Rattle.iosa.proofs.Reading.TextOfRead.{text-of-read}
@@ -277,10 +277,10 @@ module _ (c : Comp) (w : WellComp c) (r : Row) (h : WellRow c r) where
   row-fits = (omega (arith, h .from, w .states), guard-fits, omega (arith, action-small), members-fit (r .resets), omega (arith, h .target, w .states))
 
   row-in-range : (rs : List Row) → InRange (withRows c rs) (rowRead r)
-  row-in-range rs = (h .from, guard-small, action-small, each-below maxClocks (clocksOf (r .resets)) .0 (members-below (r .resets)), h .target)
+  row-in-range rs = (h .from, guard-small, action-small, below-decided maxClocks (clocksOf (r .resets)) .0 (members-below (r .resets)), h .target)
 
   row-named : (rs : List Row) → Named (withRows c rs) (rowRead r)
-  row-named rs = (guard-named, h .action, each-in (c .clocks) (clocksOf (r .resets)) .0 (members-within (r .resets) (c .clocks) (h .resets)))
+  row-named rs = (guard-named, h .action, in-decided (c .clocks) (clocksOf (r .resets)) .0 (members-within (r .resets) (c .clocks) (h .resets)))
 
 turn-most : (d : Entry) → turn d ≤ 3
 turn-most (comp-entry n s) = omega arith
