@@ -9,4 +9,9 @@ pub mod GrowActs
 pub mod GrowClocks
 pub mod GrowRows
 pub mod TextOfRead
+pub mod Printed
+pub mod Phases
+pub mod ReadActs
+pub mod ReadClocks
+pub mod ReadRows
 pub mod ReadOfText

@@ -1,0 +1,83 @@
+-- Lines read one after the other: a component on its way, and the lines of the members of a set.
+use mathlib.Core.Path.{_≡_, refl, sym, _∙_, ap, ap₂, subst, subst₂}
+use mathlib.Core.Logic.{inl, inr, ⊎-elim, _↔_}
+use mathlib.Core.Option.{Option, none, some}
+use mathlib.Core.Bool.{Bool, true, false, cond, true≢false}
+use mathlib.Core.List.{List, [], _∷_, _++_, append-assoc, append-nil, reverse, reverseAux, reverse-reverse}
+use Prim.Native.Nat.{ℕ, zero, suc, _+_, _%_, _^_, _≤_, _<_}
+use native.Mathlib.Omega.{arith}
+use native.Mathlib.Nat.{mod-eq-of-lt}
+use lib.ListN.{length, length-append, length-reverse, getD}
+use lib.Bits.{or-lt}
+use lib.Dec.{eqb}
+use Rattle.laws.specs.Sets.{has, _∪_, only, _∈_, _⊆_}
+use Rattle.laws.specs.Fold.{spread}
+use Rattle.laws.proofs.SetLaws.{in-or, in-below, in-one, subset-le}
+use Rattle.laws.proofs.TestLaws.{not-so}
+use Rattle.laws.proofs.ListLaws.{All, at-all}
+use Rattle.laws.proofs.GrowLaws.{below-zero, below-in, below-out}
+use Rattle.answer.specs.Limits.{maxComponents, maxRows, maxActions, maxClocks}
+use Rattle.answer.specs.Told.{Answer, answered}
+use Rattle.iosa.specs.Model.{Row, Comp, Model, noRow, noComp, acts, guardSet, rowCount}
+use Rattle.iosa.specs.Text.{Kind, in-kind, compLine, actLine, clkLine, rowLine, kindOf, actPart, clkPart, rowLines, compText, textOf}
+use Rattle.iosa.specs.WellFormed.{before, WellRow, WellComp, WellFormed}
+use Rattle.iosa.specs.Reading.{Entry, comp-entry, act-entry, clk-entry, row-entry, entry, Progress, atStart, turn, newComp, withAct, withClk, guardOf, rowOf, takeIn, readOf}
+use Rattle.iosa.specs.Line.{lineOf, GuardFits, LineFits}
+use Rattle.iosa.specs.Faulty.{GuardIs, InTurn, InRange, Named, InOrder, After, Faultless, taken, Reaches, first-line, next-line}
+use Rattle.iosa.proofs.Reading.Lines.{entry-exact}
+use Rattle.iosa.proofs.Reading.Members.{clocksOf, set-of-members, set-printed, members-ascend, members-below, members-fit, members-within}
+use Rattle.iosa.proofs.Reading.Tests.{below-decided, in-decided, ascends-decided}
+use Rattle.iosa.proofs.Reading.Faults.{read-model}
+use Rattle.iosa.proofs.Reading.GrowActs.{no-kind}
+use Rattle.iosa.proofs.Reading.TextOfRead.{text-of-read}
+
+-- a line as printed is read and taken in
+pub line-on : {t : List ℕ} {k : ℕ} {p : Progress} {bs : List ℕ} (e : Entry) (cs : List ℕ) → Reaches t k p bs → bs ≡ lineOf e ++ cs → LineFits e → Faultless p e → Reaches t (suc k) (taken p e) cs
+line-on e cs r q l f = next-line r (ap entry q ∙ entry-exact .printed e cs l tt) f
+
+-- the component c is being read, behind the components m, and d was its last line
+pub record At (t : List ℕ) (c : Comp) (m : List Comp) (d : Entry) (bs : List ℕ) : Type 0 where
+  pub line : ℕ
+  pub reached : Reaches t line (record { comps = c ∷ m; last = some d }) bs
+
+pub move : {t : List ℕ} {c e : Comp} {m : List Comp} {d : Entry} {bs cs : List ℕ} → c ≡ e → bs ≡ cs → At t c m d bs → At t e m d cs
+move {t} {m = m} {d} p q a = record { line = a .line; reached = subst₂ (λ c bs. Reaches t (a .line) (record { comps = c ∷ m; last = some d }) bs) p q (a .reached) }
+
+-- a line for each member of a set of 64, ascending, behind the components m
+pub record Series (m : List Comp) : Type 1 where
+  -- whether the place a has a line, the line, and the text of the place
+  pub member : ℕ → Bool
+  pub line : ℕ → Entry
+  pub part : ℕ → List ℕ
+  -- the component when the places below a are read, and what its last line may be then
+  pub upTo : ℕ → Comp
+  pub Last : ℕ → Entry → Type 0
+  pub later : (a : ℕ) (d : Entry) → Last a d → Last (suc a) d
+  pub none-part : (a : ℕ) → member a ≡ false → part a ≡ []
+  pub none-more : (a : ℕ) → member a ≡ false → upTo a ≡ upTo (suc a)
+  pub one-part : (a : ℕ) → member a ≡ true → part a ≡ lineOf (line a)
+  pub one-more : (a : ℕ) → member a ≡ true → takeIn (upTo a ∷ m) (line a) ≡ upTo (suc a) ∷ m
+  pub one-last : (a : ℕ) → Last (suc a) (line a)
+  pub fits : (a : ℕ) → a < 64 → LineFits (line a)
+  pub faultless : (a : ℕ) (d : Entry) → a < 64 → Last a d → Faultless (record { comps = upTo a ∷ m; last = some d }) (line a)
+
+pub series-read : {t : List ℕ} {m : List Comp} (S : Series m) (n a : ℕ) (d : Entry) (bs : List ℕ) → a + n ≡ 64 → S .Last a d → At t (S .upTo a) m d (spread (S .part) a n ++ bs)
+    → (e : Entry) × S .Last 64 e × At t (S .upTo 64) m e bs
+series-read S zero a d bs q h r = let e : a ≡ 64 = omega arith in (d, subst (λ a. S .Last a d) e h, move (ap (S .upTo) e) refl r)
+series-read {t} {m} S (suc n) a d bs q h r = go (series-read S n (suc a)) (S .member a) refl
+  where
+    rest : List ℕ
+    rest = spread (S .part) (suc a) n ++ bs
+
+    front : (l : List ℕ) → S .part a ≡ l → spread (S .part) a (suc n) ++ bs ≡ l ++ rest
+    front l e = append-assoc (S .part a) (spread (S .part) (suc a) n) bs ∙ ap (λ (l : List ℕ). l ++ rest) e
+
+    go : ((d : Entry) (bs : List ℕ) → suc a + n ≡ 64 → S .Last (suc a) d → At t (S .upTo (suc a)) m d (spread (S .part) (suc a) n ++ bs) → (e : Entry) × S .Last 64 e × At t (S .upTo 64) m e bs)
+        → (b : Bool) → S .member a ≡ b → (e : Entry) × S .Last 64 e × At t (S .upTo 64) m e bs
+    go ih false e = ih d bs (omega arith) (S .later a d h) (move (S .none-more a e) (front [] (S .none-part a e)) r)
+    go ih true e = ih (S .line a) bs (omega arith) (S .one-last a) (record {
+      line = suc (r .line);
+      reached =
+          subst (λ (cs : List Comp). Reaches t (suc (r .line)) (record { comps = cs; last = some (S .line a) }) rest) (S .one-more a e)
+          (line-on (S .line a) rest (r .reached) (front (lineOf (S .line a)) (S .one-part a e)) (S .fits a (omega arith)) (S .faultless a d (omega arith) h));
+    })
