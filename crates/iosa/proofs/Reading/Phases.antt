@@ -43,8 +43,8 @@ pub record At (t : List ℕ) (c : Comp) (m : List Comp) (d : Entry) (bs : List �
 pub move : {t : List ℕ} {c e : Comp} {m : List Comp} {d : Entry} {bs cs : List ℕ} → c ≡ e → bs ≡ cs → At t c m d bs → At t e m d cs
 move {t} {m = m} {d} p q a = record { line = a .line; reached = subst₂ (λ c bs. Reaches t (a .line) (record { comps = c ∷ m; last = some d }) bs) p q (a .reached) }
 
--- a line for each member of a set of 64, ascending, behind the components m
-pub record Series (m : List Comp) : Type 1 where
+-- a line for each member of a set of numbers below top, ascending, behind the components m
+pub record Series (m : List Comp) (top : ℕ) : Type 1 where
   -- whether the place a has a line, the line, and the text of the place
   pub member : ℕ → Bool
   pub line : ℕ → Entry
@@ -58,13 +58,13 @@ pub record Series (m : List Comp) : Type 1 where
   pub one-part : (a : ℕ) → member a ≡ true → part a ≡ lineOf (line a)
   pub one-more : (a : ℕ) → member a ≡ true → takeIn (upTo a ∷ m) (line a) ≡ upTo (suc a) ∷ m
   pub one-last : (a : ℕ) → Last (suc a) (line a)
-  pub fits : (a : ℕ) → a < 64 → LineFits (line a)
-  pub faultless : (a : ℕ) (d : Entry) → a < 64 → Last a d → Faultless (record { comps = upTo a ∷ m; last = some d }) (line a)
+  pub fits : (a : ℕ) → a < top → LineFits (line a)
+  pub faultless : (a : ℕ) (d : Entry) → a < top → Last a d → Faultless (record { comps = upTo a ∷ m; last = some d }) (line a)
 
-pub series-read : {t : List ℕ} {m : List Comp} (S : Series m) (n a : ℕ) (d : Entry) (bs : List ℕ) → a + n ≡ 64 → S .Last a d → At t (S .upTo a) m d (spread (S .part) a n ++ bs)
-    → (e : Entry) × S .Last 64 e × At t (S .upTo 64) m e bs
-series-read S zero a d bs q h r = let e : a ≡ 64 = omega arith in (d, subst (λ a. S .Last a d) e h, move (ap (S .upTo) e) refl r)
-series-read {t} {m} S (suc n) a d bs q h r = go (series-read S n (suc a)) (S .member a) refl
+pub series-read : {t : List ℕ} {m : List Comp} {top : ℕ} (S : Series m top) (n a : ℕ) (d : Entry) (bs : List ℕ) → a + n ≡ top → S .Last a d → At t (S .upTo a) m d (spread (S .part) a n ++ bs)
+    → (e : Entry) × S .Last top e × At t (S .upTo top) m e bs
+series-read {top = top} S zero a d bs q h r = let e : a ≡ top = omega arith in (d, subst (λ a. S .Last a d) e h, move (ap (S .upTo) e) refl r)
+series-read {t} {m} {top} S (suc n) a d bs q h r = go (series-read S n (suc a)) (S .member a) refl
   where
     rest : List ℕ
     rest = spread (S .part) (suc a) n ++ bs
@@ -72,8 +72,8 @@ series-read {t} {m} S (suc n) a d bs q h r = go (series-read S n (suc a)) (S .me
     front : (l : List ℕ) → S .part a ≡ l → spread (S .part) a (suc n) ++ bs ≡ l ++ rest
     front l e = append-assoc (S .part a) (spread (S .part) (suc a) n) bs ∙ ap (λ (l : List ℕ). l ++ rest) e
 
-    go : ((d : Entry) (bs : List ℕ) → suc a + n ≡ 64 → S .Last (suc a) d → At t (S .upTo (suc a)) m d (spread (S .part) (suc a) n ++ bs) → (e : Entry) × S .Last 64 e × At t (S .upTo 64) m e bs)
-        → (b : Bool) → S .member a ≡ b → (e : Entry) × S .Last 64 e × At t (S .upTo 64) m e bs
+    go : ((d : Entry) (bs : List ℕ) → suc a + n ≡ top → S .Last (suc a) d → At t (S .upTo (suc a)) m d (spread (S .part) (suc a) n ++ bs) → (e : Entry) × S .Last top e × At t (S .upTo top) m e bs)
+        → (b : Bool) → S .member a ≡ b → (e : Entry) × S .Last top e × At t (S .upTo top) m e bs
     go ih false e = ih d bs (omega arith) (S .later a d h) (move (S .none-more a e) (front [] (S .none-part a e)) r)
     go ih true e = ih (S .line a) bs (omega arith) (S .one-last a) (record {
       line = suc (r .line);

@@ -95,7 +95,7 @@ act-follows a k (act-entry b j) h = (omega arith, h, omega arith)
 act-follows a k (clk-entry x b) h = absurd h
 act-follows a k (row-entry s g b r t) h = absurd h
 
-act-series : (c : Comp) (m : List Comp) → WellComp c → Series m
+act-series : (c : Comp) (m : List Comp) → WellComp c → Series m maxActions
 unfolding actPart actLine lineOf takeIn
 act-series c m w =
     record {

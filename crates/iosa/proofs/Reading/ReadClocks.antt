@@ -68,7 +68,7 @@ flag-small : (b : Bool) → cond b 1 0 ≤ 1
 flag-small true = omega arith
 flag-small false = omega arith
 
-clk-series : (c : Comp) (m : List Comp) → WellComp c → Series m
+clk-series : (c : Comp) (m : List Comp) → WellComp c → Series m maxClocks
 unfolding clkPart clkLine lineOf takeIn
 clk-series c m w =
     record {
