@@ -5,6 +5,7 @@ pub mod Lines
 pub mod Members
 pub mod Tests
 pub mod Faults
+pub mod Kinds
 pub mod GrowActs
 pub mod GrowClocks
 pub mod GrowRows

@@ -22,6 +22,7 @@ use Rattle.iosa.specs.WellFormed.{before, WellRow, WellComp}
 use Rattle.iosa.specs.Reading.{row-entry, guardOf, rowOf, setOf, withRow}
 use Rattle.iosa.specs.Line.{lineOf, listField}
 use Rattle.iosa.specs.Faulty.{Each, GuardIs, InRange, Named, Ascends}
+use Rattle.iosa.proofs.Reading.Kinds.{kinds-apart, well-by-kinds}
 use Rattle.iosa.proofs.Reading.Members.{in-set-of, set-printed, members-of-set}
 use Rattle.iosa.proofs.Reading.Tests.{below-decided, in-decided, ascends-decided}
 
@@ -61,26 +62,7 @@ row-well c s g a r t h n =
     guard-within (some y) h x m = rw (one-in y x m) h
 
 pub rows-well : (c : Comp) (q : Row) → WellComp c → WellRow c q → ((k : ℕ) → suc k ≡ length (c .rows) → before (rowAt c k) q ≡ true) → WellComp (withRow c q)
-rows-well c q w h last =
-    record {
-      some = w .some;
-      states = w .states;
-      start = w .start;
-      ins = w .ins;
-      outs = w .outs;
-      uins = w .uins;
-      uouts = w .uouts;
-      ins-outs = w .ins-outs;
-      ins-uins = w .ins-uins;
-      ins-uouts = w .ins-uouts;
-      outs-uins = w .outs-uins;
-      outs-uouts = w .outs-uouts;
-      uins-uouts = w .uins-uouts;
-      clocks = w .clocks;
-      started = w .started;
-      rows = each;
-      ascend = up;
-    }
+rows-well c q w h last = well-by-kinds (withRow c q) (w .some) (w .states) (w .start) (kinds-apart c w) (w .clocks) (w .started) each up
   where
     keep : (r : Row) → WellRow c r → WellRow (withRow c q) r
     keep r h = record { from = h .from; guard = h .guard; action = h .action; resets = h .resets; target = h .target }

@@ -1,36 +1,18 @@
 -- The lines of a model, as they are printed, are read back.
-use mathlib.Core.Path.{_≡_, refl, sym, _∙_, ap, ap₂, subst, subst₂}
-use mathlib.Core.Logic.{inl, inr, ⊎-elim, _↔_}
+use mathlib.Core.Path.{_≡_, refl, _∙_, ap}
 use mathlib.Core.Option.{Option, none, some}
-use mathlib.Core.Bool.{Bool, true, false, cond, true≢false}
-use mathlib.Core.List.{List, [], _∷_, _++_, append-assoc, append-nil, reverse, reverseAux, reverse-reverse}
-use Prim.Native.Nat.{ℕ, zero, suc, _+_, _%_, _^_, _≤_, _<_}
+use mathlib.Core.Bool.{Bool, true, false, cond}
+use mathlib.Core.List.{List, [], _++_}
+use Prim.Native.Nat.{ℕ, zero, suc, _^_, _<_}
 use native.Mathlib.Omega.{arith}
-use native.Mathlib.Nat.{mod-eq-of-lt}
-use lib.ListN.{length, length-append, length-reverse, getD}
-use lib.Bits.{or-lt}
-use lib.Dec.{eqb}
-use Rattle.laws.specs.Sets.{has, _∪_, only, _∈_, _⊆_}
-use Rattle.laws.specs.Fold.{spread}
-use Rattle.laws.proofs.SetLaws.{in-or, in-below, in-one, subset-le}
-use Rattle.laws.proofs.TestLaws.{not-so}
-use Rattle.laws.proofs.ListLaws.{All, at-all}
-use Rattle.laws.proofs.GrowLaws.{below-zero, below-in, below-out}
-use Rattle.answer.specs.Limits.{maxComponents, maxRows, maxActions, maxClocks}
-use Rattle.answer.specs.Told.{Answer, answered}
-use Rattle.iosa.specs.Model.{Row, Comp, Model, noRow, noComp, acts, guardSet, rowCount}
-use Rattle.iosa.specs.Text.{Kind, in-kind, compLine, actLine, clkLine, rowLine, kindOf, actPart, clkPart, rowLines, compText, textOf, setField}
-use Rattle.iosa.specs.WellFormed.{before, WellRow, WellComp, WellFormed}
-use Rattle.iosa.specs.Reading.{Entry, comp-entry, act-entry, clk-entry, row-entry, entry, got, Progress, atStart, turn, newComp, withAct, withClk, guardOf, rowOf, takeIn, readOf, numbersOrDash}
-use Rattle.iosa.specs.Line.{Fits, lineOf, GuardFits, LineFits, Ends}
-use Rattle.iosa.specs.Faulty.{GuardIs, InTurn, InRange, Named, InOrder, After, Faultless, taken, Reaches, first-line, next-line}
+use Rattle.answer.specs.Limits.{maxClocks}
+use Rattle.iosa.specs.Model.{Row, Comp}
+use Rattle.iosa.specs.Text.{Kind, compLine, actLine, clkLine, rowLine, setField}
+use Rattle.iosa.specs.Reading.{Entry, comp-entry, act-entry, clk-entry, row-entry, entry, got, guardOf, rowOf, numbersOrDash}
+use Rattle.iosa.specs.Line.{Fits, lineOf, LineFits, Ends}
 use Rattle.iosa.proofs.Reading.Lines.{entry-exact}
 use Rattle.iosa.proofs.Reading.Fields.{list-exact}
-use Rattle.iosa.proofs.Reading.Members.{clocksOf, set-of-members, set-printed, members-ascend, members-below, members-fit, members-within}
-use Rattle.iosa.proofs.Reading.Tests.{below-decided, in-decided, ascends-decided}
-use Rattle.iosa.proofs.Reading.Faults.{read-model}
-use Rattle.iosa.proofs.Reading.GrowActs.{no-kind}
-use Rattle.iosa.proofs.Reading.TextOfRead.{text-of-read}
+use Rattle.iosa.proofs.Reading.Members.{clocksOf, set-of-members, set-printed, members-fit}
 
 pub comp-line : (c : Comp) → compLine c ≡ lineOf (comp-entry (c .states) (c .start))
 unfolding compLine lineOf

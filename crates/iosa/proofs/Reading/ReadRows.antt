@@ -1,35 +1,25 @@
 -- The `row` lines of a component are read, one after the other.
-use mathlib.Core.Path.{_≡_, refl, sym, _∙_, ap, ap₂, subst, subst₂}
-use mathlib.Core.Logic.{inl, inr, ⊎-elim, _↔_}
+use mathlib.Core.Path.{_≡_, refl, sym, _∙_, ap, ap₂}
+use mathlib.Core.Logic.{inr}
 use mathlib.Core.Option.{Option, none, some}
-use mathlib.Core.Bool.{Bool, true, false, cond, true≢false}
-use mathlib.Core.List.{List, [], _∷_, _++_, append-assoc, append-nil, reverse, reverseAux, reverse-reverse}
-use Prim.Native.Nat.{ℕ, zero, suc, _+_, _%_, _^_, _≤_, _<_}
+use mathlib.Core.Bool.{true}
+use mathlib.Core.List.{List, [], _∷_, _++_, append-assoc, append-nil}
+use Prim.Native.Nat.{ℕ, zero, suc, _+_, _^_, _≤_, _<_}
 use native.Mathlib.Omega.{arith}
-use native.Mathlib.Nat.{mod-eq-of-lt}
-use lib.ListN.{length, length-append, length-reverse, getD}
+use lib.ListN.{length, length-append, getD}
 use lib.Bits.{or-lt}
-use lib.Dec.{eqb}
-use Rattle.laws.specs.Sets.{has, _∪_, only, _∈_, _⊆_}
-use Rattle.laws.specs.Fold.{spread}
-use Rattle.laws.proofs.SetLaws.{in-or, in-below, in-one, subset-le}
-use Rattle.laws.proofs.TestLaws.{not-so}
-use Rattle.laws.proofs.ListLaws.{All, at-all}
-use Rattle.laws.proofs.GrowLaws.{below-zero, below-in, below-out}
-use Rattle.answer.specs.Limits.{maxComponents, maxRows, maxActions, maxClocks}
-use Rattle.answer.specs.Told.{Answer, answered}
-use Rattle.iosa.specs.Model.{Row, Comp, Model, noRow, noComp, acts, guardSet, rowCount}
-use Rattle.iosa.specs.Text.{Kind, in-kind, compLine, actLine, clkLine, rowLine, kindOf, actPart, clkPart, rowLines, compText, textOf}
-use Rattle.iosa.specs.WellFormed.{before, WellRow, WellComp, WellFormed}
-use Rattle.iosa.specs.Reading.{Entry, comp-entry, act-entry, clk-entry, row-entry, entry, Progress, atStart, turn, newComp, withAct, withClk, guardOf, rowOf, takeIn, readOf}
-use Rattle.iosa.specs.Line.{lineOf, GuardFits, LineFits}
-use Rattle.iosa.specs.Faulty.{GuardIs, InTurn, InRange, Named, InOrder, After, Faultless, taken, Reaches, first-line, next-line}
-use Rattle.iosa.proofs.Reading.Lines.{entry-exact}
-use Rattle.iosa.proofs.Reading.Members.{clocksOf, set-of-members, set-printed, members-ascend, members-below, members-fit, members-within}
+use Rattle.laws.specs.Sets.{_∪_, _∈_, _⊆_}
+use Rattle.laws.proofs.SetLaws.{in-below, in-one, subset-le}
+use Rattle.laws.proofs.ListLaws.{All}
+use Rattle.answer.specs.Limits.{maxRows, maxActions, maxClocks}
+use Rattle.iosa.specs.Model.{Row, Comp, noRow, acts, guardSet, rowCount}
+use Rattle.iosa.specs.Text.{rowLine, rowLines}
+use Rattle.iosa.specs.WellFormed.{before, WellRow, WellComp}
+use Rattle.iosa.specs.Reading.{Entry, comp-entry, act-entry, clk-entry, row-entry, turn, takeIn}
+use Rattle.iosa.specs.Line.{GuardFits, LineFits}
+use Rattle.iosa.specs.Faulty.{GuardIs, InRange, Named, After}
+use Rattle.iosa.proofs.Reading.Members.{clocksOf, members-ascend, members-below, members-fit, members-within}
 use Rattle.iosa.proofs.Reading.Tests.{below-decided, in-decided, ascends-decided}
-use Rattle.iosa.proofs.Reading.Faults.{read-model}
-use Rattle.iosa.proofs.Reading.GrowActs.{no-kind}
-use Rattle.iosa.proofs.Reading.TextOfRead.{text-of-read}
 use Rattle.iosa.proofs.Reading.Printed.{guardRead, rowRead, row-back, row-line}
 use Rattle.iosa.proofs.Reading.Phases.{line-on, At, move}
 use Rattle.iosa.proofs.Reading.ReadClocks.{ClkLast}
