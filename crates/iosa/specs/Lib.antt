@@ -16,3 +16,4 @@ pub mod Merge
 pub mod Report
 pub mod Examples
 pub mod MergedExactly
+pub mod LooksRight
