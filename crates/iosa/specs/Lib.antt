@@ -15,5 +15,6 @@ pub mod Timed
 pub mod Merge
 pub mod Report
 pub mod Examples
-pub mod MergedExactly
 pub mod LooksRight
+pub mod MergedExactly
+pub mod TimedExactly

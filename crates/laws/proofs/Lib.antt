@@ -4,4 +4,7 @@ pub mod FoldLaws
 pub mod TestLaws
 pub mod ListLaws
 pub mod PairLaws
+pub mod TickLaws
+pub mod MinimalLaws
 pub mod RangeLaws
+pub mod TabLaws

@@ -3,3 +3,7 @@ pub mod ModelOf
 pub mod ReadBack
 pub mod RowsAscend
 pub mod ModelOfImage
+pub mod RowsOfRange
+pub mod ImageIsSane
+pub mod LowestAction
+pub mod WalkByStates

@@ -37,7 +37,7 @@ module _ (m : Model) (t : List ℕ) (w : WellFormed m) (front : take imageWords 
   L s = leaveBelow (c .rows) s
 
   -- row k, read as one that leaves its own state
-  row-is : (s k : ℕ) → k < length (c .rows) → rowAt c k .from ≡ s → rowIn t s (n + k) ≡ rowAt c k
+  pub row-is : (s k : ℕ) → k < length (c .rows) → rowAt c k .from ≡ s → rowIn t s (n + k) ≡ rowAt c k
   row-is s k p e =
       rw (action-is m t w front i k h p, guard-is m t w front i k h p, resets-is m t w front i k h p, target-is m t w front i k h p, ← e)
 
@@ -45,7 +45,7 @@ module _ (m : Model) (t : List ℕ) (w : WellFormed m) (front : take imageWords 
   ascends = froms-ascend c (w .each i h)
 
   -- the rows that leave s are the k from L s up to L (suc s)
-  leaves-own : (s k : ℕ) → L s ≤ k → k < L (suc s) → rowAt c k .from ≡ s
+  pub leaves-own : (s k : ℕ) → L s ≤ k → k < L (suc s) → rowAt c k .from ≡ s
   leaves-own s k p q =
       let r : k < length (c .rows) = omega (arith, below-le (c .rows) (suc s)) in
       let a : rowAt c k .from < suc s = below-leaves (c .rows) (suc s) ascends k q in
