@@ -5,6 +5,7 @@ pub mod Text
 pub mod WellFormed
 pub mod Reading
 pub mod Line
+pub mod Faulty
 pub mod Checks
 pub mod Faults
 pub mod Greatest
