@@ -2,6 +2,7 @@ pub mod Bridge
 pub mod ModelOf
 pub mod ReadBack
 pub mod RowsAscend
+pub mod UpwardRanges
 pub mod ModelOfImage
 pub mod RowsOfRange
 pub mod ImageIsSane
