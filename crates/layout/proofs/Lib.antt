@@ -8,3 +8,5 @@ pub mod RowsOfRange
 pub mod ImageIsSane
 pub mod LowestAction
 pub mod WalkByStates
+pub mod FrontOfModel
+pub mod ImageIsLaid
