@@ -46,6 +46,7 @@ pub record Same (A : Automaton) (l : List ℕ) (R : ℕ) (y : A .State) (k : Lis
 pub record Stops (c : Comp) (cs : List Comp) (s : List ℕ) (l : List ℕ) (R : ℕ) (y : product c cs .State) : Type 0 where
   pub longest : {k : List ℕ} {Q : ℕ} {z : product c cs .State} → Series (product c cs) (stateOf c cs s) k Q z → length k ≤ length l
   pub same : {k : List ℕ} {Q : ℕ} {z : product c cs .State} → Series (product c cs) (stateOf c cs s) k Q z → Stable (product c cs) z → Same (product c cs) l R y k Q z
+  pub exactly : (budget : ℕ) → (settle (urgentStep (c ∷ cs)) budget s .stable ≡ true) ↔ (length l ≤ budget)
   pub enough : (budget : ℕ) → length l ≤ budget → SettledAs c cs (length l) R y (settle (urgentStep (c ∷ cs)) budget s)
   pub short : (budget : ℕ) → budget < length l → Unsettled budget (settle (urgentStep (c ∷ cs)) budget s)
 

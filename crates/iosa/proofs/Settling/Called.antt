@@ -40,6 +40,10 @@ answers-exactly : {A : Type 0} (o : Option Told) (x : Answer A) (y : A)
 answers-exactly none x y = (λ e. (refl, e), λ p. p .1)
 answers-exactly (some t) x y = (λ e. absurd (no-answer e), λ p. absurd (no-some (p .0) refl))
 
+not-refused : {A : Type 0} (o : Option Told) (x : Answer A) → o ≡ none → (elim o as (λ _. Answer A) [ some t ↦ refused t | none ↦ x ]) ≡ x
+not-refused none x e = refl
+not-refused (some t) x e = absurd (no-some e refl)
+
 none-of-four : {A : Type 0} (o p q r : Option A) → o ≡ none → p ≡ none → q ≡ none → r ≡ none → orElse o (orElse p (orElse q r)) ≡ none
 none-of-four o p q r e f g h = simp (e, f, g, h)
 
@@ -90,6 +94,12 @@ settle-list-answers-exactly m s l d =
           (q .0, state-faultless m s .0 (r .0), budget-faultless (length l) .0 (r .1), p .1),
       λ p. x .1 (simp (p .0, state-faultless m s .1 (p .1), budget-faultless (length l) .1 (p .2)), p .3),
     )
+
+-- where nothing is refused before it, the list is played
+pub settle-list-plays : (m : Model) (s l : List ℕ) → confluentOf m ≡ none → Within m s → length l ≤ maxBudget → settleListOf m s l ≡ play m 0 l s
+unfolding settleListOf
+settle-list-plays m s l e w h =
+    not-refused (orElse (confluentOf m) (orElse (stateFault m s) (budgetFault (length l)))) (play m 0 l s) (simp (e, state-faultless m s .1 w, budget-faultless (length l) .1 h))
 
 pub demand-3-of-the-call : (c : Comp) (cs : List Comp) → WellFormed (c ∷ cs) → (s : List ℕ) (budget room : ℕ) (d : Settling (List ℕ))
     → settleOf (c ∷ cs) s budget room ≡ answered d → Called c cs s budget d
