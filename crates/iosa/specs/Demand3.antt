@@ -1,12 +1,12 @@
 -- Demand 3 (the mission; 01, "Confluence and settling"), over series of urgent outputs of the product's own rows.
 use mathlib.Core.Path.{_≡_}
 use mathlib.Core.Logic.{_⊎_, _↔_}
-use mathlib.Core.Bool.{Bool, true, false}
+use mathlib.Core.Bool.{true, false}
 use mathlib.Core.List.{List, [], _∷_, _++_}
-use Prim.Native.Nat.{ℕ, suc, _≤_, _<_}
+use Prim.Native.Nat.{ℕ, _≤_, _<_}
 use lib.ListN.{length}
 use Rattle.laws.specs.Sets.{_∪_}
-use Rattle.iosa.specs.Model.{Comp, Model}
+use Rattle.iosa.specs.Model.{Comp}
 use Rattle.iosa.specs.Automaton.{Automaton, UrgentRow, Stable}
 use Rattle.iosa.specs.Product.{product, stateOf, Within, Series, count}
 use Rattle.iosa.specs.Step.{urgentStep}

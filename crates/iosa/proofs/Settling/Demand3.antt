@@ -1,25 +1,25 @@
 -- Demand 3: one theorem over series of urgent outputs of the product's own rows; and our run is one of them.
 use mathlib.Core.Path.{_≡_, refl, sym, _∙_, ap}
 use mathlib.Core.Logic.{_↔_, _⊎_, by-cases}
-use mathlib.Core.Bool.{Bool, true, false, true≢false, false≢true}
-use mathlib.Core.Option.{Option, none, some}
-use mathlib.Core.List.{List, [], _∷_}
-use Prim.Native.Nat.{ℕ, _≤_, _<_}
+use mathlib.Core.Bool.{Bool, true, false, true≢false}
+use mathlib.Core.Option.{none}
+use mathlib.Core.List.{List, _∷_}
+use Prim.Native.Nat.{ℕ, _≤_}
 use native.Mathlib.Omega.{arith}
 use native.Mathlib.Decide.{decLt}
 use lib.ListN.{length}
 use Rattle.laws.proofs.SearchLaws.{no-some}
-use Rattle.iosa.specs.Model.{Comp, Model}
+use Rattle.iosa.specs.Model.{Comp}
 use Rattle.iosa.specs.WellFormed.{WellFormed}
-use Rattle.iosa.specs.Automaton.{Conforming, Joinable, AllConfluent, Stable}
+use Rattle.iosa.specs.Automaton.{Conforming, Joinable, Stable}
 use Rattle.iosa.specs.Product.{product, stateOf, Within, Series}
-use Rattle.iosa.specs.Checks.{acceptOf, confluentOf}
-use Rattle.iosa.specs.Step.{Gone, Went, urgentStep}
+use Rattle.iosa.specs.Checks.{confluentOf}
+use Rattle.iosa.specs.Step.{urgentStep}
 use Rattle.iosa.specs.Settle.{Settling, settle}
-use Rattle.iosa.specs.Demand3.{Demand3, Stops, Same, SettledAs, Unsettled, GoesOn, OurRun}
+use Rattle.iosa.specs.Demand3.{Demand3, Stops, Same, GoesOn, OurRun}
 use Rattle.iosa.proofs.Acceptance.Accepted.{accepted-exactly}
 use Rattle.iosa.proofs.Acceptance.ConfluentExactly.{confluent-exactly, confluent-accepted}
-use Rattle.iosa.proofs.Settling.Descent.{Run, Stuck, Keeps, Diamond, Alike, none-is-longer, all-that-stop-are-alike}
+use Rattle.iosa.proofs.Settling.Descent.{Run, Stuck, Keeps, Diamond, none-is-longer, all-that-stop-are-alike}
 use Rattle.iosa.proofs.Settling.Rule.{Ran, Exact, settle-ran, settle-exact, settle-never}
 use Rattle.iosa.proofs.Settling.Steps.{steps-keep-the-range, steps-are-bounded, stable-stuck, stuck-stable, stable-or-goes-on}
 use Rattle.iosa.proofs.Settling.Commute.{urgent-steps-commute}

@@ -1,17 +1,16 @@
 -- Proposition 4.1 of document 000: the product of compatible automata that meet (a) to (f) meets them again.
-use mathlib.Core.Path.{_≡_, refl, sym, _∙_, ap, ap₂}
+use mathlib.Core.Path.{_≡_, refl, sym, _∙_, ap₂}
 use mathlib.Core.Logic.{_⊎_, inl, inr, ⊎-elim}
 use mathlib.Core.Bool.{Bool, true, false, true≢false}
-use mathlib.Core.List.{List, [], _∷_}
 use Prim.Native.Nat.{ℕ}
 use lib.Bits.{or-zero-r}
-use Rattle.laws.specs.Sets.{has, _∪_, _∖_, only, _∈_, _⊆_, Apart}
+use Rattle.laws.specs.Sets.{has, _∪_, _∖_, only, _∈_, _⊆_}
 use Rattle.laws.proofs.SetLaws.{or-in-l, or-in-r, in-or, not-or, or-not, in-without, without-in, none-in}
 use Rattle.laws.proofs.TestLaws.{not-so}
-use Rattle.iosa.specs.Automaton.{Automaton, alphabet, autoOf, UrgentRow, Stable, Enabling, CondA, CondB, CondC, CondD, CondE, Active, CondF, Conditions, Compatible}
-use Rattle.iosa.specs.Product.{_⊗_, productFrom, product}
-use Rattle.iosa.proofs.Settling.Parts.{Go, goes, rests, Parts, go-row, joint-parts, parts-go, joint-known, alphabet-joins}
-use Rattle.iosa.proofs.Settling.Closed.{Closed, Own, go-own, or-within}
+use Rattle.iosa.specs.Automaton.{Automaton, alphabet, Stable, Enabling, CondA, CondB, CondC, CondD, CondE, Active, CondF, Conditions, Compatible}
+use Rattle.iosa.specs.Product.{_⊗_}
+use Rattle.iosa.proofs.Settling.Parts.{Go, goes, rests, Parts, go-row, joint-parts, parts-go, alphabet-joins}
+use Rattle.iosa.proofs.Settling.Closed.{Closed, go-own, or-within}
 
 pub compatible-sym : (A B : Automaton) → Compatible A B → Compatible B A
 compatible-sym A B k = record {

@@ -1,16 +1,16 @@
 -- Demand 3 is not empty: it holds of the paper's M, and of three components that share actions and reset clocks, where two series in different
 -- order stop; every hypothesis is computed. And two inputs alone that clash are refused.
 use mathlib.Core.Path.{_≡_, refl, sym, _∙_, ap}
-use mathlib.Core.Bool.{Bool, true, false, true≢false}
-use mathlib.Core.Option.{Option, none, some}
+use mathlib.Core.Bool.{true, false, true≢false}
+use mathlib.Core.Option.{none, some}
 use mathlib.Core.List.{List, [], _∷_}
-use Prim.Native.Nat.{ℕ, zero, suc, _≤_, _<_}
+use Prim.Native.Nat.{ℕ, zero, suc, _≤_}
 use native.Mathlib.Omega.{arith}
 use lib.ListN.{length}
 use Rattle.laws.specs.Fold.{all}
 use Rattle.laws.specs.Tests.{allOf}
-use Rattle.answer.specs.Told.{tell, Answer, answered, refused}
-use Rattle.iosa.specs.Model.{Row, Comp, Model}
+use Rattle.answer.specs.Told.{tell, answered, refused}
+use Rattle.iosa.specs.Model.{Row, Comp}
 use Rattle.iosa.specs.WellFormed.{WellFormed}
 use Rattle.iosa.specs.Automaton.{Stable, Conforming, Joinable}
 use Rattle.iosa.specs.Product.{product, stateOf, Within, Series}
