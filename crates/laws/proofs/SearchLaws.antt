@@ -158,6 +158,16 @@ true-any f n k h e = go (any f n) refl
     go true g = refl
     go false g = absurd (true≢false (sym e ∙ any-false f n g k h))
 
+-- tests that agree below n
+pub any-same : (f g : ℕ → Bool) (n : ℕ) → ((k : ℕ) → k < n → f k ≡ g k) → any f n ≡ any g n
+any-same f g n h = go (any f n) refl (any g n) refl
+  where
+    go : (a : Bool) → any f n ≡ a → (b : Bool) → any g n ≡ b → a ≡ b
+    go true e true d = refl
+    go true e false d = let p = any-true f n e in absurd (true≢false (sym (p .2) ∙ h (p .0) (p .1) ∙ any-false g n d (p .0) (p .1)))
+    go false e true d = let p = any-true g n d in absurd (true≢false (sym (p .2) ∙ sym (h (p .0) (p .1)) ∙ any-false f n e (p .0) (p .1)))
+    go false e false d = refl
+
 -- ---- pairs: the lowest s, then the lowest a
 module _ {A : Type 0} (f : ℕ → ℕ → Bool) (x : ℕ → ℕ → A) (n m : ℕ) where
   pub least2-none : least2 f x n m ≡ none → (s a : ℕ) → s < n → a < m → f s a ≡ false
