@@ -1,14 +1,16 @@
 #include "conditions.hpp"
 
+#include <array>
+
 #include "active.hpp"
 
 namespace second {
 namespace {
 
-unsigned rows_by(const Component& component, unsigned state, unsigned action) {
-  unsigned rows = 0;
-  for (const Row& row : component.leaving(state))
-    if (row.action == action) ++rows;
+// How many rows leave the state by each action.
+std::array<unsigned, members> rows_by_action(const Component& component, unsigned state) {
+  std::array<unsigned, members> rows{};
+  for (const Row& row : component.leaving(state)) ++rows[row.action];
   return rows;
 }
 
@@ -36,21 +38,23 @@ Refusal no_clock_repeats(const Component& component, std::uint64_t first_row) {
 
 // (d).
 Refusal inputs_everywhere(const Component& component, std::uint64_t c) {
-  for (unsigned state = 0; state < component.states; ++state)
+  for (unsigned state = 0; state < component.states; ++state) {
+    const auto rows = rows_by_action(component, state);
     for (unsigned action = 0; action < members; ++action)
-      if (is_input(component.kind[action]) && rows_by(component, state, action) == 0)
-        return refuse(12, {c, state, action});
+      if (is_input(component.kind[action]) && rows[action] == 0) return refuse(12, {c, state, action});
+  }
   return {};
 }
 
 // (e) and the house rule, which are one search; `out` may have several rows.
 Refusal single_rows(const Component& component, std::uint64_t c) {
-  for (unsigned state = 0; state < component.states; ++state)
+  for (unsigned state = 0; state < component.states; ++state) {
+    const auto rows = rows_by_action(component, state);
     for (unsigned action = 0; action < members; ++action) {
       const Kind kind = component.kind[action];
-      if ((is_input(kind) || kind == Kind::uout) && rows_by(component, state, action) > 1)
-        return refuse(13, {c, state, action});
+      if ((is_input(kind) || kind == Kind::uout) && rows[action] > 1) return refuse(13, {c, state, action});
     }
+  }
   return {};
 }
 

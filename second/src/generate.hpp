@@ -37,8 +37,10 @@ Model generate_failing(Random& random, unsigned number, Size size);
 // A model that reading allows, with several faults of 10 to 18 at once.
 Model generate_faulty(Random& random, Size size);
 
-// A state of the model; the odd one may be of wrong length or range.
+// A state of the model; the calm one is stable if a few tries find one that is; the odd one may be
+// of wrong length or range.
 std::vector<std::uint8_t> generate_state(Random& random, const Model& model);
+std::vector<std::uint8_t> generate_calm_state(Random& random, const Model& model);
 std::vector<std::uint8_t> generate_odd_state(Random& random, const Model& model);
 
 // 0 to 4,096; the odd one may be over, up to 2^64 - 1.

@@ -1,4 +1,5 @@
 // What is lent beside a model: states, budgets, lists, clock values, merge indices.
+#include "active.hpp"
 #include "composition.hpp"
 #include "generate.hpp"
 
@@ -15,6 +16,17 @@ std::vector<std::uint8_t> generate_state(Random& random, const Model& model) {
   std::vector<std::uint8_t> state;
   for (const Component& component : model.components)
     state.push_back(static_cast<std::uint8_t>(random.below(component.states)));
+  return state;
+}
+
+std::vector<std::uint8_t> generate_calm_state(Random& random, const Model& model) {
+  std::vector<std::uint8_t> state;
+  for (const Component& component : model.components) {
+    // Components are stable or not each on its own, so each has its own tries.
+    unsigned part = random.below(component.states);
+    for (unsigned tries = 8; tries > 0 && !stable(component, part); --tries) part = random.below(component.states);
+    state.push_back(static_cast<std::uint8_t>(part));
+  }
   return state;
 }
 

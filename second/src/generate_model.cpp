@@ -17,9 +17,9 @@ Shape drawn_shape(Random& random, Size size) {
   switch (size) {
     case Size::small:
       shape.components = random.between(1, 4);
-      shape.states = random.between(1, 5);
-      shape.actions = random.between(1, 6);
-      shape.clocks = random.between(0, 4);
+      shape.states = random.between(1, 6);
+      shape.actions = random.between(1, 8);
+      shape.clocks = random.between(0, 6);
       break;
     case Size::medium:
       shape.components = random.between(1, 8);
@@ -34,7 +34,7 @@ Shape drawn_shape(Random& random, Size size) {
       shape.clocks = random.between(0, 64);
       break;
   }
-  shape.urgent_percent = random.pick(std::vector<unsigned>{20, 60, 60, 90, 100});
+  shape.urgent_percent = random.pick(std::vector<unsigned>{20, 40, 60, 80, 100});
   shape.hearing_percent = random.pick(std::vector<unsigned>{0, 20, 40, 70});
   return shape;
 }

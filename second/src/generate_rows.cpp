@@ -125,7 +125,10 @@ class Tuples {
     return static_cast<unsigned>(sizes.size() - 1);
   }
 
-  unsigned drawn_size() { return random.between(1, std::min(room, 4u)); }
+  unsigned drawn_size() {
+    const unsigned least = room > 1 && random.chance(80) ? 2 : 1;
+    return random.between(least, std::min(room, 4u));
+  }
 
   static unsigned taken(std::vector<unsigned>& actions) {
     const unsigned action = actions.back();
@@ -198,6 +201,7 @@ class Tuples {
 // Drops rows of `out` and starting clocks as long as everything still holds, so that active sets
 // aren't the same everywhere.
 void thin(Random& random, Component& component) {
+  if (component.rows.size() > 100) return;  // each try checks the whole component again
   for (unsigned tries = 6; tries > 0 && !component.rows.empty(); --tries) {
     Component thinner = component;
     const unsigned r = random.below(thinner.rows.size());
@@ -248,7 +252,7 @@ void fill_tuples(Random& random, Component& component, unsigned states, unsigned
 
 void fill_confluent(Random& random, Component& component, unsigned states, unsigned always) {
   // Now and then one that is confluent by luck, for shapes that tuples don't have.
-  if (always >= members && states <= 4) {
+  if (always >= members && states <= 4 && random.chance(30)) {
     for (unsigned tries = 4; tries > 0; --tries) {
       fill_accepted(random, component, states);
       if (sound_and_confluent(component)) return;

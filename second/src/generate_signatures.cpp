@@ -25,8 +25,15 @@ std::vector<Component> generate_signatures(Random& random, const Shape& shape) {
       else if (random.chance(shape.hearing_percent)) components[c].kind[action] = urgent ? Kind::uin : Kind::in;
     }
   }
-  for (unsigned clock : some_numbers(random, shape.clocks))
-    components[random.below(shape.components)].clocks |= only(clock);
+  // Most clocks go where an `out` row can wait for them.
+  std::vector<unsigned> timely;
+  for (unsigned c = 0; c < shape.components; ++c)
+    if (!actions_of_kind(components[c], Kind::out).empty()) timely.push_back(c);
+  for (unsigned clock : some_numbers(random, shape.clocks)) {
+    unsigned owner = random.below(shape.components);
+    if (!timely.empty() && random.chance(80)) owner = random.pick(timely);
+    components[owner].clocks |= only(clock);
+  }
   return components;
 }
 

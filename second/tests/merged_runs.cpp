@@ -35,7 +35,7 @@ void test_merged_runs() {
     const bool confluent = !lend_confluent(table).refusal;
     if (confluent) check(!lend_confluent(into).refusal, "and confluent if it was");
     for (unsigned from = 0; from < 4; ++from) {
-      const Part state = second::generate_state(random, model);
+      const Part state = from % 2 == 0 ? second::generate_state(random, model) : second::generate_calm_state(random, model);
       const Part pairs = paired(model, state, i);
       const auto one = lend_step(table, state);
       const auto other = lend_step(into, pairs);
