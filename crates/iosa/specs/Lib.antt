@@ -5,6 +5,8 @@ pub mod Text
 pub mod WellFormed
 pub mod Reading
 pub mod Checks
+pub mod Faults
+pub mod Greatest
 pub mod Step
 pub mod Settle
 pub mod Timed

@@ -4,3 +4,4 @@ pub mod FoldLaws
 pub mod TestLaws
 pub mod ListLaws
 pub mod PairLaws
+pub mod RangeLaws

@@ -30,6 +30,18 @@ leaves-parts r s a e = let p = and-true (eqb (r .from) s) (eqb (r .action) a) e 
 pub leads-at : (c : Comp) (k : ℕ) → k < length (c .rows) → Leads c (rowAt c k .from) (guardSet (rowAt c k .guard)) (rowAt c k .action) (rowAt c k .resets) (rowAt c k .target)
 leads-at c k h = record { place = k; inside = h; from = refl; guard = refl; action = refl; resets = refl; target = refl }
 
+pub row-eq : (r q : Row) → r .from ≡ q .from → r .guard ≡ q .guard → r .action ≡ q .action → r .resets ≡ q .resets → r .target ≡ q .target → r ≡ q
+row-eq r q f g a s t = λ i. record { from = f i; guard = g i; action = a i; resets = s i; target = t i }
+
+-- two rows of the relation at one place are one
+pub same-place : {c : Comp} {s v C D a b R Q t u : ℕ} (l : Leads c s C a R t) (m : Leads c v D b Q u) → l .place ≡ m .place → (C ≡ D) × (a ≡ b) × (R ≡ Q) × (t ≡ u)
+same-place {c} l m e = (
+  sym (l .guard) ∙ ap (λ k. guardSet (rowAt c k .guard)) e ∙ m .guard,
+  sym (l .action) ∙ ap (λ k. rowAt c k .action) e ∙ m .action,
+  sym (l .resets) ∙ ap (λ k. rowAt c k .resets) e ∙ m .resets,
+  sym (l .target) ∙ ap (λ k. rowAt c k .target) e ∙ m .target,
+)
+
 -- ---- what the search finds
 pub record FoundRow (c : Comp) (s a : ℕ) (r : Row) : Type 0 where
   pub place : ℕ
