@@ -1,1 +1,2 @@
 pub mod StepsByOffers
+pub mod Along
