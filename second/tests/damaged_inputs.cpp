@@ -105,7 +105,7 @@ void check_calls(Random& random, const Table& table, const Model& model) {
 
 void test_damaged_inputs() {
   Random random(9);
-  for (unsigned round = 0; round < 1200; ++round) {
+  for (unsigned round = 0; round < 800; ++round) {
     const Model model = drawn(random, round);
     const Text text = second::text_of_model(model);
     const Table table = second::image_of_model(model);

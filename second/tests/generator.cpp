@@ -70,6 +70,8 @@ void test_generator() {
       const second::Refusal refusal = lend_confluent(second::image_of_model(model)).refusal;
       check(refusal.number == number, "fails " + std::to_string(number) + " first: " + shown(refusal));
     }
-  check(digest(11) == digest(11), "one seed, one series");
+  // Drawn once and written down: another machine or compiler that draws otherwise shows here.
+  const std::uint64_t drawn = digest(11);
+  check(drawn == 0, "the series of seed 11, which is now " + std::to_string(drawn));
   check(digest(11) != digest(12), "another seed, another series");
 }

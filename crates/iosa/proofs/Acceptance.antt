@@ -11,3 +11,5 @@ pub mod GreatestSets
 pub mod Check14
 pub mod Pairs
 pub mod Accepted
+pub mod Check18
+pub mod ConfluentExactly

@@ -1,1 +1,8 @@
 -- Merging gives the product.
+pub mod Labels
+pub mod Guards
+pub mod Rows
+pub mod Product
+pub mod Ascend
+pub mod WellFormed
+pub mod Models

@@ -2,3 +2,8 @@
 pub mod Each
 pub mod Parts
 pub mod Closed
+pub mod Descent
+pub mod Rule
+pub mod ProductConditions
+pub mod ProductConfluent
+pub mod ProductOfMany

@@ -4,6 +4,7 @@ pub mod Product
 pub mod Text
 pub mod WellFormed
 pub mod Reading
+pub mod Line
 pub mod Checks
 pub mod Faults
 pub mod Greatest
@@ -13,3 +14,4 @@ pub mod Timed
 pub mod Merge
 pub mod Report
 pub mod Examples
+pub mod MergedExactly

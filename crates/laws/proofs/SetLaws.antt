@@ -1,6 +1,6 @@
 -- Laws of sets as numbers: the digits of the operations, their members, and equality by members.
 use mathlib.Core.Path.{_≡_, refl, sym, _∙_, ap, ap₂}
-use mathlib.Core.Logic.{_↔_, _≢_, _⊎_, inl, inr, by-cases}
+use mathlib.Core.Logic.{_↔_, _≢_, _⊎_, inl, inr, ⊎-elim, by-cases}
 use mathlib.Core.Bool.{Bool, true, false, _&&_, _||_, not, true≢false, false≢true}
 use Prim.Native.Nat.{ℕ, zero, suc, _+_, _-_, _*_, _/_, _%_, _^_, _≤_, _<_, min, max}
 use native.Mathlib.Omega.{arith}
@@ -11,6 +11,7 @@ use native.Mathlib.Decide.{decLt, ℕ-discrete}
 use lib.Bits.{bitAnd, bitOr, bitXor, differ, and-step, or-step, xor-step, or-shr, and-shr, xor-shr, or-comm, and-comm, or-zero-r, and-zero-r, and-mask, and-le-l, xor-add-and}
 use lib.Dec.{eqb}
 use borrow.Author.Tests.{eqb-true, eq-eqb, ne-eqb, not-true}
+use Rattle.laws.proofs.TestLaws.{not-so}
 use Rattle.laws.specs.Sets.{bit, has, _∖_ as without, within, _∈_, _⊆_, Apart}
 
 -- ---- the digits of the operations
@@ -199,3 +200,34 @@ without-lt k s t h = omega (arith, and-le-l s (bitXor s t))
 -- the set of one member tells it
 pub one-same : (x y : ℕ) → 2 ^ x ≡ 2 ^ y → x ≡ y
 one-same x y e = one-in y x (ap (λ n. has n x) (sym e) ∙ in-one x)
+
+-- ---- sets regrouped
+pub or-regroup : (a b c d : ℕ) → bitOr (bitOr a b) (bitOr c d) ≡ bitOr (bitOr a c) (bitOr b d)
+or-regroup a b c d = or-assoc a b (bitOr c d) ∙ ap (bitOr a) (sym (or-assoc b c d) ∙ ap (λ n. bitOr n d) (or-comm b c) ∙ or-assoc c b d) ∙ sym (or-assoc a c (bitOr b d))
+
+pub without-or : (s t : ℕ) → bitOr (without s t) t ≡ bitOr s t
+without-or s t = has-ext (bitOr (without s t) t) (bitOr s t) (λ x. simp (has-or, has-without) (go (has s x) (has t x)))
+  where
+    go : (a b : Bool) → ((a && not b) || b) ≡ (a || b)
+    go true true = refl
+    go true false = refl
+    go false b = refl
+
+-- what is taken off two parts that have nothing in common may be taken off at once
+pub without-regroup : (s t u v : ℕ) → Apart (bitOr s t) (bitOr u v) → bitOr (without s t) (without u v) ≡ without (bitOr s u) (bitOr t v)
+without-regroup s t u v h = same-members (bitOr (without s t) (without u v)) (without (bitOr s u) (bitOr t v)) to from
+  where
+    to : bitOr (without s t) (without u v) ⊆ without (bitOr s u) (bitOr t v)
+    to x m = ⊎-elim
+        (λ l. let p = in-without s t x l in without-in (bitOr s u) (bitOr t v) x (or-in-l s u x (p .0)) (or-not t v x (p .1) (not-so (has v x) (λ k. h x (or-in-l s t x (p .0)) (or-in-r u v x k)))))
+        (λ l. let p = in-without u v x l in without-in (bitOr s u) (bitOr t v) x (or-in-r s u x (p .0)) (or-not t v x (not-so (has t x) (λ k. h x (or-in-r s t x k) (or-in-l u v x (p .0)))) (p .1)))
+        (in-or (without s t) (without u v) x m)
+
+    from : without (bitOr s u) (bitOr t v) ⊆ bitOr (without s t) (without u v)
+    from x m =
+        let p = in-without (bitOr s u) (bitOr t v) x m in
+        let n = not-or t v x (p .1) in
+        ⊎-elim
+        (λ l. or-in-l (without s t) (without u v) x (without-in s t x l (n .0)))
+        (λ l. or-in-r (without s t) (without u v) x (without-in u v x l (n .1)))
+        (in-or s u x (p .0))

@@ -1,2 +1,3 @@
 pub mod Bridge
 pub mod ModelOf
+pub mod ReadBack

@@ -40,7 +40,7 @@ component-closed c w = record {
       };
 }
 
-go-own : (A : Automaton) → Closed A → {a C R : ℕ} {s t : A .State} → Go A a s C R t → Own A s C a R t
+pub go-own : (A : Automaton) → Closed A → {a C R : ℕ} {s t : A .State} → Go A a s C R t → Own A s C a R t
 go-own A cl (goes h r) = cl .own r
 go-own A cl (rests h p) = record { from = p; guard = λ x h. absurd (none-in x h); resets = λ x h. absurd (none-in x h); target = p }
 

@@ -1,0 +1,47 @@
+-- What it is for a merged component to be the product of two (01, "Composition").
+use mathlib.Core.Path.{_≡_}
+use mathlib.Core.Logic.{_↔_}
+use Prim.Native.Nat.{ℕ, suc, _*_, _<_}
+use lib.ListN.{length}
+use Rattle.iosa.specs.Model.{Comp, Model, compAt, inputs, outputs, urgents}
+use Rattle.iosa.specs.WellFormed.{WellFormed}
+use Rattle.iosa.specs.Automaton.{Leads, autoOf}
+use Rattle.iosa.specs.Product.{Joint, _⊗_}
+use Rattle.iosa.specs.Merge.{pairOf, merged}
+
+-- from x to y: x and y number pairs of states, and by R1, R2 or R3 the first pair goes to the second
+pub record PairRow (c d : Comp) (x C a R y : ℕ) : Type 0 where
+  pub s : ℕ
+  pub t : ℕ
+  pub s′ : ℕ
+  pub t′ : ℕ
+  pub s-below : s < c .states
+  pub t-below : t < d .states
+  pub s′-below : s′ < c .states
+  pub t′-below : t′ < d .states
+  pub from : x ≡ pairOf d s t
+  pub target : y ≡ pairOf d s′ t′
+  pub joint : Joint (autoOf c) (autoOf d) a s t C R s′ t′
+
+-- the merged component has the product's states, start, actions, clocks and rows, and no others
+pub record MergedExactly (c d : Comp) : Type 0 where
+  pub states : merged c d .states ≡ c .states * d .states
+  pub start : merged c d .start ≡ pairOf d (c .start) (d .start)
+  pub ins : inputs (merged c d) ≡ (autoOf c ⊗ autoOf d) .inputs
+  pub outs : outputs (merged c d) ≡ (autoOf c ⊗ autoOf d) .outputs
+  pub urgent : urgents (merged c d) ≡ (autoOf c ⊗ autoOf d) .urgent
+  pub clocks : merged c d .clocks ≡ (autoOf c ⊗ autoOf d) .clocks
+  pub started : merged c d .started ≡ (autoOf c ⊗ autoOf d) .started
+  -- "unreachable pairs included"
+  pub rows : (s t s′ t′ C a R : ℕ) → s < c .states → t < d .states → s′ < c .states → t′ < d .states
+      → Leads (merged c d) (pairOf d s t) C a R (pairOf d s′ t′) ↔ Joint (autoOf c) (autoOf d) a s t C R s′ t′
+  pub pairs : (x C a R y : ℕ) → Leads (merged c d) x C a R y → PairRow c d x C a R y
+
+-- n is m after "Merging replaces components i and i+1 by their product": the others as they were, in order, and a model that a text can state
+pub record MergedModel (m : Model) (i : ℕ) (n : Model) : Type 0 where
+  pub fewer : suc (length n) ≡ length m
+  pub before : (k : ℕ) → k < i → compAt n k ≡ compAt m k
+  pub here : compAt n i ≡ merged (compAt m i) (compAt m (suc i))
+  pub after : (k : ℕ) → i < k → compAt n k ≡ compAt m (suc k)
+  pub exact : MergedExactly (compAt m i) (compAt m (suc i))
+  pub well-formed : WellFormed n
