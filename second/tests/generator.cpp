@@ -72,6 +72,6 @@ void test_generator() {
     }
   // Drawn once and written down: another machine or compiler that draws otherwise shows here.
   const std::uint64_t drawn = digest(11);
-  check(drawn == 0, "the series of seed 11, which is now " + std::to_string(drawn));
+  check(drawn == 7644770271857229213u, "the series of seed 11, which is now " + std::to_string(drawn));
   check(digest(11) != digest(12), "another seed, another series");
 }

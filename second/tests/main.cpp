@@ -30,6 +30,7 @@ int main(int count, char** arguments) {
   timed("round trips", test_round_trips);
   timed("image words", test_image_words);
   timed("active by force", test_active_by_force);
+  timed("places by force", test_places_by_force);
   timed("confluence by force", test_confluence_by_force);
   timed("literal product", test_literal_product);
   timed("all orders", test_all_orders);

@@ -12,6 +12,7 @@ void test_request_refusals();
 void test_round_trips();
 void test_image_words();
 void test_active_by_force();
+void test_places_by_force();
 void test_confluence_by_force();
 void test_literal_product();
 void test_all_orders();

@@ -13,3 +13,9 @@ pub mod Pairs
 pub mod Accepted
 pub mod Check18
 pub mod ConfluentExactly
+pub mod Ranks
+pub mod Places
+pub mod FaultsAt
+pub mod InTurn
+pub mod Refused
+pub mod Clashes

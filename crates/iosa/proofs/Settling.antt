@@ -7,3 +7,9 @@ pub mod Rule
 pub mod ProductConditions
 pub mod ProductConfluent
 pub mod ProductOfMany
+pub mod UrgentOutputs
+pub mod Moves
+pub mod Steps
+pub mod Commute
+pub mod SeriesAndRuns
+pub mod Demand3

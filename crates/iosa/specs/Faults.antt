@@ -92,13 +92,17 @@ pub record Broken18 (c : Comp) (s a b : ℕ) : Type 0 where
   pub parted : {v : ℕ} → Leads c target 0 b resets′ v → Leads c target′ 0 a resets v → ⊥
 
 -- ---- the order of faults
--- what is told of a fault, and its rank: component, number, place; "then 15 to 17", as if of a component after the last. 10 and 11 tell the "row, from 0 over the system"
+-- what is told of a fault of component i, whose first row is row n of the system, and its rank: number, place
+pub data FaultAt (c : Comp) (i n : ℕ) : List ℕ → Told → Type 0 where
+  guarded : {k : ℕ} → Broken10 c k → FaultAt c i n (10 ∷ k ∷ []) (tell 10 ((n + k) ∷ []))
+  repeated : {k : ℕ} → Broken11 c k → FaultAt c i n (11 ∷ k ∷ []) (tell 11 ((n + k) ∷ []))
+  lacking : {s a : ℕ} → Broken12 c s a → FaultAt c i n (12 ∷ s ∷ a ∷ []) (tell 12 (i ∷ s ∷ a ∷ []))
+  doubled : {s a : ℕ} → Broken13 c s a → FaultAt c i n (13 ∷ s ∷ a ∷ []) (tell 13 (i ∷ s ∷ a ∷ []))
+  inactive : Broken14 c → FaultAt c i n (14 ∷ []) (tell 14 (i ∷ []))
+
+-- the rank in the system: component, number, place; "then 15 to 17", as if of a component after the last
 pub data Fault (m : Model) : List ℕ → Told → Type 0 where
-  guarded : {i k : ℕ} → i < length m → Broken10 (compAt m i) k → Fault m (i ∷ 10 ∷ k ∷ []) (tell 10 ((rowCount (take i m) + k) ∷ []))
-  repeated : {i k : ℕ} → i < length m → Broken11 (compAt m i) k → Fault m (i ∷ 11 ∷ k ∷ []) (tell 11 ((rowCount (take i m) + k) ∷ []))
-  lacking : {i s a : ℕ} → i < length m → Broken12 (compAt m i) s a → Fault m (i ∷ 12 ∷ s ∷ a ∷ []) (tell 12 (i ∷ s ∷ a ∷ []))
-  doubled : {i s a : ℕ} → i < length m → Broken13 (compAt m i) s a → Fault m (i ∷ 13 ∷ s ∷ a ∷ []) (tell 13 (i ∷ s ∷ a ∷ []))
-  inactive : {i : ℕ} → i < length m → Broken14 (compAt m i) → Fault m (i ∷ 14 ∷ []) (tell 14 (i ∷ []))
+  inside : {i : ℕ} {q : List ℕ} {t : Told} → i < length m → FaultAt (compAt m i) i (rowCount (take i m)) q t → Fault m (i ∷ q) t
   output-shared : {a i j : ℕ} → Broken15 m a i j → Fault m (length m ∷ 15 ∷ a ∷ i ∷ j ∷ []) (tell 15 (a ∷ i ∷ j ∷ []))
   clock-shared : {x i j : ℕ} → Broken16 m x i j → Fault m (length m ∷ 16 ∷ x ∷ i ∷ j ∷ []) (tell 16 (x ∷ i ∷ j ∷ []))
   urgency-differs : {a i j : ℕ} → Broken17 m a i j → Fault m (length m ∷ 17 ∷ a ∷ i ∷ j ∷ []) (tell 17 (a ∷ i ∷ j ∷ []))

@@ -10,6 +10,7 @@ pub mod Faults
 pub mod Greatest
 pub mod Step
 pub mod Settle
+pub mod Demand3
 pub mod Timed
 pub mod Merge
 pub mod Report
