@@ -1,2 +1,3 @@
 pub mod StepsByOffers
 pub mod Along
+pub mod Ready
