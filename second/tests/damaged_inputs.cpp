@@ -44,9 +44,19 @@ void check_report(const Text& request, const Part& state, std::uint64_t budget, 
   const auto run = lend_settle(table, state, budget, trace);
   check(refusal == run.refusal, "the report refuses as settling does");
   if (run.refusal) return;
+  std::string steps;
+  Part at = state;
+  for (std::uint64_t count = 1; count <= std::min<std::uint64_t>(run.steps, 40); ++count) {
+    const auto step = lend_step(table, at);
+    at = parts_of(step.state);
+    steps += "step\t" + std::to_string(count) + '\t' + std::to_string(step.action) + '\t' +
+             second::text_of_set(step.resets) + '\t' + second::text_of_state(step.state) + '\n';
+  }
+  check(report.compare(0, steps.size(), steps) == 0, "the report's step lines are the steps");
   const std::string last = (run.verdict == second::Verdict::stable ? "stable\t" : "unsettled\t") +
                            std::to_string(run.steps) + '\t' + second::text_of_set(run.resets) + '\t' +
                            second::text_of_state(run.state) + '\n';
+  check(run.steps > 40 || report == steps + last, "the report is the steps and the verdict");
   check(report.size() >= last.size() && report.compare(report.size() - last.size(), last.size(), last) == 0,
         "the report ends as settling does");
   check(std::count(report.begin(), report.end(), '\n') == static_cast<long>(run.steps) + 1, "one line for each step");

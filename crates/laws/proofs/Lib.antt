@@ -5,3 +5,4 @@ pub mod TestLaws
 pub mod ListLaws
 pub mod PairLaws
 pub mod RangeLaws
+pub mod TabLaws

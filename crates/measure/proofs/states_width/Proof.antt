@@ -1,0 +1,69 @@
+-- `measure::states_width`: what is counted and what is left make the whole.
+use mathlib.Core.Path.{_≡_}
+use Prim.Native.Nat.{_+_, _-_}
+use native.Mathlib.Omega.{arith}
+use lib.ListN.{length}
+use Rattle.laws.specs.Fold.{spread}
+use Rattle.iosa.specs.Text.{rowLines}
+use Rattle.layout.specs.Image.{rowsLeaving, compOf}
+use Rattle.measure.proofs.Lines.{rows-most, ranges-next, ranges-done}
+use Rattle.measure.proofs.Bounds.{rows-few, leaving-is, all-leaving}
+use Rattle.measure.proofs.states_width.Statement.{statement}
+use Rattle.measure.proofs.states_width.Tie as tie
+
+abbrev Inv-loop : tie.InvT-loop
+Inv-loop t i states sum₀ s₀ sum s = sum + length (rowLines (spread (rowsLeaving t i) s (states - s))) ≡ length (rowLines (compOf t i .rows))
+
+abbrev μ-loop : tie.MeasureT-loop
+μ-loop t i states sum₀ s₀ sum s = states - s
+
+block-word-requires : tie.Need-block-word-requires Inv-loop μ-loop
+block-word-requires c κs = (c .before .pre .0 .long, c .before .pre .1, omega arith)
+
+loop-holds : tie.Need-loop-holds Inv-loop μ-loop
+loop-holds c = omega (arith, all-leaving (c .before .before .args .t .now) (c .before .before .args .i) (c .block-word .result) (c .block-word .ensures))
+
+first-of-requires : tie.Need-first-of-requires Inv-loop μ-loop
+first-of-requires c κs = (c .before .before .before .before .pre .0 .long, c .before .before .before .before .pre .1, omega (arith, c .before .before .before .before .pre .0 .states (c .before .before .before .before .args .i) (c .before .before .before .before .pre .1)))
+
+add-first-of : tie.Need-add-first-of Inv-loop μ-loop
+add-first-of c = omega arith
+
+first-of-requires-2 : tie.Need-first-of-requires-2 Inv-loop μ-loop
+first-of-requires-2 c κs = (c .before .before .before .before .before .pre .0 .long, c .before .before .before .before .before .pre .1, omega (arith, c .before .before .before .before .before .pre .0 .states (c .before .before .before .before .before .args .i) (c .before .before .before .before .before .pre .1)))
+
+rows-width-requires : tie.Need-rows-width-requires Inv-loop μ-loop
+rows-width-requires c κs = (c .before .before .before .before .before .before .pre .0 .long, omega (arith, c .before .before .before .before .before .before .pre .0 .firsts (c .before .before .before .before .before .before .args .i) (c .before .before .before .loop .s + 1) (c .before .before .before .before .before .before .pre .1) (omega (arith, c .before .before .before .before .before .before .pre .0 .states (c .before .before .before .before .before .before .args .i) (c .before .before .before .before .before .before .pre .1)))))
+
+add-sum : tie.Need-add-sum Inv-loop μ-loop
+add-sum c = omega (arith, ranges-next (rowsLeaving (c .before .before .before .before .before .before .before .args .t .now) (c .before .before .before .before .before .before .before .args .i)) (c .before .before .before .before .loop .s) (c .before .before .before .before .before .block-word .result) (c .before .before .before .loop-test .taken), leaving-is (c .before .before .before .before .before .before .before .args .t .now) (c .before .before .before .before .before .before .before .args .i) (c .before .before .before .before .loop .s) (c .before .before .first-of .result) (c .before .first-of2 .result) (c .before .before .first-of .ensures) (c .before .first-of2 .ensures), rows-most (compOf (c .before .before .before .before .before .before .before .args .t .now) (c .before .before .before .before .before .before .before .args .i) .rows), rows-few (c .before .before .before .before .before .before .before .args .t .now) (c .before .before .before .before .before .before .before .pre .0) (c .before .before .before .before .before .before .before .args .i) (c .before .before .before .before .before .before .before .pre .1))
+
+add-s : tie.Need-add-s Inv-loop μ-loop
+add-s c = omega arith
+
+loop-less : tie.Need-loop-less Inv-loop μ-loop
+loop-less c = omega arith
+
+loop-again : tie.Need-loop-again Inv-loop μ-loop
+loop-again c = omega (arith, ranges-next (rowsLeaving (c .before .before .before .before .before .before .before .args .t .now) (c .before .before .before .before .before .before .before .args .i)) (c .before .before .before .before .loop .s) (c .before .before .before .before .before .block-word .result) (c .before .before .before .loop-test .taken), leaving-is (c .before .before .before .before .before .before .before .args .t .now) (c .before .before .before .before .before .before .before .args .i) (c .before .before .before .before .loop .s) (c .before .before .first-of .result) (c .before .first-of2 .result) (c .before .before .first-of .ensures) (c .before .first-of2 .ensures))
+
+returns : tie.Need-returns Inv-loop μ-loop
+returns c = omega (arith, ranges-done (rowsLeaving (c .before .before .before .before .args .t .now) (c .before .before .before .before .args .i)) (c .before .loop .s) (c .before .before .block-word .result) (c .loop-test .left))
+
+pub states-width-spec : {M : Type 1} → statement M
+states-width-spec =
+    tie.close
+    (tie.spec
+    Inv-loop
+    μ-loop
+    block-word-requires
+    loop-holds
+    first-of-requires
+    add-first-of
+    first-of-requires-2
+    rows-width-requires
+    add-sum
+    add-s
+    loop-less
+    loop-again
+    returns)

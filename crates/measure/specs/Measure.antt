@@ -1,0 +1,26 @@
+-- Bytes by the members of a set (01, "The model text").
+use mathlib.Core.Bool.{cond}
+use mathlib.Core.List.{List}
+use Prim.Native.Nat.{ℕ, _+_}
+use lib.ListN.{length}
+use Rattle.laws.specs.Sets.{has}
+use Rattle.laws.specs.Fold.{tab, spread, sum}
+use Rattle.sets.specs.Members.{wordBits}
+use Rattle.answer.specs.Limits.{maxActions, maxClocks}
+use Rattle.iosa.specs.Model.{Comp}
+use Rattle.iosa.specs.Text.{decimal, actPart, clkPart}
+
+-- "first its `act` lines, then `clk`, then `row`": the lines of the first two kinds
+unfoldable pub actLines : Comp → List ℕ
+actLines c = spread (actPart c) 0 maxActions
+
+unfoldable pub clkLines : Comp → List ℕ
+clkLines c = spread (clkPart c) 0 maxClocks
+
+-- the most that stands beside one number in a line with one: `act`, two tabs, `uout`, LF
+abbrev pub mostBeside : ℕ
+mostBeside = 10
+
+-- the bytes of all members of s in decimal, with e bytes beside each
+unfoldable pub perMember : ℕ → ℕ → ℕ
+perMember s e = sum (tab (λ x. cond (has s x) (e + length (decimal x)) 0) 0 wordBits)
