@@ -1,3 +1,4 @@
 pub mod StepsByOffers
 pub mod Along
 pub mod Ready
+pub mod OneRow
