@@ -3,7 +3,8 @@ use mathlib.Core.Path.{_≡_, refl, sym, _∙_, ap}
 use mathlib.Core.Logic.{_⊎_, inl, inr, by-cases}
 use mathlib.Core.Bool.{Bool, true, false, _&&_, _||_, not, true≢false, false≢true}
 use mathlib.Core.List.{List, [], _∷_}
-use Prim.Native.Nat.{ℕ, _≤_, _<_}
+use Prim.Native.Nat.{ℕ, zero, suc, _≤_, _<_}
+use lib.ListN.{getD}
 use native.Mathlib.Omega.{arith}
 use native.Mathlib.Decide.{ℕ-discrete, decLt}
 use Rattle.laws.specs.Tests.{both, allOf, Each}
@@ -46,6 +47,13 @@ pub each : (bs : List Bool) → allOf bs ≡ true → Each bs
 unfolding allOf
 each [] e = tt
 each (b ∷ bs) e = let p = and-true b (allOf bs) e in (p .0, each bs (p .1))
+
+-- test number i
+pub test-at : (bs : List Bool) → allOf bs ≡ true → (i : ℕ) → getD bs i true ≡ true
+unfolding allOf
+test-at [] e i = refl
+test-at (b ∷ bs) e zero = and-true b (allOf bs) e .0
+test-at (b ∷ bs) e (suc i) = test-at bs (and-true b (allOf bs) e .1) i
 
 -- two numbers: the same, or one is below the other
 pub apart-cases {ℓ} : {P : Type ℓ} (j k : ℕ) → (j ≡ k → P) → (j < k → P) → (k < j → P) → P
