@@ -2,3 +2,4 @@ pub mod StepsByOffers
 pub mod Along
 pub mod Ready
 pub mod OneRow
+pub mod Offered
