@@ -43,16 +43,16 @@ abbrev restPart : Comp → ℕ → ℕ
 restPart c s = cond (unstable c s) (c .clocks) (enablingOf c s)
 
 module _ (c : Comp) where
+  parts-allowed : (s x : ℕ) → x ∈ c .clocks → x ∈ startPart c s → x ∈ restPart c s → x ∈ allowed c s
+  unfolding allowed
+  parts-allowed s x p q r = and-in (c .clocks) (startPart c s ∩ restPart c s) x p (and-in (startPart c s) (restPart c s) x q r)
+
   allowed-parts : (s x : ℕ) → x ∈ allowed c s → (x ∈ c .clocks) × (x ∈ startPart c s) × (x ∈ restPart c s)
   unfolding allowed
   allowed-parts s x h =
       let p = in-and (c .clocks) (startPart c s ∩ restPart c s) x h in
       let q = in-and (startPart c s) (restPart c s) x (p .1) in
       (p .0, q .0, q .1)
-
-  parts-allowed : (s x : ℕ) → x ∈ c .clocks → x ∈ startPart c s → x ∈ restPart c s → x ∈ allowed c s
-  unfolding allowed
-  parts-allowed s x p q r = and-in (c .clocks) (startPart c s ∩ restPart c s) x p (and-in (startPart c s) (restPart c s) x q r)
 
 handed-grows : (t u C R : ℕ) → t ⊆ u → (t ∖ C ∪ R) ⊆ (u ∖ C ∪ R)
 handed-grows t u C R f x h = ⊎-elim
