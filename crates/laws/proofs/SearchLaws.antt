@@ -206,3 +206,11 @@ module _ {A : Type 0} (f : ℕ → ℕ → Bool) (x : ℕ → ℕ → A) (n m : 
     here = some-seek (λ a. when (f s a) (x s a)) 0 m (record { place = a; from = omega arith; below = l .second; here = rw (l .here); least = λ b p q. rw (l .before b q) });
     least = λ t p q. none-seek (λ a. when (f t a) (x t a)) 0 m (λ b u v. rw (l .lower t b q v));
   })
+
+-- ---- how a loop that tests goes on
+module _ (g : ℕ → Bool) (lo hi : ℕ) (h : lo < hi) where
+  pub test-here : g lo ≡ true → seek (λ k. when (g k) k) lo hi ≡ some lo
+  test-here e = seek-here (λ k. when (g k) k) lo hi h (rw e)
+
+  pub test-next : g lo ≡ false → seek (λ k. when (g k) k) lo hi ≡ seek (λ k. when (g k) k) (lo + 1) hi
+  test-next e = seek-next (λ k. when (g k) k) lo hi h (rw e)
