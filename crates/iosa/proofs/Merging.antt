@@ -1,6 +1,5 @@
 -- Merging gives the product.
 pub mod Labels
-pub mod Guards
 pub mod Rows
 pub mod Product
 pub mod Ascend

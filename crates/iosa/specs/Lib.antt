@@ -5,6 +5,7 @@ pub mod Text
 pub mod WellFormed
 pub mod Reading
 pub mod Line
+pub mod Faulty
 pub mod Checks
 pub mod Faults
 pub mod Greatest
@@ -16,4 +17,6 @@ pub mod Timed
 pub mod Merge
 pub mod Report
 pub mod Examples
+pub mod LooksRight
 pub mod MergedExactly
+pub mod TimedExactly

@@ -34,6 +34,10 @@ pub and-false : (a b : Bool) → (a && b) ≡ false → a ≡ true → b ≡ fal
 and-false true b e h = e
 and-false false b e h = absurd (false≢true h)
 
+pub or-false : (a b : Bool) → (a || b) ≡ false → (a ≡ false) × (b ≡ false)
+or-false true b e = absurd (true≢false e)
+or-false false b e = (refl, e)
+
 pub and-not-both : (p q : Bool) → (p ≡ true → q ≡ true → ⊥) → (p && q) ≡ false
 and-not-both true true f = absurd (f refl refl)
 and-not-both true false f = refl

@@ -5,3 +5,5 @@ pub mod RowsAscend
 pub mod ModelOfImage
 pub mod RowsOfRange
 pub mod ImageIsSane
+pub mod LowestAction
+pub mod WalkByStates

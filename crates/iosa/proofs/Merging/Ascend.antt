@@ -20,7 +20,7 @@ use Rattle.iosa.specs.Automaton.{Leads, autoOf, Conditions, Compatible}
 use Rattle.iosa.specs.Checks.{leaves, unclocked}
 use Rattle.iosa.specs.Merge.{rowsBy, pairOf, firstMoves, secondMoves, bothMove, joinGuards, eachWith, pairRows, productRows}
 use Rattle.iosa.proofs.Acceptance.Order.{before-irreflexive, before-transitive}
-use Rattle.iosa.proofs.Merging.Guards.{no-guard, one-guard}
+use Rattle.iosa.proofs.Acceptance.Guards.{guard-zero, guard-same}
 use Rattle.iosa.proofs.Merging.Rows.{rows-by-in, rows-by-lead, each-with-in, input-unguarded, pair-rows-in}
 
 abbrev pub Before : Row → Row → Type 0
@@ -137,7 +137,7 @@ module _ (c : Comp) (o : Conditions (autoOf c)) (s a : ℕ) where
       single : a ∈ unclocked c → ⊥
       single u =
           let e = o .condE .same u lr lq in
-          not-before r q b same-from (no-guard (r .guard) (o .condA .unguarded lr u) ∙ sym (no-guard (q .guard) (o .condA .unguarded lq u))) same-action (e .1) (e .2)
+          not-before r q b same-from (guard-zero (r .guard) (o .condA .unguarded lr u) ∙ sym (guard-zero (q .guard) (o .condA .unguarded lq u))) same-action (e .1) (e .2)
 
       less : (x y : ℕ) → r .guard ≡ suc x → q .guard ≡ suc y → x < y
       less x y e f =
@@ -157,8 +157,8 @@ module _ (c : Comp) (o : Conditions (autoOf c)) (s a : ℕ) where
           let calm : a ∈ urgents c → ⊥ = λ i. true≢false (sym (or-in-r (inputs c) (urgents c) a i) ∙ u) in
           let x = o .condB .guarded lr out calm in
           let y = o .condB .guarded lq out calm in
-          let e = one-guard (r .guard) (x .0) (x .1) in
-          let f = one-guard (q .guard) (y .0) (y .1) in
+          let e = guard-same (r .guard) (suc (x .0)) (x .1) in
+          let f = guard-same (q .guard) (suc (y .0)) (y .1) in
           record { output = out; x = x .0; y = y .0; first = e; second = f; less = less (x .0) (y .0) e f }
 
 -- ---- the rows of one pair and action

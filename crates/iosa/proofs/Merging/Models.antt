@@ -10,7 +10,7 @@ use lib.Dec.{ltb}
 use borrow.Author.Tests.{ltb-true, ltb-false, not-false}
 use Rattle.laws.specs.Search.{when, orElse}
 use Rattle.laws.proofs.SearchLaws.{or-else-none, when-none}
-use Rattle.laws.proofs.TestLaws.{apart-cases}
+use Rattle.laws.proofs.TestLaws.{apart-cases, or-false}
 use Rattle.laws.proofs.ListLaws.{joined-length, joined-before, joined-here, joined-after}
 use Rattle.answer.specs.Limits.{maxStates, maxRows, maxBytes}
 use Rattle.answer.specs.Told.{Told, Answer, answered, refused, tell}
@@ -21,6 +21,7 @@ use Rattle.iosa.specs.Automaton.{autoOf, Conforming, Joinable}
 use Rattle.iosa.specs.Checks.{acceptOf}
 use Rattle.iosa.specs.Merge.{merged, mergedAt, neighbourFault, sizeFault, mergeOf}
 use Rattle.iosa.specs.MergedExactly.{MergedExactly, MergedModel}
+use Rattle.iosa.proofs.Acceptance.Accepted.{accepted-exactly}
 use Rattle.iosa.proofs.Merging.Product.{merged-is-the-product}
 use Rattle.iosa.proofs.Merging.WellFormed.{merged-is-well-formed}
 
@@ -30,10 +31,6 @@ pub record Fits (m : Model) (i : ℕ) : Type 0 where
   pub states : compAt m i .states * compAt m (suc i) .states ≤ maxStates
   pub rows : rowCount (mergedAt m i) ≤ maxRows
   pub bytes : length (textOf (mergedAt m i)) ≤ maxBytes
-
-or-false : (a b : Bool) → (a || b) ≡ false → (a ≡ false) × (b ≡ false)
-or-false true b e = absurd (true≢false e)
-or-false false b e = (refl, e)
 
 pub no-fault-fits : (m : Model) (i : ℕ) → neighbourFault m i ≡ none → sizeFault m i ≡ none → Fits m i
 unfolding neighbourFault sizeFault
@@ -111,6 +108,9 @@ module _ (m : Model) (i : ℕ) (w : WellFormed m) (o : Conforming m) (j : Joinab
     well-formed = merged-model-is-well-formed;
   }
 
--- what merging answers for an accepted model
-pub merging-is-exact : (m : Model) (i : ℕ) (room : Option Told) (n : Model) → WellFormed m → Conforming m → Joinable m → mergeOf m i room ≡ answered n → MergedModel m i n
-merging-is-exact m i room n w o j e = let p = merge-answers m i room n e in rw (p .0) (merged-model-is-exact m i w o j (p .2))
+-- what merging answers
+pub merging-is-exact : (m : Model) (i : ℕ) (room : Option Told) (n : Model) → WellFormed m → mergeOf m i room ≡ answered n → MergedModel m i n
+merging-is-exact m i room n w e =
+    let p = merge-answers m i room n e in
+    let a = accepted-exactly m w .0 (p .1) in
+    rw (p .0) (merged-model-is-exact m i w (a .0) (a .1) (p .2))
