@@ -88,9 +88,9 @@ module _ (t : List ℕ) (l : Laid t) (w : WellFormed (modelOf t)) where
   block-same : (i k : ℕ) → i < maxComponents → k < blockWords → blockWord t i k ≡ blockWord t′ i k
   block-same i k h q = elim (decLt i (countOf t)) [
     | yes p ↦
-      sym
-      (block-is m t′ w whole i k (omega (arith, model-length t)) q
-      ∙ rw (laid-start i p, comp-at t i p) (block-own t i k l p q))
+        sym
+        (block-is m t′ w whole i k (omega (arith, model-length t)) q
+        ∙ rw (laid-start i p, comp-at t i p) (block-own t i k l p q))
     | no p ↦ l .blocks i k (omega arith) h q ∙ sym (no-block m t′ w whole i k (omega (arith, model-length t)) h q)
   ]
 
@@ -112,8 +112,8 @@ module _ (t : List ℕ) (l : Laid t) (w : WellFormed (modelOf t)) where
   row-same r v h q = elim (decLt r (rowCount m)) [
     | yes p ↦ go (row-of m r p)
     | no p ↦
-      l .rows (countOf t - 1) r v (omega (arith, w .some, model-length t)) (omega (arith, laid-end (countOf t - 1) (omega (arith, w .some, model-length t)))) h q
-      ∙ sym (no-row m t′ w whole r v (omega arith) h q)
+        l .rows (countOf t - 1) r v (omega (arith, w .some, model-length t)) (omega (arith, laid-end (countOf t - 1) (omega (arith, w .some, model-length t)))) h q
+        ∙ sym (no-row m t′ w whole r v (omega arith) h q)
   ]
     where
       go : ((i : ℕ) × (k : ℕ) × (i < length m) × (k < length (compAt m i .rows)) × (r ≡ rowCount (take i m) + k)) → getD t (rowsAt + rowWords * r + v) 0 ≡ getD t′ (rowsAt + rowWords * r + v) 0
@@ -121,10 +121,10 @@ module _ (t : List ℕ) (l : Laid t) (w : WellFormed (modelOf t)) where
           let p : x .0 < countOf t = omega (arith, model-length t, x .2) in
           let e = comp-at t (x .0) p in
           rw (x .4) (sym
-            (row-word m t′ w whole (x .0) (x .1) v (x .2) (x .3) q
-            ∙ ap (λ c. getD (wordsOf (rowAt c (x .1))) v 0) e
-            ∙ own-row (x .0) (x .1) v p (rw (← e) (x .3)) q
-            ∙ ap (λ n. getD t (rowsAt + rowWords * (n + x .1) + v) 0) (sym (laid-start (x .0) p))))
+          (row-word m t′ w whole (x .0) (x .1) v (x .2) (x .3) q
+          ∙ ap (λ c. getD (wordsOf (rowAt c (x .1))) v 0) e
+          ∙ own-row (x .0) (x .1) v p (rw (← e) (x .3)) q
+          ∙ ap (λ n. getD t (rowsAt + rowWords * (n + x .1) + v) 0) (sym (laid-start (x .0) p))))
 
   -- word j is the count, a block's word or a row's
   word-same : (j : ℕ) → j < imageWords → getD t j 0 ≡ getD t′ j 0
@@ -132,12 +132,12 @@ module _ (t : List ℕ) (l : Laid t) (w : WellFormed (modelOf t)) where
   word-same zero h = sym (count-is m t′ w whole ∙ model-length t)
   word-same (suc j) h = elim (decLt j (blockWords * maxComponents)) [
     | yes p ↦
-      let e : suc j ≡ 1 + blockWords * (j / blockWords) + j % blockWords = omega arith in
-      rw e (block-same (j / blockWords) (j % blockWords) (omega arith) (omega arith))
+        let e : suc j ≡ 1 + blockWords * (j / blockWords) + j % blockWords = omega arith in
+        rw e (block-same (j / blockWords) (j % blockWords) (omega arith) (omega arith))
     | no p ↦
-      let r = j - blockWords * maxComponents in
-      let e : suc j ≡ rowsAt + rowWords * (r / rowWords) + r % rowWords = omega arith in
-      rw e (row-same (r / rowWords) (r % rowWords) (omega arith) (omega arith))
+        let r = j - blockWords * maxComponents in
+        let e : suc j ≡ rowsAt + rowWords * (r / rowWords) + r % rowWords = omega arith in
+        rw e (row-same (r / rowWords) (r % rowWords) (omega arith) (omega arith))
   ]
 
   pub front-of-model : take imageWords t ≡ imageOf (modelOf t)

@@ -3,6 +3,7 @@ pub mod ModelOf
 pub mod ReadBack
 pub mod RowsAscend
 pub mod UpwardRanges
+pub mod WellByRanges
 pub mod ModelOfImage
 pub mod RowsOfRange
 pub mod ImageIsSane
