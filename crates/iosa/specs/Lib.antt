@@ -12,9 +12,11 @@ pub mod Greatest
 pub mod Step
 pub mod Settle
 pub mod Demand3
+pub mod Stepped
 pub mod Timed
 pub mod Merge
 pub mod Report
 pub mod Examples
+pub mod LooksRight
 pub mod MergedExactly
 pub mod TimedExactly
