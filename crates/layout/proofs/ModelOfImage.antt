@@ -102,3 +102,15 @@ one-model m m′ w w′ e = sym (model-of-image m w) ∙ ap modelOf e ∙ model-
 
 pub model-of : (t : List ℕ) (im : Image t) → modelOf t ≡ im .model
 model-of t im = model-is (im .model) t (im .well) (im .front)
+
+-- every well-formed model has its image
+pub image-of-model : (m : Model) → WellFormed m → Image (imageOf m)
+image-of-model m w = record { model = m; well = w; front = take-all imageWords (imageOf m) (omega (arith, length-of-image m w)) }
+
+-- and only the one: two tables of one model have one front
+pub one-image : (t t′ : List ℕ) → Image t → Image t′ → modelOf t ≡ modelOf t′ → take imageWords t ≡ take imageWords t′
+one-image t t′ im im′ e = im .front ∙ ap imageOf (sym (model-of t im) ∙ e ∙ model-of t′ im′) ∙ sym (im′ .front)
+
+-- what stands behind the front does not count
+pub image-by-front : (t t′ : List ℕ) → take imageWords t ≡ take imageWords t′ → Image t → Image t′
+image-by-front t t′ e im = record { model = im .model; well = im .well; front = sym e ∙ im .front }
