@@ -1,15 +1,15 @@
 -- The model of an image is the model it was made from, so one model has one image, and one image one model.
-use mathlib.Core.Path.{_≡_, refl, sym, _∙_, ap}
-use mathlib.Core.List.{List, [], _∷_, _++_}
+use mathlib.Core.Path.{_≡_, sym, _∙_, ap}
+use mathlib.Core.List.{List, _∷_, _++_}
 use Prim.Native.Nat.{ℕ, zero, suc, _+_, _-_, _≤_, _<_}
 use native.Mathlib.Omega.{arith}
 use native.Mathlib.Decide.{decLt}
 use lib.ListN.{length, getD, take, drop}
-use lib.Seq.{take-length, take-all, drop-length, drop-cons, ext-getD}
+use lib.Seq.{take-all, drop-length, drop-cons, ext-getD}
 use Rattle.laws.specs.Fold.{tab, spread}
-use Rattle.iosa.specs.Model.{Row, Comp, Model, noRow, noComp, rowAt, compAt, rowCount}
-use Rattle.iosa.specs.WellFormed.{WellComp, WellFormed}
-use Rattle.layout.specs.Layout.{blockWords, imageWords, countOf, blockWord, firstOf, actionAt, guardAt, resetsAt, targetAt}
+use Rattle.iosa.specs.Model.{Comp, Model, noRow, noComp, rowAt, compAt, rowCount}
+use Rattle.iosa.specs.WellFormed.{WellFormed}
+use Rattle.layout.specs.Layout.{blockWords, imageWords, blockWord}
 use Rattle.layout.specs.Image.{leaveBelow, blockOf, imageOf, rowIn, rowsLeaving, compOf, modelOf, Image}
 use Rattle.layout.proofs.ModelOf.{model-length, comp-at}
 use Rattle.layout.proofs.ReadBack.{length-of-image, count-is, block-is, first-is, action-is, guard-is, resets-is, target-is}
