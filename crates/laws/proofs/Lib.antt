@@ -7,4 +7,5 @@ pub mod PairLaws
 pub mod TickLaws
 pub mod MinimalLaws
 pub mod RangeLaws
+pub mod GrowLaws
 pub mod TabLaws

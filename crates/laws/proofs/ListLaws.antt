@@ -2,7 +2,7 @@
 use mathlib.Core.Path.{_≡_, refl, sym, _∙_, ap}
 use mathlib.Core.Logic.{_⊎_, inl, inr, ⊎-elim}
 use mathlib.Core.Bool.{Bool, true, false}
-use mathlib.Core.List.{List, [], _∷_, _++_, map, List·Memᴰ as In, List·Memᴰ·head as here, List·Memᴰ·tail as there, List·Memᴰ·not-nil as in-none, List·Memᴰ·append-cases as append-cases, Memᴰ·append-left as in-left, Memᴰ·append-right as in-right}
+use mathlib.Core.List.{List, [], _∷_, _++_, map, reverseAux, List·Memᴰ as In, List·Memᴰ·head as here, List·Memᴰ·tail as there, List·Memᴰ·not-nil as in-none, List·Memᴰ·append-cases as append-cases, Memᴰ·append-left as in-left, Memᴰ·append-right as in-right}
 use Prim.Native.Nat.{ℕ, zero, suc, _+_, _-_, _≤_, _<_}
 use native.Mathlib.Omega.{arith}
 use native.Mathlib.Decide.{ℕ-discrete}
@@ -121,3 +121,22 @@ module _ {A : Type 0} (d x : A) (l : List A) (i : ℕ) (h : suc i < length l) wh
       let e : j ≡ length (take i l) + suc (j - suc i) = omega (arith, front) in
       let f : suc (suc i) + (j - suc i) ≡ suc j = omega arith in
       ap (λ n. getD joinedAt n d) e ∙ getD-append-add (take i l) (x ∷ drop (suc (suc i)) l) (suc (j - suc i)) d ∙ getD-drop (suc (suc i)) l (j - suc i) d ∙ ap (λ n. getD l n d) f
+
+-- ---- what holds of every member
+abbrev pub All : {A : Type 0} → (A → Type 0) → List A → Type 0
+All P [] = Unit {0}
+All P (x ∷ xs) = P x × All P xs
+
+module _ {A : Type 0} (P : A → Type 0) where
+  pub all-at : (d : A) (xs : List A) → All P xs → (i : ℕ) → i < length xs → P (getD xs i d)
+  all-at d [] h i l = absurd (omega arith)
+  all-at d (x ∷ xs) h zero l = h .0
+  all-at d (x ∷ xs) h (suc i) l = all-at d xs (h .1) i (omega arith)
+
+  pub at-all : (d : A) (xs : List A) → ((i : ℕ) → i < length xs → P (getD xs i d)) → All P xs
+  at-all d [] h = tt
+  at-all d (x ∷ xs) h = (h 0 (omega arith), at-all d xs (λ i l. h (suc i) (omega arith)))
+
+  pub all-reverse : (xs ys : List A) → All P xs → All P ys → All P (reverseAux xs ys)
+  all-reverse [] ys h k = k
+  all-reverse (x ∷ xs) ys h k = all-reverse xs (x ∷ ys) (h .1) (h .0, k)

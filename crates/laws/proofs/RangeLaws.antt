@@ -143,7 +143,7 @@ module _ {A B : Type 0} (g : A → B → B) where
 abbrev pub keep : {A : Type 0} → (ℕ → Option A) → ℕ → Option A → Option A
 keep f k o = orElse o (f k)
 
-else-none : {A : Type 0} (o : Option A) → orElse o none ≡ o
+pub else-none : {A : Type 0} (o : Option A) → orElse o none ≡ o
 else-none none = refl
 else-none (some x) = refl
 

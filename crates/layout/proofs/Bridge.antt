@@ -13,16 +13,12 @@ use Rattle.laws.specs.Sets.{has, _∪_}
 use Rattle.laws.specs.Search.{seek, when, isSome, orElse, mapSome, any}
 use Rattle.laws.specs.Fold.{over}
 use Rattle.laws.proofs.SetLaws.{or-assoc}
-use Rattle.laws.proofs.RangeLaws.{folded, folded-tab, folded-spread, over-list, over-still, over-ext, keep, over-seek, seek-ext, seek-map, seek-any}
+use Rattle.laws.proofs.RangeLaws.{folded, folded-tab, folded-spread, over-list, over-still, over-ext, else-none, over-seek, seek-ext, seek-map, seek-any}
 use Rattle.iosa.specs.Model.{Row, Comp, noRow, rowAt, guardSet}
 use Rattle.iosa.specs.Checks.{leaves, rowFor, unstable, enablingIn, enablingOf}
 use Rattle.iosa.specs.Timed.{clockRow}
 use Rattle.layout.specs.Layout.{blockWord, firstOf, actionAt, guardAt}
 use Rattle.layout.specs.Image.{rowIn, rowsLeaving, compOf}
-
-else-none : {A : Type 0} (o : Option A) → orElse o none ≡ o
-else-none none = refl
-else-none (some x) = refl
 
 -- state s of component i of any table
 module _ (t : List ℕ) (i s : ℕ) (below : s < blockWord t i 0) where
