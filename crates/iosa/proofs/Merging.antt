@@ -5,3 +5,4 @@ pub mod Product
 pub mod Ascend
 pub mod WellFormed
 pub mod Models
+pub mod Conforms
