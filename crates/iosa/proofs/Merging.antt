@@ -6,3 +6,4 @@ pub mod Ascend
 pub mod WellFormed
 pub mod Models
 pub mod Conforms
+pub mod Accepted

@@ -43,6 +43,7 @@ pub record MergedExactly (c d : Comp) : Type 0 where
 
 -- n is m after "Merging replaces components i and i+1 by their product": the others as they were, in order, and a model that a text can state
 pub record MergedModel (m : Model) (i : ℕ) (n : Model) : Type 0 where
+  pub neighbour : suc i < length m
   pub fewer : suc (length n) ≡ length m
   pub before : (k : ℕ) → k < i → compAt n k ≡ compAt m k
   pub here : compAt n i ≡ merged (compAt m i) (compAt m (suc i))

@@ -132,6 +132,7 @@ module _ (m : Model) (i : ℕ) (w : WellFormed m) (o : Conforming m) (j : Joinab
 
   pub merged-model-is-exact : MergedModel m i (mergedAt m i)
   merged-model-is-exact = record {
+    neighbour = next;
     fewer = replaced-fewer;
     before = replaced-before;
     here = replaced-here;
@@ -143,7 +144,7 @@ module _ (m : Model) (i : ℕ) (w : WellFormed m) (o : Conforming m) (j : Joinab
   }
 
 -- an answer stands behind no refusal of 10 to 17, and none of 24
-merge-accepted : (m : Model) (i : ℕ) (room : Option Told) (n : Model) → mergeOf m i room ≡ answered n → (acceptOf m ≡ none) × (room ≡ none)
+pub merge-accepted : (m : Model) (i : ℕ) (room : Option Told) (n : Model) → mergeOf m i room ≡ answered n → (acceptOf m ≡ none) × (room ≡ none)
 unfolding mergeOf
 merge-accepted m i room n e = go (acceptOf m) room e
   where
