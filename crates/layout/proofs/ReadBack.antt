@@ -86,7 +86,8 @@ block-at n (c ∷ cs) (suc i) k h q =
     let z : n + (length (c .rows) + rowCount (take i cs)) ≡ n + length (c .rows) + rowCount (take i cs) = omega arith in
     rw (e, z) (getD-append-add (blockOf n c) (blocksOf (n + length (c .rows)) cs) (blockWords * i + k) 0 ∙ block-at (n + length (c .rows)) cs i k (omega arith) q)
 
-abbrev wordsOf : Row → List ℕ
+-- the words of a row
+abbrev pub wordsOf : Row → List ℕ
 wordsOf r = r .action ∷ r .guard ∷ r .resets ∷ r .target ∷ []
 
 row-at : (rs : List Row) (k w : ℕ) → k < length rs → w < rowWords → getD (rowsOf rs) (rowWords * k + w) 0 ≡ getD (wordsOf (getD rs k noRow)) w 0
@@ -180,7 +181,7 @@ module _ (m : Model) (t : List ℕ) (w : WellFormed m) (front : take imageWords 
   first-above i s h p q = first-word i s h q ∙ rw (lt-leb s (compAt m i .states) p)
 
   -- row k of component i
-  row-word : (i k v : ℕ) → i < length m → k < length (compAt m i .rows) → v < rowWords
+  pub row-word : (i k v : ℕ) → i < length m → k < length (compAt m i .rows) → v < rowWords
       → getD t (rowsAt + rowWords * (rowCount (take i m) + k) + v) 0 ≡ getD (wordsOf (rowAt (compAt m i) k)) v 0
   unfolding rowPart
   row-word i k v h p q =

@@ -38,7 +38,7 @@ lower-same : (x y : ℕ) (xs ys : List ℕ) → x ≡ y → lower (x ∷ xs) (y 
 unfolding lower
 lower-same x y xs ys e = rw (eq-eqb x y e, lower)
 
-lower-cases : (x y : ℕ) (xs ys : List ℕ) → lower (x ∷ xs) (y ∷ ys) ≡ true → (x < y) ⊎ ((x ≡ y) × (lower xs ys ≡ true))
+pub lower-cases : (x y : ℕ) (xs ys : List ℕ) → lower (x ∷ xs) (y ∷ ys) ≡ true → (x < y) ⊎ ((x ≡ y) × (lower xs ys ≡ true))
 unfolding lower
 lower-cases x y xs ys h = go (eqb x y) refl h
   where
@@ -50,7 +50,7 @@ lower-cases x y xs ys h = go (eqb x y) refl h
 abbrev Tail : Row → Row → Type 0
 Tail r q = lower (r .guard ∷ r .resets ∷ r .target ∷ []) (q .guard ∷ q .resets ∷ q .target ∷ []) ≡ true
 
-by-from : (r q : Row) → r .from < q .from → Before r q
+pub by-from : (r q : Row) → r .from < q .from → Before r q
 unfolding before
 by-from r q h = lower-less (r .from) (q .from) (r .action ∷ r .guard ∷ r .resets ∷ r .target ∷ []) (q .action ∷ q .guard ∷ q .resets ∷ q .target ∷ []) h
 
