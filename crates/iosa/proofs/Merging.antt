@@ -5,3 +5,5 @@ pub mod Product
 pub mod Ascend
 pub mod WellFormed
 pub mod Models
+pub mod Conforms
+pub mod Accepted
