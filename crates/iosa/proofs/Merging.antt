@@ -7,3 +7,4 @@ pub mod WellFormed
 pub mod Models
 pub mod Conforms
 pub mod Accepted
+pub mod SameSystem
