@@ -8,3 +8,4 @@ pub mod Models
 pub mod Conforms
 pub mod Accepted
 pub mod SameSystem
+pub mod SameRuns

@@ -1,20 +1,20 @@
 -- The rows of the merged component "ascend strictly by from, action, guard, resets, target".
-use mathlib.Core.Path.{_≡_, refl, sym, _∙_, ap, ap₂}
+use mathlib.Core.Path.{_≡_, refl, sym, _∙_, ap}
 use mathlib.Core.Logic.{_⊎_, inl, inr, ⊎-elim}
 use mathlib.Core.Bool.{Bool, true, false, cond, true≢false, false≢true}
-use mathlib.Core.List.{List, [], _∷_, _++_, map, List·Memᴰ as In, List·Memᴰ·head as here, List·Memᴰ·tail as there}
-use Prim.Native.Nat.{ℕ, zero, suc, _+_, _*_, _≤_, _<_}
+use mathlib.Core.List.{List, [], _∷_, map, List·Memᴰ as In, List·Memᴰ·head as here, List·Memᴰ·tail as there}
+use Prim.Native.Nat.{ℕ, suc, _+_, _≤_, _<_}
 use native.Mathlib.Omega.{arith}
 use native.Mathlib.Nat.{mul-le-mul-right}
 use lib.Dec.{eqb, ltb}
 use borrow.Author.Tests.{eqb-true, eq-eqb, ne-eqb, ltb-true, lt-ltb}
-use Rattle.laws.specs.Sets.{has, _∪_, _∈_}
+use Rattle.laws.specs.Sets.{has, _∈_}
 use Rattle.laws.specs.Fold.{spread}
 use Rattle.laws.proofs.SetLaws.{in-or, or-in-l, or-in-r, in-one}
 use Rattle.laws.proofs.ListLaws.{map-in, spread-in, Pairwise, pairwise-append, pairwise-spread, pairwise-from, pairwise-map}
 use Rattle.laws.proofs.PairLaws.{pair-lt}
 use Rattle.answer.specs.Limits.{maxActions}
-use Rattle.iosa.specs.Model.{Row, Comp, noRow, rowAt, guardSet, inputs, outputs, urgents, acts}
+use Rattle.iosa.specs.Model.{Row, Comp, noRow, guardSet, inputs, outputs, urgents, acts}
 use Rattle.iosa.specs.WellFormed.{lower, before, WellComp}
 use Rattle.iosa.specs.Automaton.{Leads, autoOf, Conditions, Compatible}
 use Rattle.iosa.specs.Checks.{leaves, unclocked}

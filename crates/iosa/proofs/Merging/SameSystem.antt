@@ -1,7 +1,6 @@
 -- Merging leaves the system as it was: the product of the merged model has the rows of the product of the model, pair for pair.
 use mathlib.Core.Path.{_≡_, refl, sym, _∙_, ap, ap₂}
-use mathlib.Core.Logic.{_↔_, _⊎_, inl, inr, ⊎-elim, ⊎-map}
-use mathlib.Core.Bool.{Bool, true, false}
+use mathlib.Core.Logic.{inl, inr, ⊎-elim}
 use mathlib.Core.List.{List, [], _∷_}
 use Prim.Native.Nat.{ℕ, zero, suc, _<_}
 use native.Mathlib.Omega.{arith}
@@ -16,9 +15,9 @@ use Rattle.iosa.specs.Product.{_⊗_, Within}
 use Rattle.iosa.specs.Merge.{pairOf, merged, mergedAt}
 use Rattle.iosa.specs.MergedExactly.{pairedAt}
 use Rattle.iosa.proofs.Settling.Each.{All, Any}
-use Rattle.iosa.proofs.Settling.Parts.{Go, goes, rests, parts-go, go-parts, alphabet-joins, GoAll, end, and}
+use Rattle.iosa.proofs.Settling.Parts.{Go, goes, rests, parts-go, go-parts, GoAll, and}
 use Rattle.iosa.proofs.Settling.ProductOfMany.{Pairwise}
-use Rattle.iosa.proofs.Merging.Labels.{merged-inputs, merged-outputs, merged-urgent}
+use Rattle.iosa.proofs.Merging.Labels.{merged-inputs, merged-outputs}
 use Rattle.iosa.proofs.Merging.Product.{merged-rows-are-the-products, product-rows-are-merged}
 
 -- ---- the two, by one action
@@ -79,7 +78,7 @@ merged-go zero (c ∷ d ∷ cs) w o j h (s ∷ u ∷ ss) (t ∷ []) ok ok′ g =
 merged-go zero (c ∷ d ∷ cs) w o j h {a} (s ∷ u ∷ ss) (t ∷ v ∷ ts) ok ok′ g =
     let p = first g in
     let q = go-parts (autoOf c) (autoOf d) a (
-        go-two c d (w .0) (w .1 .0) (o .0) (o .1 .0) (j .0 .0) s u t v (ok .0) (ok .1 .0) (ok′ .0) (ok′ .1 .0) refl refl (p .here)) in
+    go-two c d (w .0) (w .1 .0) (o .0) (o .1 .0) (j .0 .0) s u t v (ok .0) (ok .1 .0) (ok′ .0) (ok′ .1 .0) refl refl (p .here)) in
     regrouped
     (sym (p .guards ∙ ap (λ n. n ∪ p .guard₂) (q .guards) ∙ or-assoc (q .guard₁) (q .guard₂) (p .guard₂)))
     (sym (p .sets ∙ ap (λ n. n ∪ p .resets₂) (q .sets) ∙ or-assoc (q .resets₁) (q .resets₂) (p .resets₂)))
@@ -91,10 +90,10 @@ merged-go (suc i) (c ∷ cs) w o j h (s ∷ ss) (t ∷ ts) ok ok′ g =
 -- ---- the labels of the system
 -- a set f of labels that a product joins, and that the merged component has joined
 module _ (f : Automaton → ℕ) (a : ℕ) where
-  abbrev Has : Comp → Type 0
+  abbrev pub Has : Comp → Type 0
   Has c = a ∈ f (autoOf c)
 
-  label-merged : (i : ℕ) (m : Model) → suc i < length m → f (autoOf (merged (compAt m i) (compAt m (suc i)))) ≡ f (autoOf (compAt m i)) ∪ f (autoOf (compAt m (suc i)))
+  pub label-merged : (i : ℕ) (m : Model) → suc i < length m → f (autoOf (merged (compAt m i) (compAt m (suc i)))) ≡ f (autoOf (compAt m i)) ∪ f (autoOf (compAt m (suc i)))
       → Any Has m → Any Has (mergedAt m i)
   unfolding mergedAt
   label-merged i [] h e u = absurd (omega arith)
@@ -105,7 +104,7 @@ module _ (f : Automaton → ℕ) (a : ℕ) where
   label-merged (suc i) (c ∷ cs) h e (inl u) = inl u
   label-merged (suc i) (c ∷ cs) h e (inr u) = inr (label-merged i cs (omega arith) e u)
 
-  merged-label : (i : ℕ) (m : Model) → suc i < length m → f (autoOf (merged (compAt m i) (compAt m (suc i)))) ≡ f (autoOf (compAt m i)) ∪ f (autoOf (compAt m (suc i)))
+  pub merged-label : (i : ℕ) (m : Model) → suc i < length m → f (autoOf (merged (compAt m i) (compAt m (suc i)))) ≡ f (autoOf (compAt m i)) ∪ f (autoOf (compAt m (suc i)))
       → Any Has (mergedAt m i) → Any Has m
   unfolding mergedAt
   merged-label i [] h e u = absurd (omega arith)
