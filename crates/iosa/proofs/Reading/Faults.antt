@@ -90,13 +90,13 @@ module _ (p : Progress) (bs : List ℕ) (e : Entry) (cs : List ℕ) (read : entr
       }
   lowest false false false false false ea eb ec ed ef n h = absurd (no-some refl h)
 
-  pub fault-none : faultOf p e ≡ none → Faultless p e
-  unfolding faultOf
-  fault-none h = faultless (outOfTurn (p .last) e) (outOfRange (current p) e) (lacks (current p) e) (outOfOrder (p .last) e) (tooMany (p .comps) e) refl refl refl refl refl h
-
   pub fault-some : (n : ℕ) → faultOf p e ≡ some n → Lowest p bs n
   unfolding faultOf
   fault-some n h = lowest (outOfTurn (p .last) e) (outOfRange (current p) e) (lacks (current p) e) (outOfOrder (p .last) e) (tooMany (p .comps) e) refl refl refl refl refl n h
+
+  pub fault-none : faultOf p e ≡ none → Faultless p e
+  unfolding faultOf
+  fault-none h = faultless (outOfTurn (p .last) e) (outOfRange (current p) e) (lacks (current p) e) (outOfOrder (p .last) e) (tooMany (p .comps) e) refl refl refl refl refl h
 
 pub none-fault : (p : Progress) (e : Entry) → Faultless p e → faultOf p e ≡ none
 unfolding faultOf
