@@ -121,6 +121,17 @@ module _ {A : Type 0} (d x : A) (l : List A) (i : ℕ) (h : suc i < length l) wh
       let f : suc (suc i) + (j - suc i) ≡ suc j = omega arith in
       ap (λ n. getD joinedAt n d) e ∙ getD-append-add (take i l) (x ∷ drop (suc (suc i)) l) (suc (j - suc i)) d ∙ getD-drop (suc (suc i)) l (j - suc i) d ∙ ap (λ n. getD l n d) f
 
+  -- a count over the list, of f for each element
+  pub joined-count : (f : A → ℕ) (count : List A → ℕ) → ((x : A) (xs : List A) → count (x ∷ xs) ≡ f x + count xs)
+      → count joinedAt + (f (getD l i d) + f (getD l (suc i) d)) ≡ count l + f x
+  joined-count f count step = go i l h
+    where
+      go : (i : ℕ) (l : List A) → suc i < length l → count (take i l ++ x ∷ drop (suc (suc i)) l) + (f (getD l i d) + f (getD l (suc i) d)) ≡ count l + f x
+      go i [] h = absurd (omega arith)
+      go i (y ∷ []) h = absurd (omega arith)
+      go zero (y ∷ z ∷ l) h = omega (arith, step x l, step y (z ∷ l), step z l)
+      go (suc i) (y ∷ z ∷ l) h = omega (arith, step y (take i (z ∷ l) ++ x ∷ drop (suc (suc i)) (z ∷ l)), step y (z ∷ l), go i (z ∷ l) (omega arith))
+
 -- ---- what holds of every member
 abbrev pub All : {A : Type 0} → (A → Type 0) → List A → Type 0
 All P [] = Unit {0}

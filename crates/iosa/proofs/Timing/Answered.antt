@@ -10,6 +10,7 @@ use native.Mathlib.Decide.{ℕ-discrete}
 use lib.IntN.{ℤ, pos}
 use lib.Signed.{ltZ}
 use Rattle.laws.specs.Sets.{has, _∈_, only}
+use Rattle.laws.proofs.SetLaws.{same-members, none-in}
 use Rattle.laws.proofs.TestLaws.{not-so}
 use Rattle.laws.proofs.TickLaws.{less-irreflexive, less-transitive}
 use Rattle.answer.specs.Limits.{maxClocks}
@@ -17,7 +18,7 @@ use Rattle.laws.specs.Search.{orElse}
 use Rattle.answer.specs.Told.{Told, Answer, answered, refused, fired, quiet}
 use Rattle.iosa.specs.Model.{Comp, Model, declared}
 use Rattle.iosa.specs.WellFormed.{WellFormed}
-use Rattle.iosa.specs.Product.{Within}
+use Rattle.iosa.specs.Product.{product, stateOf, Within}
 use Rattle.iosa.specs.Checks.{acceptOf}
 use Rattle.iosa.specs.Timed.{valueOf, enablingAll, unstableFault, valuesFault, Timing, quietly, timedFrom, timedOf}
 use Rattle.iosa.specs.Step.{stateFault}
@@ -83,6 +84,13 @@ module _ (c : Comp) (cs : List Comp) (well : WellFormed (c ∷ cs)) (s : List �
   -- "With no enabling clock the answer is quiet", and only then
   pub quiet-exactly : (τ .shot ≡ quiet) ↔ ((x : ℕ) → Waits c cs s x → ⊥)
   quiet-exactly = quiet-so c cs s vs answered-so
+
+  -- quiet exactly when no guarded row leaves the product's state
+  pub quiet-exactly-unguarded : (τ .shot ≡ quiet) ↔ ((C a R : ℕ) (y : product c cs .State) → product c cs .Row (stateOf c cs s) C a R y → C ≡ 0)
+  quiet-exactly-unguarded = (
+    λ q C a R y r. same-members C 0 (λ x h. absurd (quiet-exactly .0 q x (record { guard = C; action = a; resets = R; target = y; guards = h; row = r }))) (λ x h. absurd (none-in x h)),
+    λ n. quiet-exactly .1 (λ x k. none-in x (rw (n (k .guard) (k .action) (k .resets) (k .target) (k .row)) at (k .guards))),
+  )
 
   -- "and nothing changes"
   pub quiet-changes-nothing : τ .shot ≡ quiet → τ ≡ quietly s vs
