@@ -118,5 +118,5 @@ pub read-exactly : (t : List ℕ) (m : Model) → (readOf t ≡ answered m) ↔ 
 read-exactly t m = (text-of-read t m, λ h. ap readOf (sym (h .1)) ∙ read-of-text m (h .0))
 
 -- "So one model has one text", and one text has one model
-pub one-model : (m n : Model) → WellFormed m → WellFormed n → textOf m ≡ textOf n → m ≡ n
-one-model m n v w e = let q : _≡_ {A = Answer Model} (answered m) (answered n) = sym (read-of-text m v) ∙ ap readOf e ∙ read-of-text n w in cc
+pub one-text-one-model : (m n : Model) → WellFormed m → WellFormed n → textOf m ≡ textOf n → m ≡ n
+one-text-one-model m n v w e = let q : _≡_ {A = Answer Model} (answered m) (answered n) = sym (read-of-text m v) ∙ ap readOf e ∙ read-of-text n w in cc
