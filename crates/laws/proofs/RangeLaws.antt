@@ -7,7 +7,7 @@ use Prim.Native.Nat.{ℕ, zero, suc, _+_, _-_, _≤_, _<_}
 use native.Mathlib.Omega.{arith}
 use native.Mathlib.Decide.{ℕ-discrete}
 use lib.ListN.{length, getD}
-use Rattle.laws.specs.Search.{firstFrom, seek, when, isSome, orElse, mapSome, least, any}
+use Rattle.laws.specs.Search.{firstFrom, seek, when, isSome, orElse, mapSome}
 use Rattle.laws.specs.Fold.{overFrom, over, tab, spread}
 
 -- ---- folds
@@ -143,7 +143,7 @@ module _ {A B : Type 0} (g : A → B → B) where
 abbrev pub keep : {A : Type 0} → (ℕ → Option A) → ℕ → Option A → Option A
 keep f k o = orElse o (f k)
 
-else-none : {A : Type 0} (o : Option A) → orElse o none ≡ o
+pub else-none : {A : Type 0} (o : Option A) → orElse o none ≡ o
 else-none none = refl
 else-none (some x) = refl
 

@@ -1,0 +1,5 @@
+pub mod StepsByOffers
+pub mod Along
+pub mod Ready
+pub mod OneRow
+pub mod Offered
