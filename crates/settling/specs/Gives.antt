@@ -1,0 +1,49 @@
+-- What a step and settling give, in an accepted model and from a state of it.
+use mathlib.Core.Path.{_≡_}
+use mathlib.Core.Option.{Option, none, some}
+use mathlib.Core.List.{List, _++_}
+use Prim.Native.Nat.{ℕ}
+use lib.ListN.{length, drop}
+use Rattle.answer.specs.Told.{Answer, answered, refused, Step, saysOutcome, saysVerdict}
+use Rattle.answer.specs.State.{partsOf, withParts}
+use Rattle.answer.specs.declared.State.{State}
+use Rattle.answer.specs.declared.Stepped.{Stepped}
+use Rattle.answer.specs.declared.Settled.{Settled}
+use Rattle.iosa.specs.Model.{Model}
+use Rattle.iosa.specs.Automaton.{Conforming, Joinable}
+use Rattle.iosa.specs.Step.{Stepping, taken, lowest, urgentStep}
+use Rattle.iosa.specs.Settle.{Settling, settle}
+use Rattle.layout.specs.Image.{modelOf}
+use Rattle.moves.specs.Standing.{Standing}
+
+-- an image of an accepted model, and a composed state of it
+pub record Ready (t : List ℕ) (x : State) : Type 0 where
+  pub standing : Standing t x
+  pub conforming : Conforming (modelOf t)
+  pub joinable : Joinable (modelOf t)
+
+-- the answer says this step, with its state; places at and past the count stay
+pub record StepGives (v : Stepping) (x : State) (r : Stepped) : Type 0 where
+  pub outcome : saysOutcome (r .outcome) ≡ some (answered (v .step))
+  pub state : r .state ≡ withParts x (v .state)
+
+-- the step by our rule
+abbrev pub byRuleOf : Model → List ℕ → Stepping
+byRuleOf m s = taken s (lowest (urgentStep m) s)
+
+-- the answer says this settling
+pub record SettlingGives (d : Settling (List ℕ)) (x : State) (r : Settled) : Type 0 where
+  pub verdict : saysVerdict (r .verdict) ≡ some (answered (d .stable))
+  pub steps : r .steps ≡ d .steps
+  pub resets : r .resets ≡ d .resets
+  pub state : r .state ≡ withParts x (d .state)
+
+abbrev pub SettleGives : Model → ℕ → State → Settled → Type 0
+SettleGives m budget x r = SettlingGives (settle (urgentStep m) budget (partsOf x)) x r
+
+-- "It writes the actions taken to the front of a lent trace, one byte each; later bytes stay"
+unfoldable pub traced : List ℕ → List ℕ → List ℕ
+traced l old = l ++ drop (length l) old
+
+abbrev pub TraceHolds : Model → ℕ → State → List ℕ → List ℕ → Type 0
+TraceHolds m budget x old new = new ≡ traced (settle (urgentStep m) budget (partsOf x) .trace) old
