@@ -1,2 +1,3 @@
 pub mod Plus
 pub mod Lowest
+pub mod Onward

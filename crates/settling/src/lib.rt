@@ -1,12 +1,11 @@
 // Steps and settling in a model that is accepted, from a state of it: the checks are the caller's.
 use answer::Outcome;
-use answer::Refusal;
 use answer::Place;
+use answer::Refusal;
 use answer::Settled;
 use answer::State;
 use answer::Stepped;
 use answer::Verdict;
-
 ghost use mathlib.Core.Path.{_≡_};
 ghost use Prim.Native.Nat.{ℕ, _≤_, _<_};
 ghost use lib.ListN.{length};
