@@ -4,4 +4,4 @@ pub mod RangeAlong
 pub mod KeepsRange
 pub mod Ready
 pub mod OneRow
-pub mod Offered
+pub mod LowestOffer
