@@ -14,29 +14,22 @@ use Rattle.laws.specs.Sets.{_∪_}
 use Rattle.answer.specs.Limits.{maxActions, maxComponents}
 use Rattle.answer.specs.declared.State.{State}
 use Rattle.answer.specs.State.{partsOf, withParts}
-use Rattle.answer.proofs.StateLaws.{parts-length, with-parts, with-parts-again, with-own-parts}
 use Rattle.iosa.specs.Model.{Model}
 use Rattle.iosa.specs.Automaton.{Conforming, Joinable}
 use Rattle.iosa.specs.Product.{Within}
 use Rattle.iosa.specs.Step.{Gone, Went, urgentStep, lowest}
 use Rattle.iosa.specs.Settle.{Settling, resting, settle}
 use Rattle.layout.specs.Image.{modelOf}
-use Rattle.layout.proofs.RowsOfRange.{well-formed}
 use Rattle.moves.specs.Moves.{resetAll, afterAll, movedAll, lowestAll}
-use Rattle.moves.specs.Standing.{Standing}
-use Rattle.moves.proofs.StepsByOffers.{within-length}
-use Rattle.moves.proofs.Ready.{count-few, count-model}
-use Rattle.moves.proofs.KeepsRange.{all-keep}
 use Rattle.settling.specs.Gives.{Ready, traced}
+use Rattle.settling.proofs.Reached.{Reached, reached-first, next-parts, reached-next}
 use Rattle.settling.proofs.Lowest.{lowest-here, lowest-nowhere}
 use Rattle.settling.proofs.Plus.{plus, plus-nothing, plus-step, settle-rests, settle-out}
 
 -- k steps of a run from x are done, with these resets, and cur is reached; the trace was old
 pub record Runs (t : List ℕ) (budget : ℕ) (x : State) (old : List ℕ) (cur : State) (resets k : ℕ) (trace : List ℕ) : Type 0 where
   pub within : k ≤ budget
-  pub standing : Standing t cur
-  pub same : withParts x (partsOf cur) ≡ cur
-  pub count : cur .count ≡ x .count
+  pub reached : Reached t x cur
   pub size : length trace ≡ length old
   pub room : budget ≤ length old
   pub run : plus k resets (take k trace) (settle (urgentStep (modelOf t)) (budget - k) (partsOf cur)) ≡ settle (urgentStep (modelOf t)) budget (partsOf x)
@@ -46,9 +39,7 @@ module _ (t : List ℕ) (budget : ℕ) (x : State) (old : List ℕ) where
   pub begin : Ready t x → length (x .parts) ≡ maxComponents → budget ≤ length old → Runs t budget x old x 0 0 old
   begin r len room = record {
     within = omega arith;
-    standing = r .standing;
-    same = with-own-parts x (omega (arith, count-few t x (r .standing)));
-    count = refl;
+    reached = reached-first t x r len;
     size = refl;
     room = room;
     run = plus-nothing (settle (urgentStep (modelOf t)) (budget - 0) (partsOf x)) ∙ ap (λ n. settle (urgentStep (modelOf t)) n (partsOf x)) (omega arith);
@@ -57,10 +48,6 @@ module _ (t : List ℕ) (budget : ℕ) (x : State) (old : List ℕ) where
 
   module _ (good : Conforming (modelOf t)) (fit : Joinable (modelOf t)) (cur : State) (resets k : ℕ) (trace : List ℕ) (at : Runs t budget x old cur resets k trace)
       (a : ℕ) (e : a ≡ lowestAll (modelOf t) (partsOf cur)) where
-    after-length : length (afterAll (modelOf t) (partsOf cur) a) ≡ cur .count
-    after-length = within-length (modelOf t) (afterAll (modelOf t) (partsOf cur) a) (all-keep (modelOf t) (well-formed t (at .standing .image) .each) (partsOf cur) a (at .standing .within))
-        ∙ sym (count-model t cur (at .standing))
-
     byte : a < maxActions → a % 256 ≡ a
     byte h = mod-eq-of-lt (omega arith)
 
@@ -70,15 +57,13 @@ module _ (t : List ℕ) (budget : ℕ) (x : State) (old : List ℕ) where
     onward h low next more all en em ea =
         let m = modelOf t in
         let ps = afterAll m (partsOf cur) a in
-        let new : partsOf next ≡ ps = ap partsOf en ∙ with-parts cur ps after-length in
+        let new : partsOf next ≡ ps = next-parts t x cur (at .reached) a next en in
         let inside : k < length trace = omega (arith, at .size, at .room) in
         let s = plus-step (urgentStep m) budget k resets (take k trace) (partsOf cur) (record { action = a; gone = movedAll m (partsOf cur) a }) h
-        (lowest-here m good fit (partsOf cur) (at .standing .within) a e low) in
+        (lowest-here m good fit (partsOf cur) (at .reached .standing .within) a e low) in
         record {
           within = omega arith;
-          standing = record { image = at .standing .image; within = rw (← new) at (all-keep m (well-formed t (at .standing .image) .each) (partsOf cur) a (at .standing .within)) };
-          same = ap (withParts x) new ∙ sym (with-parts-again x (partsOf cur) ps (parts-length cur ∙ at .count)) ∙ ap (λ y. withParts y ps) (at .same) ∙ sym en;
-          count = ap (λ y. y .count) en ∙ (unfold withParts in at .count);
+          reached = reached-next t x cur (at .reached) a next en;
           size = length-set trace k (a % 256) ∙ at .size;
           room = at .room;
           run =
@@ -111,7 +96,7 @@ module _ (t : List ℕ) (budget : ℕ) (x : State) (old : List ℕ) (cur : State
         stable = ap (λ v. v .stable) w;
         steps = omega (arith, ap (λ v. v .steps) w);
         resets = sym (or-zero-r resets) ∙ ap (λ v. v .resets) w;
-        state = sym (at .same) ∙ ap (λ v. withParts x (v .state)) w;
+        state = sym (at .reached .same) ∙ ap (λ v. withParts x (v .state)) w;
         trace =
             sym (take-append-drop k trace)
             ∙ ap₂ _++_ (sym taken) (at .rest ∙ ap (λ n. drop n old) (sym (ap length taken ∙ length-take-le k trace inside)));
@@ -119,8 +104,8 @@ module _ (t : List ℕ) (budget : ℕ) (x : State) (old : List ℕ) (cur : State
 
   module _ (good : Conforming (modelOf t)) (fit : Joinable (modelOf t)) (a : ℕ) (e : a ≡ lowestAll (modelOf t) (partsOf cur)) where
     pub ends-stable : maxActions ≤ a → Ended (settle (urgentStep (modelOf t)) budget (partsOf x)) true x old cur resets k trace
-    ends-stable h = ended true (settle-rests (urgentStep (modelOf t)) (budget - k) (partsOf cur) (lowest-nowhere (modelOf t) good fit (partsOf cur) (at .standing .within) a e h))
+    ends-stable h = ended true (settle-rests (urgentStep (modelOf t)) (budget - k) (partsOf cur) (lowest-nowhere (modelOf t) good fit (partsOf cur) (at .reached .standing .within) a e h))
 
     pub ends-unsettled : budget ≤ k → a < maxActions → Ended (settle (urgentStep (modelOf t)) budget (partsOf x)) false x old cur resets k trace
     ends-unsettled h low = ended false (settle-out (urgentStep (modelOf t)) (budget - k) (partsOf cur) (record { action = a; gone = movedAll (modelOf t) (partsOf cur) a }) (omega arith)
-        (lowest-here (modelOf t) good fit (partsOf cur) (at .standing .within) a e low))
+        (lowest-here (modelOf t) good fit (partsOf cur) (at .reached .standing .within) a e low))

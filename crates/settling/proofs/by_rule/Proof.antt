@@ -42,7 +42,7 @@ loop-holds c = let s0 = c .before .before in begin _ _ _ _ (s0 .pre .0) (search 
 
 -- src/lib.rt:50:13
 lowest-all-requires : tie.Need-lowest-all-requires Inv-loop μ-loop
-lowest-all-requires c κs = c .before .loop .inv .standing
+lowest-all-requires c κs = c .before .loop .inv .reached .standing
 
 -- src/lib.rt:52:13
 same-length : tie.Need-same-length Inv-loop μ-loop
@@ -59,7 +59,7 @@ returns c =
 
 -- src/lib.rt:59:13
 move-all-requires : tie.Need-move-all-requires Inv-loop μ-loop
-move-all-requires c κs = c .before .before .before .loop .inv .standing
+move-all-requires c κs = c .before .before .before .loop .inv .reached .standing
 
 -- src/lib.rt:61:24
 cast-trace : tie.Need-cast-trace Inv-loop μ-loop
@@ -92,7 +92,7 @@ loop-again c =
 
 -- src/lib.rt:66:9
 lowest-all-requires-2 : tie.Need-lowest-all-requires-2 Inv-loop μ-loop
-lowest-all-requires-2 c κs = c .before .loop .inv .standing
+lowest-all-requires-2 c κs = c .before .loop .inv .reached .standing
 
 -- src/lib.rt:42:1
 same-length-2 : tie.Need-same-length-2 Inv-loop μ-loop
