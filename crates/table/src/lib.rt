@@ -7,7 +7,7 @@ ghost use Rattle.laws.specs.Sets.{within};
 ghost use Rattle.laws.specs.Fold.{all};
 ghost use Rattle.answer.specs.Limits.{maxComponents, maxRows};
 ghost use Rattle.iosa.specs.Model.{acts, guardSet};
-ghost use Rattle.layout.specs.Layout.{imageWords, countOf, blockWord};
+ghost use Rattle.layout.specs.Layout.{imageWords, blockWord};
 ghost use Rattle.layout.specs.Image.{compOf, Sane};
 ghost use Rattle.blocks.specs.Blocks.{endBefore};
 ghost use Rattle.table.specs.Rows.{rowRight, climbs, stateClimbs, compRowsRight, rowsRight};
@@ -95,4 +95,99 @@ fn range_climbs(t: &[u64], lo: usize, hi: usize) -> bool
         r += 1;
     }
     true
+}
+
+// The rows of component i, state by state.
+fn states_climb(t: &[u64], i: usize) -> bool
+    requires { ⌜ Sane (now t) × (i < maxComponents) ⌝ }
+    ensures { λ w. ⌜ w ≡ all (stateClimbs (now (t .entry)) i) 0 (blockWord (now (t .entry)) i 0) ⌝ }
+{
+    let states = layout::block_word(t, i, layout::STATES) as usize;
+    for s in 0..states {
+        let lo = layout::first_of(t, i, s);
+        let hi = layout::first_of(t, i, s + 1);
+        if !range_climbs(t, lo, hi) {
+            return false;
+        }
+    }
+    true
+}
+
+// The actions of component i.
+fn acts_of(t: &[u64], i: usize) -> u64
+    requires { ⌜ (imageWords ≤ length (now t)) × (i < maxComponents) ⌝ }
+    ensures { λ w. ⌜ w ≡ acts (compOf (now (t .entry)) i) ⌝ }
+{
+    let inputs = sets::union(layout::block_word(t, i, layout::INS), layout::block_word(t, i, layout::UINS));
+    let outputs = sets::union(layout::block_word(t, i, layout::OUTS), layout::block_word(t, i, layout::UOUTS));
+    sets::union(inputs, outputs)
+}
+
+fn comp_rows_right(t: &[u64], i: usize) -> bool
+    requires { ⌜ Sane (now t) × (i < maxComponents) ⌝ }
+    ensures { λ w. ⌜ w ≡ compRowsRight (now (t .entry)) i ⌝ }
+{
+    let states = layout::block_word(t, i, layout::STATES);
+    let clocks = layout::block_word(t, i, layout::CLOCKS);
+    let acts = acts_of(t, i);
+    let lo = layout::first_of(t, i, 0);
+    let hi = layout::first_of(t, i, states as usize);
+    if range_right(t, acts, clocks, states, lo, hi) {
+        states_climb(t, i)
+    } else {
+        false
+    }
+}
+
+fn comps_rows_right(t: &[u64], count: usize) -> bool
+    requires { ⌜ Sane (now t) × (count ≤ maxComponents) ⌝ }
+    ensures { λ w. ⌜ w ≡ all (compRowsRight (now (t .entry))) 0 count ⌝ }
+{
+    for i in 0..count {
+        if !comp_rows_right(t, i) {
+            return false;
+        }
+    }
+    true
+}
+
+// Where the rows of the components below i end.
+fn end_before(t: &[u64], i: usize) -> usize
+    requires { ⌜ Sane (now t) × (i ≤ maxComponents) ⌝ }
+    ensures { λ n. ⌜ n ≡ endBefore (now (t .entry)) i ⌝ }
+{
+    if i == 0 {
+        0
+    } else {
+        let states = layout::block_word(t, i - 1, layout::STATES) as usize;
+        layout::first_of(t, i - 1, states)
+    }
+}
+
+fn rows_right(t: &[u64]) -> bool
+    requires { ⌜ Sane (now t) ⌝ }
+    ensures { λ w. ⌜ w ≡ rowsRight (now (t .entry)) ⌝ }
+{
+    let count = layout::count_of(t) as usize;
+    if !comps_rows_right(t, count) {
+        return false;
+    }
+    let end = end_before(t, count);
+    blocks::zero_words(t, layout::ROWS_AT + layout::ROW * end, layout::WORDS)
+}
+
+// Whether the front of the table is an image: the first step of every call on a table.
+pub fn recognise(table: &[u64]) -> bool
+    ensures { λ w. ⌜ w ≡ isImage (now (table .entry)) ⌝ }
+{
+    if table.len() < layout::WORDS {
+        return false;
+    }
+    if !blocks::blocks_right(table) {
+        return false;
+    }
+    if !rows_right(table) {
+        return false;
+    }
+    measure::text_length(table) <= Model::BYTES
 }

@@ -1,46 +1,45 @@
+-- `table::range_climbs`: what is left to test answers for the whole.
+use mathlib.Core.Path.{_≡_, refl, sym, _∙_}
+use Prim.Native.Nat.{ℕ, _-_, _≤_}
+use native.Mathlib.Omega.{arith}
+use borrow.Author.Needs.{needs}
+use borrow.Author.Tests.{not-true, not-false}
+use Rattle.laws.specs.Fold.{all}
+use Rattle.laws.proofs.FoldLaws.{all-fails, all-goes-on, all-passed}
+use Rattle.answer.specs.Limits.{maxRows}
+use Rattle.table.specs.Rows.{climbs}
 use Rattle.table.proofs.range_climbs.Statement.{statement}
 use Rattle.table.proofs.range_climbs.Tie as tie
-use Rattle.table.proofs.range_climbs.Reads as reads
-use Rattle.table.proofs.range_climbs.Lts as lts
-use Rattle.table.proofs.row_climbs.Reads as row-climbs-reads
 
 abbrev Inv-loop : tie.InvT-loop
-Inv-loop t lo hi r₀ r = ?
+Inv-loop t lo hi r₀ r = (r ≤ maxRows) × ((s : ℕ) → all (climbs t s) r (hi - 1) ≡ all (climbs t s) lo (hi - 1))
 
 abbrev μ-loop : tie.MeasureT-loop
-μ-loop t lo hi r₀ r = ?
+μ-loop t lo hi r₀ r = hi - r
 
--- src/lib.rt:91:5
 loop-holds : tie.Need-loop-holds Inv-loop μ-loop
-loop-holds c = ?
+loop-holds c = (omega arith, λ s. refl)
 
--- src/lib.rt:91:11
 add-loop : tie.Need-add-loop Inv-loop μ-loop
-add-loop c = ?
+add-loop c = omega arith
 
--- src/lib.rt:92:13
 row-climbs-requires : tie.Need-row-climbs-requires Inv-loop μ-loop
-row-climbs-requires c κs = ?
+row-climbs-requires c κs = search needs
 
--- src/lib.rt:93:13
 returns : tie.Need-returns Inv-loop μ-loop
-returns c = ?
+returns c s = all-fails (climbs (c .before .before .before .before .before .args .t .now) s) (c .before .before .before .loop .r) (c .before .before .before .before .before .args .hi - 1) (c .before .before .before .loop .inv .1 s) (omega arith) (sym (c .before .row-climbs .ensures s) ∙ not-true (c .before .row-climbs .result) (c .if1 .taken))
 
--- src/lib.rt:95:9
 add-r : tie.Need-add-r Inv-loop μ-loop
-add-r c = ?
+add-r c = omega arith
 
--- src/lib.rt:91:5
 loop-less : tie.Need-loop-less Inv-loop μ-loop
-loop-less c = ?
+loop-less c = omega arith
 
--- src/lib.rt:91:5
 loop-again : tie.Need-loop-again Inv-loop μ-loop
-loop-again c = ?
+loop-again c = (omega arith, λ s. all-goes-on (climbs (c .before .before .before .before .before .args .t .now) s) (c .before .before .before .loop .r) (c .before .before .before .before .before .args .hi - 1) (c .before .before .before .loop .inv .1 s) (omega arith) (sym (c .before .row-climbs .ensures s) ∙ not-false (c .before .row-climbs .result) (c .if1 .left)))
 
--- src/lib.rt:86:1
 returns-2 : tie.Need-returns-2 Inv-loop μ-loop
-returns-2 c = ?
+returns-2 c s = all-passed (climbs (c .before .before .before .args .t .now) s) (c .before .loop .r) (c .before .before .before .args .hi - 1) (c .before .loop .inv .1 s) (omega arith)
 
 pub range-climbs-spec : {M : Type 1} → statement M
 range-climbs-spec =

@@ -1,42 +1,41 @@
+-- `table::range_right`: what is left to test answers for the whole.
+use mathlib.Core.Path.{_≡_, refl, sym, _∙_}
+use Prim.Native.Nat.{_-_}
+use native.Mathlib.Omega.{arith}
+use borrow.Author.Needs.{needs}
+use borrow.Author.Tests.{not-true, not-false}
+use Rattle.laws.specs.Fold.{all}
+use Rattle.laws.proofs.FoldLaws.{all-fails, all-goes-on, all-passed}
+use Rattle.table.specs.Rows.{rowRight}
 use Rattle.table.proofs.range_right.Statement.{statement}
 use Rattle.table.proofs.range_right.Tie as tie
-use Rattle.table.proofs.range_right.Reads as reads
-use Rattle.table.proofs.range_right.Lts as lts
-use Rattle.table.proofs.row_right.Reads as row-right-reads
 
 abbrev Inv-loop : tie.InvT-loop
-Inv-loop t acts clocks states lo hi r₀ r = ?
+Inv-loop t acts clocks states lo hi r₀ r = all (rowRight t acts clocks states) r hi ≡ all (rowRight t acts clocks states) lo hi
 
 abbrev μ-loop : tie.MeasureT-loop
-μ-loop t acts clocks states lo hi r₀ r = ?
+μ-loop t acts clocks states lo hi r₀ r = hi - r
 
--- src/lib.rt:54:5
 loop-holds : tie.Need-loop-holds Inv-loop μ-loop
-loop-holds c = ?
+loop-holds c = refl
 
--- src/lib.rt:55:13
 row-right-requires : tie.Need-row-right-requires Inv-loop μ-loop
-row-right-requires c κs = ?
+row-right-requires c κs = search needs
 
--- src/lib.rt:56:13
 returns : tie.Need-returns Inv-loop μ-loop
-returns c = ?
+returns c = all-fails (rowRight (c .before .before .before .before .before .args .t .now) (c .before .before .before .before .before .args .acts) (c .before .before .before .before .before .args .clocks) (c .before .before .before .before .before .args .states)) (c .before .before .before .loop .r) (c .before .before .before .before .before .args .hi) (c .before .before .before .loop .inv) (c .before .before .loop-test .taken) (sym (c .before .row-right .ensures) ∙ not-true (c .before .row-right .result) (c .if1 .taken))
 
--- src/lib.rt:54:9
 add-r : tie.Need-add-r Inv-loop μ-loop
-add-r c = ?
+add-r c = omega arith
 
--- src/lib.rt:54:5
 loop-less : tie.Need-loop-less Inv-loop μ-loop
-loop-less c = ?
+loop-less c = omega arith
 
--- src/lib.rt:54:5
 loop-again : tie.Need-loop-again Inv-loop μ-loop
-loop-again c = ?
+loop-again c = all-goes-on (rowRight (c .before .before .before .before .before .args .t .now) (c .before .before .before .before .before .args .acts) (c .before .before .before .before .before .args .clocks) (c .before .before .before .before .before .args .states)) (c .before .before .before .loop .r) (c .before .before .before .before .before .args .hi) (c .before .before .before .loop .inv) (c .before .before .loop-test .taken) (sym (c .before .row-right .ensures) ∙ not-false (c .before .row-right .result) (c .if1 .left))
 
--- src/lib.rt:50:1
 returns-2 : tie.Need-returns-2 Inv-loop μ-loop
-returns-2 c = ?
+returns-2 c = all-passed (rowRight (c .before .before .before .args .t .now) (c .before .before .before .args .acts) (c .before .before .before .args .clocks) (c .before .before .before .args .states)) (c .before .loop .r) (c .before .before .before .args .hi) (c .before .loop .inv) (c .loop-test .left)
 
 pub range-right-spec : {M : Type 1} → statement M
 range-right-spec =
