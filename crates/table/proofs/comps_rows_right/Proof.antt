@@ -1,42 +1,40 @@
+-- `table::comps_rows_right`: what is left to test answers for the whole.
+use mathlib.Core.Path.{_≡_, refl, sym, _∙_}
+use Prim.Native.Nat.{_-_}
+use native.Mathlib.Omega.{arith}
+use borrow.Author.Tests.{not-true, not-false}
+use Rattle.laws.specs.Fold.{all}
+use Rattle.laws.proofs.FoldLaws.{all-fails, all-goes-on, all-passed}
+use Rattle.table.specs.Rows.{compRowsRight}
 use Rattle.table.proofs.comps_rows_right.Statement.{statement}
 use Rattle.table.proofs.comps_rows_right.Tie as tie
-use Rattle.table.proofs.comps_rows_right.Reads as reads
-use Rattle.table.proofs.comps_rows_right.Lts as lts
-use Rattle.table.proofs.comp_rows_right.Reads as comp-rows-right-reads
 
 abbrev Inv-loop : tie.InvT-loop
-Inv-loop t count i₀ i = ?
+Inv-loop t count i₀ i = all (compRowsRight t) i count ≡ all (compRowsRight t) 0 count
 
 abbrev μ-loop : tie.MeasureT-loop
-μ-loop t count i₀ i = ?
+μ-loop t count i₀ i = count - i
 
--- src/lib.rt:146:5
 loop-holds : tie.Need-loop-holds Inv-loop μ-loop
-loop-holds c = ?
+loop-holds c = refl
 
--- src/lib.rt:147:13
 comp-rows-right-requires : tie.Need-comp-rows-right-requires Inv-loop μ-loop
-comp-rows-right-requires c κs = ?
+comp-rows-right-requires c κs = (c .before .before .before .pre .0, omega arith)
 
--- src/lib.rt:148:13
 returns : tie.Need-returns Inv-loop μ-loop
-returns c = ?
+returns c = all-fails (compRowsRight (c .before .before .before .before .before .args .t .now)) (c .before .before .before .loop .i) (c .before .before .before .before .before .args .count) (c .before .before .before .loop .inv) (c .before .before .loop-test .taken) (sym (c .before .comp-rows-right .ensures) ∙ not-true (c .before .comp-rows-right .result) (c .if1 .taken))
 
--- src/lib.rt:146:9
 add-i : tie.Need-add-i Inv-loop μ-loop
-add-i c = ?
+add-i c = omega arith
 
--- src/lib.rt:146:5
 loop-less : tie.Need-loop-less Inv-loop μ-loop
-loop-less c = ?
+loop-less c = omega arith
 
--- src/lib.rt:146:5
 loop-again : tie.Need-loop-again Inv-loop μ-loop
-loop-again c = ?
+loop-again c = all-goes-on (compRowsRight (c .before .before .before .before .before .args .t .now)) (c .before .before .before .loop .i) (c .before .before .before .before .before .args .count) (c .before .before .before .loop .inv) (c .before .before .loop-test .taken) (sym (c .before .comp-rows-right .ensures) ∙ not-false (c .before .comp-rows-right .result) (c .if1 .left))
 
--- src/lib.rt:142:1
 returns-2 : tie.Need-returns-2 Inv-loop μ-loop
-returns-2 c = ?
+returns-2 c = all-passed (compRowsRight (c .before .before .before .args .t .now)) (c .before .loop .i) (c .before .before .before .args .count) (c .before .loop .inv) (c .loop-test .left)
 
 pub comps-rows-right-spec : {M : Type 1} → statement M
 comps-rows-right-spec =
