@@ -1,44 +1,43 @@
+-- `table::rows_right`: the components' rows, then the rest.
+use mathlib.Core.Path.{sym, _∙_, ap}
+use Prim.Native.Nat.{_+_, _*_}
+use native.Mathlib.Omega.{arith}
+use borrow.Author.Tests.{not-true, not-false}
+use Rattle.laws.specs.Fold.{all}
+use Rattle.laws.proofs.TestLaws.{both-no, both-go}
+use Rattle.layout.specs.Layout.{rowWords, rowsAt, imageWords, countOf}
+use Rattle.blocks.specs.Blocks.{zeroWords, endBefore}
+use Rattle.blocks.proofs.BlockFacts.{end-few}
+use Rattle.table.specs.Rows.{compRowsRight, rowsRight}
 use borrow.Author.Needs.{needs}
 use Rattle.table.proofs.rows_right.Statement.{statement}
 use Rattle.table.proofs.rows_right.Tie as tie
-use Rattle.table.proofs.rows_right.Reads as reads
-use Rattle.table.proofs.rows_right.Lts as lts
-use Rattle.blocks.proofs.zero_words.Reads as zero-words-reads
-use Rattle.layout.proofs.count_of.Reads as count-of-reads
-use Rattle.table.proofs.comps_rows_right.Reads as comps-rows-right-reads
-use Rattle.table.proofs.end_before.Reads as end-before-reads
 
--- src/lib.rt:171:17
 count-of-requires : tie.Need-count-of-requires
 count-of-requires c κs = search needs
 
--- src/lib.rt:172:9
 comps-rows-right-requires : tie.Need-comps-rows-right-requires
-comps-rows-right-requires c κs = search needs
+comps-rows-right-requires c κs = (c .before .before .pre, omega (arith, c .before .before .pre .count))
 
--- src/lib.rt:173:9
 returns : tie.Need-returns
-returns c = ?
+unfolding rowsRight
+returns c = sym (both-no _ _ (ap (all (compRowsRight (c .before .before .before .before .args .t .now)) 0) (sym (c .before .before .count-of .ensures)) ∙ sym (c .before .comps-rows-right .ensures) ∙ not-true (c .before .comps-rows-right .result) (c .if1 .taken)))
 
--- src/lib.rt:175:9
 end-before-requires : tie.Need-end-before-requires
 end-before-requires c κs = search needs
 
--- src/lib.rt:176:45
 mul-zero-words : tie.Need-mul-zero-words
-mul-zero-words c = ?
+mul-zero-words c = omega (arith, end-few (c .before .before .before .before .before .args .t .now) (c .before .before .before .before .before .pre) (countOf (c .before .before .before .before .before .args .t .now)) (c .before .before .before .before .before .pre .count), ap (endBefore (c .before .before .before .before .before .args .t .now)) (c .before .before .before .count-of .ensures))
 
--- src/lib.rt:176:27
 add-zero-words : tie.Need-add-zero-words
-add-zero-words c = ?
+add-zero-words c = omega (arith, end-few (c .before .before .before .before .before .args .t .now) (c .before .before .before .before .before .pre) (countOf (c .before .before .before .before .before .args .t .now)) (c .before .before .before .before .before .pre .count), ap (endBefore (c .before .before .before .before .before .args .t .now)) (c .before .before .before .count-of .ensures))
 
--- src/lib.rt:176:5
 zero-words-requires : tie.Need-zero-words-requires
 zero-words-requires c κs = search needs
 
--- src/lib.rt:167:1
 returns-2 : tie.Need-returns-2
-returns-2 c = ?
+unfolding rowsRight
+returns-2 c = c .zero-words .ensures ∙ ap (λ n. zeroWords (c .before .before .before .before .before .before .args .t .now) (rowsAt + rowWords * n) imageWords) (c .before .end-before .ensures ∙ ap (endBefore (c .before .before .before .before .before .before .args .t .now)) (c .before .before .before .before .count-of .ensures)) ∙ sym (both-go _ _ (ap (all (compRowsRight (c .before .before .before .before .before .before .args .t .now)) 0) (sym (c .before .before .before .before .count-of .ensures)) ∙ sym (c .before .before .before .comps-rows-right .ensures) ∙ not-false (c .before .before .before .comps-rows-right .result) (c .before .before .if1 .left)))
 
 pub rows-right-spec : {M : Type 1} → statement M
 rows-right-spec =
