@@ -53,7 +53,10 @@ fn sets_right(t: &[u64], i: usize) -> bool
     if three & layout::block_word(t, i, layout::UOUTS) != 0 {
         return false;
     }
-    sets::lies_in(layout::block_word(t, i, layout::STARTED), layout::block_word(t, i, layout::CLOCKS))
+    sets::lies_in(
+        layout::block_word(t, i, layout::STARTED),
+        layout::block_word(t, i, layout::CLOCKS),
+    )
 }
 
 fn head_right(t: &[u64], i: usize) -> bool
@@ -108,7 +111,11 @@ fn firsts_right(t: &[u64], i: usize, end: usize) -> bool
         return false;
     }
     let block = 1 + layout::BLOCK * i;
-    zero_words(t, block + (layout::FIRST + (states + 1)), block + layout::BLOCK)
+    zero_words(
+        t,
+        block + (layout::FIRST + (states + 1)),
+        block + layout::BLOCK,
+    )
 }
 
 fn all_firsts_right(t: &[u64], count: usize) -> bool

@@ -118,8 +118,14 @@ fn acts_of(t: &[u64], i: usize) -> u64
     requires { ⌜ (imageWords ≤ length (now t)) × (i < maxComponents) ⌝ }
     ensures { λ w. ⌜ w ≡ acts (compOf (now (t .entry)) i) ⌝ }
 {
-    let inputs = sets::union(layout::block_word(t, i, layout::INS), layout::block_word(t, i, layout::UINS));
-    let outputs = sets::union(layout::block_word(t, i, layout::OUTS), layout::block_word(t, i, layout::UOUTS));
+    let inputs = sets::union(
+        layout::block_word(t, i, layout::INS),
+        layout::block_word(t, i, layout::UINS),
+    );
+    let outputs = sets::union(
+        layout::block_word(t, i, layout::OUTS),
+        layout::block_word(t, i, layout::UOUTS),
+    );
     sets::union(inputs, outputs)
 }
 
