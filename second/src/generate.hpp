@@ -31,6 +31,10 @@ constexpr Family families[] = {
 
 Model generate(Random& random, Family family, Size size);
 
+// Within every count, but with a text a few bytes over the limit: its text is 1 and its table 20,
+// by that alone.
+Model generate_overlong(Random& random);
+
 // A model whose first refusal is this number, 10 to 18.
 Model generate_failing(Random& random, unsigned number, Size size);
 

@@ -140,4 +140,9 @@ Model generate(Random& random, Family family, Size size) {
   return accepted_model(random, shape);
 }
 
+Model generate_overlong(Random& random) {
+  const std::uint64_t excess = random.between(1, 4);
+  return padded_to_text(modest_model(random, 15), max_text + excess);
+}
+
 }  // namespace second

@@ -70,6 +70,14 @@ void test_generator() {
       const second::Refusal refusal = lend_confluent(second::image_of_model(model)).refusal;
       check(refusal.number == number, "fails " + std::to_string(number) + " first: " + shown(refusal));
     }
+  for (unsigned round = 0; round < 20; ++round) {
+    const Model model = second::generate_overlong(random);
+    const Text text = second::text_of_model(model);
+    check(text.size() > 32768 && text.size() <= 32772, "overlong: " + std::to_string(text.size()));
+    Table into(second::image_words, 0);
+    check(lend_read(text, into).refusal == second::refuse(1, {0}), "overlong: the text is 1");
+    check(lend_recognise(second::image_of_model(model)).refusal == second::refuse(20, {0}), "overlong: the table is 20");
+  }
   // Drawn once and written down: another machine or compiler that draws otherwise shows here.
   const std::uint64_t drawn = digest(11);
   check(drawn == 7644770271857229213u, "the series of seed 11, which is now " + std::to_string(drawn));

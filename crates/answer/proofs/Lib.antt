@@ -1,1 +1,2 @@
 pub mod ToldFixes
+pub mod StateLaws

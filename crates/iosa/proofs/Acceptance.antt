@@ -19,3 +19,4 @@ pub mod FaultsAt
 pub mod InTurn
 pub mod Refused
 pub mod Clashes
+pub mod LooksRight

@@ -13,3 +13,9 @@ pub mod Steps
 pub mod Commute
 pub mod SeriesAndRuns
 pub mod Demand3
+pub mod Range
+pub mod Called
+pub mod Listed
+pub mod WellFormedTest
+pub mod Witness
+pub mod StepCalled

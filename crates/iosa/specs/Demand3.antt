@@ -1,12 +1,12 @@
 -- Demand 3 (the mission; 01, "Confluence and settling"), over series of urgent outputs of the product's own rows.
 use mathlib.Core.Path.{_≡_}
 use mathlib.Core.Logic.{_⊎_, _↔_}
-use mathlib.Core.Bool.{Bool, true, false}
-use mathlib.Core.List.{List, [], _∷_}
-use Prim.Native.Nat.{ℕ, suc, _≤_, _<_}
+use mathlib.Core.Bool.{true, false}
+use mathlib.Core.List.{List, [], _∷_, _++_}
+use Prim.Native.Nat.{ℕ, _≤_, _<_}
 use lib.ListN.{length}
 use Rattle.laws.specs.Sets.{_∪_}
-use Rattle.iosa.specs.Model.{Comp, Model}
+use Rattle.iosa.specs.Model.{Comp}
 use Rattle.iosa.specs.Automaton.{Automaton, UrgentRow, Stable}
 use Rattle.iosa.specs.Product.{product, stateOf, Within, Series, count}
 use Rattle.iosa.specs.Step.{urgentStep}
@@ -46,6 +46,7 @@ pub record Same (A : Automaton) (l : List ℕ) (R : ℕ) (y : A .State) (k : Lis
 pub record Stops (c : Comp) (cs : List Comp) (s : List ℕ) (l : List ℕ) (R : ℕ) (y : product c cs .State) : Type 0 where
   pub longest : {k : List ℕ} {Q : ℕ} {z : product c cs .State} → Series (product c cs) (stateOf c cs s) k Q z → length k ≤ length l
   pub same : {k : List ℕ} {Q : ℕ} {z : product c cs .State} → Series (product c cs) (stateOf c cs s) k Q z → Stable (product c cs) z → Same (product c cs) l R y k Q z
+  pub exactly : (budget : ℕ) → (settle (urgentStep (c ∷ cs)) budget s .stable ≡ true) ↔ (length l ≤ budget)
   pub enough : (budget : ℕ) → length l ≤ budget → SettledAs c cs (length l) R y (settle (urgentStep (c ∷ cs)) budget s)
   pub short : (budget : ℕ) → budget < length l → Unsettled budget (settle (urgentStep (c ∷ cs)) budget s)
 
@@ -66,3 +67,32 @@ pub record OurRun (c : Comp) (cs : List Comp) (s : List ℕ) (budget : ℕ) (d :
   pub stable : (d .stable ≡ true) ↔ Stable (product c cs) (stateOf c cs (d .state))
   pub bounded : d .steps ≤ budget
   pub unsettled : d .stable ≡ false → d .steps ≡ budget
+
+-- ---- settling by list
+-- "Settling by list takes the listed actions .. in order and answers likewise, but writes no trace; stable tells only of the last state"
+pub record Listed (c : Comp) (cs : List Comp) (s l : List ℕ) (d : Settling (List ℕ)) : Type 0 where
+  pub series : Series (product c cs) (stateOf c cs s) l (d .resets) (stateOf c cs (d .state))
+  pub steps : d .steps ≡ length l
+  pub range : Within (c ∷ cs) (d .state)
+  pub stable : (d .stable ≡ true) ↔ Stable (product c cs) (stateOf c cs (d .state))
+  pub trace : d .trace ≡ []
+
+-- 23 "listed action not an enabled urgent output", place its index: those before it are a series, and it is not enabled where that ends
+pub record NotEnabledAt (A : Automaton) (x : A .State) (l : List ℕ) (i : ℕ) : Type 0 where
+  pub before : List ℕ
+  pub action : ℕ
+  pub later : List ℕ
+  pub split : l ≡ before ++ (action ∷ later)
+  pub index : length before ≡ i
+  pub resets : ℕ
+  pub end : A .State
+  pub series : Series A x before resets end
+  pub disabled : (C R : ℕ) (y : A .State) → UrgentRow A end C action R y → ⊥
+
+-- ---- what a call of settling that is not refused answers
+pub record Called (c : Comp) (cs : List Comp) (s : List ℕ) (budget : ℕ) (d : Settling (List ℕ)) : Type 0 where
+  pub run : OurRun c cs s budget d
+  pub enough : {l : List ℕ} {R : ℕ} {y : product c cs .State} → Series (product c cs) (stateOf c cs s) l R y → Stable (product c cs) y → length l ≤ budget
+      → SettledAs c cs (length l) R y d
+  pub short : {l : List ℕ} {R : ℕ} {y : product c cs .State} → Series (product c cs) (stateOf c cs s) l R y → Stable (product c cs) y → budget < length l → Unsettled budget d
+  pub never : ((l : List ℕ) (R : ℕ) (y : product c cs .State) → Series (product c cs) (stateOf c cs s) l R y → Stable (product c cs) y → ⊥) → Unsettled budget d

@@ -7,7 +7,7 @@ use Prim.Native.Nat.{ℕ, _+_, _<_}
 use lib.ListN.{length, take}
 use Rattle.laws.specs.Sets.{_∪_, only, _∈_}
 use Rattle.answer.specs.Told.{Told, tell}
-use Rattle.iosa.specs.Model.{Row, Comp, Model, rowAt, compAt, guardSet, rowCount}
+use Rattle.iosa.specs.Model.{Comp, Model, rowAt, compAt, guardSet, rowCount}
 use Rattle.iosa.specs.WellFormed.{lower}
 use Rattle.iosa.specs.Automaton.{Automaton, alphabet, Leads, autoOf, CondF}
 

@@ -4,5 +4,8 @@ pub mod FoldLaws
 pub mod TestLaws
 pub mod ListLaws
 pub mod PairLaws
+pub mod TickLaws
+pub mod MinimalLaws
 pub mod RangeLaws
+pub mod GrowLaws
 pub mod TabLaws

@@ -7,7 +7,7 @@ use Prim.Native.Nat.{ℕ, zero, suc, _+_, _-_, _≤_, _<_}
 use native.Mathlib.Omega.{arith}
 use native.Mathlib.Decide.{ℕ-discrete}
 use lib.ListN.{length, getD}
-use Rattle.laws.specs.Search.{firstFrom, seek, when, isSome, orElse, mapSome, least, any}
+use Rattle.laws.specs.Search.{firstFrom, seek, when, isSome, orElse, mapSome}
 use Rattle.laws.specs.Fold.{overFrom, over, tab, spread}
 
 -- ---- folds
@@ -73,6 +73,26 @@ module _ {A : Type 0} where
       ∙ over-still f to hi (over f from to (over f lo from x)) b
       ∙ ap (over f from to) (over-still f lo from x a)
 
+-- ---- ranges one after the other, from p 0 to p n
+module _ {A : Type 0} (g : ℕ → A → A) (p : ℕ → ℕ) where
+  nest-from : (n s : ℕ) (x : A) → ((u : ℕ) → s ≤ u → u < s + n → p u ≤ p (suc u)) → (p s ≤ p (s + n)) × (overFrom (λ u. over g (p u) (p (suc u))) n s x ≡ over g (p s) (p (s + n)) x)
+  unfolding overFrom
+  nest-from zero s x up =
+      let e : s + 0 ≡ s = omega arith in
+      rw e (omega arith, sym (over-still g (p s) (p s) x (λ j y a b. absurd (omega arith))))
+  nest-from (suc n) s x up =
+      let e : s + suc n ≡ suc s + n = omega arith in
+      let h = up s (omega arith) (omega arith) in
+      let ih = nest-from n (suc s) (over g (p s) (p (suc s)) x) (λ u a b. up u (omega arith) (omega arith)) in
+      rw e (omega (arith, ih .0), ih .1 ∙ sym (over-split g (p s) (p (suc s)) (p (suc s + n)) x h (ih .0)))
+
+  pub over-nest : (n : ℕ) (x : A) → ((u : ℕ) → u < n → p u ≤ p (suc u)) → over (λ u. over g (p u) (p (suc u))) 0 n x ≡ over g (p 0) (p n) x
+  unfolding over
+  over-nest n x up =
+      let e : 0 + n ≡ n = omega arith in
+      let d : n - 0 ≡ n = omega arith in
+      rw d (rw e at (nest-from n 0 x (λ u a b. up u (omega arith)) .1))
+
 -- ---- folds of a list
 abbrev pub folded : {A B : Type 0} → (A → B → B) → List A → B → B
 folded g [] x = x
@@ -123,7 +143,7 @@ module _ {A B : Type 0} (g : A → B → B) where
 abbrev pub keep : {A : Type 0} → (ℕ → Option A) → ℕ → Option A → Option A
 keep f k o = orElse o (f k)
 
-else-none : {A : Type 0} (o : Option A) → orElse o none ≡ o
+pub else-none : {A : Type 0} (o : Option A) → orElse o none ≡ o
 else-none none = refl
 else-none (some x) = refl
 
@@ -145,6 +165,18 @@ module _ {A : Type 0} where
   pub over-seek : (f : ℕ → Option A) (lo hi : ℕ) → over (keep f) lo hi none ≡ seek f lo hi
   unfolding over seek
   over-seek f lo hi = keep-first f (hi - lo) lo
+
+  pub over-keep : (f : ℕ → Option A) (lo hi : ℕ) (o : Option A) → over (keep f) lo hi o ≡ orElse o (seek f lo hi)
+  unfolding over
+  over-keep f lo hi none = over-seek f lo hi
+  over-keep f lo hi (some x) = keep-some f (hi - lo) lo x
+
+  pub seek-nest : (f : ℕ → Option A) (p : ℕ → ℕ) (n : ℕ) → ((u : ℕ) → u < n → p u ≤ p (suc u)) → seek (λ u. seek f (p u) (p (suc u))) 0 n ≡ seek f (p 0) (p n)
+  seek-nest f p n up =
+      sym (over-seek (λ u. seek f (p u) (p (suc u))) 0 n)
+      ∙ over-ext (keep (λ u. seek f (p u) (p (suc u)))) (λ u. over (keep f) (p u) (p (suc u))) 0 n none (λ u o a b. sym (over-keep f (p u) (p (suc u)) o))
+      ∙ over-nest (keep f) p n none up
+      ∙ over-seek f (p 0) (p n)
 
   pub seek-ext : (f g : ℕ → Option A) (lo hi : ℕ) → ((j : ℕ) → lo ≤ j → j < hi → f j ≡ g j) → seek f lo hi ≡ seek g lo hi
   seek-ext f g lo hi h = sym (over-seek f lo hi) ∙ over-ext (keep f) (keep g) lo hi none (λ j o p q. ap (orElse o) (h j p q)) ∙ over-seek g lo hi

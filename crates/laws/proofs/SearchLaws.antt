@@ -1,5 +1,6 @@
 -- Laws of the search for the least place: what an answer tells, and how a loop that searches goes on.
 use mathlib.Core.Path.{_≡_, refl, sym, _∙_, ap}
+use mathlib.Core.Logic.{_↔_}
 use mathlib.Core.Option.{Option, none, some, Option·some-inj}
 use mathlib.Core.Bool.{Bool, true, false, true≢false, false≢true}
 use Prim.Native.Nat.{ℕ, zero, suc, _+_, _-_, _≤_, _<_}
@@ -106,6 +107,18 @@ pub when-none {ℓ} : {A : Type ℓ} (b : Bool) (x : A) → when b x ≡ none �
 when-none true x e = absurd (no-some e refl)
 when-none false x e = refl
 
+-- a refusal whose test decides P by its failure: none where P holds, given where not
+module _ {A P : Type 0} (bad : Bool) (d : (bad ≡ false) ↔ P) (t : A) where
+  pub when-fine : P → when bad t ≡ none
+  when-fine p = rw (d .1 p)
+
+  pub when-faulty : (P → ⊥) → when bad t ≡ some t
+  when-faulty n = go bad refl
+    where
+      go : (b : Bool) → bad ≡ b → when b t ≡ some t
+      go true e = refl
+      go false e = absurd (n (d .0 e))
+
 pub is-some {ℓ} : {A : Type ℓ} (o : Option A) → isSome o ≡ true → (x : A) × (o ≡ some x)
 is-some none e = absurd (false≢true e)
 is-some (some x) e = (x, refl)
@@ -158,6 +171,16 @@ true-any f n k h e = go (any f n) refl
     go true g = refl
     go false g = absurd (true≢false (sym e ∙ any-false f n g k h))
 
+-- tests that agree below n
+pub any-same : (f g : ℕ → Bool) (n : ℕ) → ((k : ℕ) → k < n → f k ≡ g k) → any f n ≡ any g n
+any-same f g n h = go (any f n) refl (any g n) refl
+  where
+    go : (a : Bool) → any f n ≡ a → (b : Bool) → any g n ≡ b → a ≡ b
+    go true e true d = refl
+    go true e false d = let p = any-true f n e in absurd (true≢false (sym (p .2) ∙ h (p .0) (p .1) ∙ any-false g n d (p .0) (p .1)))
+    go false e true d = let p = any-true g n d in absurd (true≢false (sym (p .2) ∙ sym (h (p .0) (p .1)) ∙ any-false f n e (p .0) (p .1)))
+    go false e false d = refl
+
 -- ---- pairs: the lowest s, then the lowest a
 module _ {A : Type 0} (f : ℕ → ℕ → Bool) (x : ℕ → ℕ → A) (n m : ℕ) where
   pub least2-none : least2 f x n m ≡ none → (s a : ℕ) → s < n → a < m → f s a ≡ false
@@ -196,3 +219,11 @@ module _ {A : Type 0} (f : ℕ → ℕ → Bool) (x : ℕ → ℕ → A) (n m : 
     here = some-seek (λ a. when (f s a) (x s a)) 0 m (record { place = a; from = omega arith; below = l .second; here = rw (l .here); least = λ b p q. rw (l .before b q) });
     least = λ t p q. none-seek (λ a. when (f t a) (x t a)) 0 m (λ b u v. rw (l .lower t b q v));
   })
+
+-- ---- how a loop that tests goes on
+module _ (g : ℕ → Bool) (lo hi : ℕ) (h : lo < hi) where
+  pub test-here : g lo ≡ true → seek (λ k. when (g k) k) lo hi ≡ some lo
+  test-here e = seek-here (λ k. when (g k) k) lo hi h (rw e)
+
+  pub test-next : g lo ≡ false → seek (λ k. when (g k) k) lo hi ≡ seek (λ k. when (g k) k) (lo + 1) hi
+  test-next e = seek-next (λ k. when (g k) k) lo hi h (rw e)

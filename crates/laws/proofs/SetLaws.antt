@@ -11,7 +11,7 @@ use native.Mathlib.Decide.{decLt, ℕ-discrete}
 use lib.Bits.{bitAnd, bitOr, bitXor, differ, and-step, or-step, xor-step, or-shr, and-shr, xor-shr, or-comm, and-comm, or-zero-r, and-zero-r, and-mask, and-le-l, xor-add-and}
 use lib.Dec.{eqb}
 use borrow.Author.Tests.{eqb-true, eq-eqb, ne-eqb, not-true}
-use Rattle.laws.proofs.TestLaws.{not-so}
+use Rattle.laws.proofs.TestLaws.{not-so, or-false}
 use Rattle.laws.specs.Sets.{bit, has, _∖_ as without, within, _∈_, _⊆_, Apart}
 
 -- ---- the digits of the operations
@@ -122,11 +122,7 @@ bit-one-other x y ne = by-cases (decLt x y)
     high d e = rw (e, pow-add 2 (suc d) y, mul-div-cancel (2 ^ suc d) (pow-pos y), pow-suc 2 d) (mul-mod-left (2 ^ d) 2)
 
 pub not-or : (s t x : ℕ) → has (bitOr s t) x ≡ false → (has s x ≡ false) × (has t x ≡ false)
-not-or s t x e = go (has s x) (has t x) (sym (has-or s t x) ∙ e)
-  where
-    go : (a b : Bool) → (a || b) ≡ false → (a ≡ false) × (b ≡ false)
-    go true b e = absurd (true≢false e)
-    go false b e = (refl, e)
+not-or s t x e = or-false (has s x) (has t x) (sym (has-or s t x) ∙ e)
 
 pub or-not : (s t x : ℕ) → has s x ≡ false → has t x ≡ false → has (bitOr s t) x ≡ false
 or-not s t x p q = has-or s t x ∙ ap₂ _||_ p q
@@ -196,10 +192,6 @@ same-members s t f g = omega (arith, subset-le s t f, subset-le t s g)
 
 pub without-lt : (k s t : ℕ) → s < 2 ^ k → without s t < 2 ^ k
 without-lt k s t h = omega (arith, and-le-l s (bitXor s t))
-
--- the set of one member tells it
-pub one-same : (x y : ℕ) → 2 ^ x ≡ 2 ^ y → x ≡ y
-one-same x y e = one-in y x (ap (λ n. has n x) (sym e) ∙ in-one x)
 
 -- ---- sets regrouped
 pub or-regroup : (a b c d : ℕ) → bitOr (bitOr a b) (bitOr c d) ≡ bitOr (bitOr a c) (bitOr b d)

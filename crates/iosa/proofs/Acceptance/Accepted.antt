@@ -1,13 +1,12 @@
 -- Accepted exactly: no refusal of 10 to 17 exactly if each component meets (a) to (f) and the system is compatible.
-use mathlib.Core.Path.{_≡_, refl, sym, _∙_, ap}
+use mathlib.Core.Path.{_≡_, refl}
 use mathlib.Core.Logic.{_↔_}
-use mathlib.Core.Bool.{Bool, true, false}
 use mathlib.Core.Option.{Option, none, some}
-use mathlib.Core.List.{List, [], _∷_}
+use mathlib.Core.List.{[], _∷_}
 use Prim.Native.Nat.{ℕ, zero, suc, _+_, _<_}
 use native.Mathlib.Omega.{arith}
 use lib.ListN.{length}
-use Rattle.laws.specs.Search.{when, orElse, mapSome}
+use Rattle.laws.specs.Search.{mapSome}
 use Rattle.laws.proofs.SearchLaws.{no-some, when-none, or-else-none, map-none}
 use Rattle.answer.specs.Told.{Told, tell}
 use Rattle.iosa.specs.Model.{Comp, Model, compAt}

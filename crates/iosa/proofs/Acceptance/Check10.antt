@@ -1,21 +1,20 @@
 -- 10 "(a) or (b) broken": the test of a row, and that the search finds none exactly if (a) and (b) hold.
-use mathlib.Core.Path.{_≡_, refl, sym, _∙_, ap}
-use mathlib.Core.Logic.{_≢_, _↔_, _⊎_, inl, inr, ⊎-elim}
-use mathlib.Core.Bool.{Bool, true, false, _&&_, _||_, not, true≢false, false≢true}
-use mathlib.Core.Option.{Option, none, some}
-use Prim.Native.Nat.{ℕ, zero, suc, _<_}
+use mathlib.Core.Path.{_≡_, sym, _∙_, ap}
+use mathlib.Core.Logic.{_↔_, _⊎_, inl, inr, ⊎-elim}
+use mathlib.Core.Bool.{true, _&&_, _||_, not, true≢false}
+use mathlib.Core.Option.{none}
+use Prim.Native.Nat.{ℕ, _<_}
 use native.Mathlib.Decide.{ℕ-discrete}
-use native.Mathlib.Omega.{arith}
 use lib.ListN.{length}
 use lib.Dec.{eqb}
 use borrow.Author.Tests.{eqb-true, eqb-false, eq-eqb, ne-eqb, not-true}
-use Rattle.laws.specs.Sets.{has, _∈_, _∪_, only}
+use Rattle.laws.specs.Sets.{has, _∈_}
 use Rattle.laws.proofs.SetLaws.{in-or, or-in-l, or-in-r, or-cases, or-right}
 use Rattle.laws.proofs.SearchLaws.{least-none, none-least}
 use Rattle.laws.proofs.TestLaws.{and-true, not-so}
-use Rattle.iosa.specs.Model.{Row, Comp, rowAt, guardSet, outputs, urgents}
+use Rattle.iosa.specs.Model.{Comp, rowAt, guardSet, outputs, urgents}
 use Rattle.iosa.specs.WellFormed.{WellComp}
-use Rattle.iosa.specs.Automaton.{Leads, autoOf, CondA, CondB}
+use Rattle.iosa.specs.Automaton.{autoOf, CondA, CondB}
 use Rattle.iosa.specs.Checks.{unclocked, badGuard, check10}
 use Rattle.iosa.specs.Faults.{AgainstA, AgainstB, Broken10}
 use Rattle.iosa.proofs.Acceptance.Guards.{guard-zero, guard-some, only-some}

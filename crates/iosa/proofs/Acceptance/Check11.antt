@@ -1,19 +1,18 @@
 -- 11 "(c) broken": the test of a row, and that the search finds none exactly if (c) holds.
-use mathlib.Core.Path.{_≡_, refl, sym, _∙_, ap}
+use mathlib.Core.Path.{_≡_, sym, _∙_}
 use mathlib.Core.Logic.{_≢_, _↔_}
-use mathlib.Core.Bool.{Bool, true, false, _&&_, not, true≢false}
-use mathlib.Core.Option.{Option, none, some}
-use Prim.Native.Nat.{ℕ, zero, suc, _<_}
+use mathlib.Core.Bool.{true, _&&_, not, true≢false}
+use mathlib.Core.Option.{none}
+use Prim.Native.Nat.{ℕ, suc, _<_}
 use native.Mathlib.Omega.{arith}
 use lib.ListN.{length}
 use lib.Dec.{eqb}
 use borrow.Author.Tests.{eqb-true, eqb-false, eq-eqb, ne-eqb, not-true}
 use Rattle.laws.specs.Sets.{_∈_}
-use Rattle.laws.specs.Search.{any}
 use Rattle.laws.proofs.SearchLaws.{least-none, none-least, any-true, true-any}
 use Rattle.laws.proofs.TestLaws.{and-true, not-so, apart-cases}
 use Rattle.laws.proofs.SetLaws.{in-one}
-use Rattle.iosa.specs.Model.{Row, Comp, rowAt, guardSet}
+use Rattle.iosa.specs.Model.{Row, Comp, rowAt}
 use Rattle.iosa.specs.WellFormed.{WellComp}
 use Rattle.iosa.specs.Automaton.{Leads, autoOf, CondC}
 use Rattle.iosa.specs.Checks.{sameClock, repeats, check11}

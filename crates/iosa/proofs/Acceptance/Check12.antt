@@ -1,21 +1,21 @@
 -- 12 "(d) broken": the test of a state and an action, and that the search finds none exactly if (d) holds, given (a).
-use mathlib.Core.Path.{_≡_, refl, sym, _∙_, ap}
+use mathlib.Core.Path.{_≡_, refl}
 use mathlib.Core.Logic.{_↔_}
-use mathlib.Core.Bool.{Bool, true, false, _&&_, not, true≢false}
+use mathlib.Core.Bool.{true, _&&_, not}
 use mathlib.Core.Option.{Option, none, some}
 use Prim.Native.Nat.{ℕ, _<_}
 use borrow.Author.Tests.{not-true, not-false}
-use Rattle.laws.specs.Sets.{has, _∈_}
+use Rattle.laws.specs.Sets.{has}
 use Rattle.laws.specs.Search.{isSome}
-use Rattle.laws.proofs.SearchLaws.{no-some, is-some, is-none, least2-none, none-least2}
+use Rattle.laws.proofs.SearchLaws.{is-some, is-none, least2-none, none-least2}
 use Rattle.laws.proofs.TestLaws.{and-true, and-false, not-so}
 use Rattle.answer.specs.Limits.{maxActions}
 use Rattle.iosa.specs.Model.{Row, Comp, inputs}
 use Rattle.iosa.specs.WellFormed.{WellComp}
-use Rattle.iosa.specs.Automaton.{Leads, autoOf, CondA, CondD}
+use Rattle.iosa.specs.Automaton.{autoOf, CondA, CondD}
 use Rattle.iosa.specs.Checks.{rowFor, lacksRow, cellOf, check12}
 use Rattle.iosa.specs.Faults.{Broken12}
-use Rattle.iosa.proofs.Acceptance.Rows.{row-found, found-leads, row-missing, leads-found, input-unclocked, input-below}
+use Rattle.iosa.proofs.Acceptance.Rows.{row-found, found-leads, row-missing, input-unclocked, input-below}
 
 module _ (c : Comp) where
   -- ---- the test of a state and an action

@@ -1,17 +1,17 @@
 -- 13 "(e) or the house rule broken": the test of a state and an action, and that the search finds none exactly if (e) holds.
-use mathlib.Core.Path.{_≡_, refl, sym, _∙_, ap}
+use mathlib.Core.Path.{_≡_, refl, sym, _∙_}
 use mathlib.Core.Logic.{_↔_}
-use mathlib.Core.Bool.{Bool, true, false, _&&_, not, true≢false}
-use mathlib.Core.Option.{Option, none, some}
+use mathlib.Core.Bool.{true, _&&_, true≢false}
+use mathlib.Core.Option.{none}
 use Prim.Native.Nat.{ℕ, _<_}
 use native.Mathlib.Omega.{arith}
 use lib.ListN.{length}
 use Rattle.laws.specs.Sets.{has, _∈_}
 use Rattle.laws.specs.Search.{any}
 use Rattle.laws.proofs.SearchLaws.{any-true, true-any, least2-none, none-least2}
-use Rattle.laws.proofs.TestLaws.{and-true, and-false, not-so, apart-cases}
+use Rattle.laws.proofs.TestLaws.{and-true, not-so, apart-cases}
 use Rattle.answer.specs.Limits.{maxActions}
-use Rattle.iosa.specs.Model.{Row, Comp, rowAt, guardSet}
+use Rattle.iosa.specs.Model.{Comp, rowAt, guardSet}
 use Rattle.iosa.specs.WellFormed.{WellComp}
 use Rattle.iosa.specs.Automaton.{Leads, autoOf, CondE}
 use Rattle.iosa.specs.Checks.{leaves, unclocked, twice, cellOf, check13}

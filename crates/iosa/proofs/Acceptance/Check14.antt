@@ -1,29 +1,29 @@
 -- 14 "(f) broken": narrowing ends in the greatest sets, and the test fails exactly if (f) holds.
 use mathlib.Core.Path.{_≡_, refl, sym, _∙_, ap}
 use mathlib.Core.Logic.{_≢_, _↔_, by-cases}
-use mathlib.Core.Bool.{Bool, true, false, not, true≢false}
+use mathlib.Core.Bool.{true, false, not, true≢false}
 use mathlib.Core.Option.{Option, none, some}
-use mathlib.Core.List.{List, [], _∷_}
-use Prim.Native.Nat.{ℕ, zero, suc, _+_, _≤_, _<_}
+use mathlib.Core.List.{List}
+use Prim.Native.Nat.{ℕ, zero, suc, _≤_, _<_}
 use native.Mathlib.Omega.{arith}
 use native.Mathlib.Decide.{ℕ-discrete}
-use lib.ListN.{length, getD, set, length-set}
+use lib.ListN.{length, getD, length-set}
 use lib.Seq.{getD-set-same, getD-set-other}
 use lib.Bits.{and-le-l}
 use borrow.Author.Tests.{eqb-false, not-true, not-false}
 use Rattle.laws.specs.Sets.{_∩_, within, _∈_, _⊆_}
-use Rattle.laws.specs.Search.{least}
+use Rattle.laws.specs.Search.{least, any}
 use Rattle.laws.specs.Fold.{tab, sum}
 use Rattle.laws.proofs.SetLaws.{in-and, within-true, true-within}
-use Rattle.laws.proofs.SearchLaws.{least-none, least-some, any-true, any-false}
+use Rattle.laws.proofs.SearchLaws.{least-none, least-some, any-true, any-false, any-same}
 use Rattle.laws.proofs.FoldLaws.{tab-length, tab-at, sum-set}
 use Rattle.laws.proofs.TestLaws.{not-so}
 use Rattle.iosa.specs.Model.{Row, Comp, rowAt}
 use Rattle.iosa.specs.WellFormed.{WellComp}
 use Rattle.iosa.specs.Automaton.{autoOf, CondF}
 use Rattle.iosa.specs.Checks.{enablingOf, allowed, handedOn, breaks, narrowed, narrow, greatest, check14}
-use Rattle.iosa.specs.Greatest.{Allows, Above, Greatest}
-use Rattle.iosa.proofs.Acceptance.GreatestSets.{greatest-decides, above-handed}
+use Rattle.iosa.specs.Greatest.{Above, Greatest}
+use Rattle.iosa.proofs.Acceptance.GreatestSets.{greatest-decides, greatest-determined, above-handed}
 
 -- the sets of a list, one for each state
 abbrev pub setsOf : List ℕ → ℕ → ℕ
@@ -137,3 +137,9 @@ module _ (c : Comp) (w : WellComp c) where
             true≢false (sym (true-within (enablingOf c (a .0)) (setsOf (greatest c) (a .0)) (d .0 f (a .0) (a .1)))
             ∙ not-true (within (enablingOf c (a .0)) (setsOf (greatest c) (a .0))) (a .2))),
       )
+
+  -- and any greatest sets answer the test
+  pub check14-by-greatest : (A : ℕ → ℕ) → Greatest c A → any (λ s. not (within (enablingOf c s) (A s))) (c .states) ≡ check14 c
+  unfolding check14
+  check14-by-greatest A g = any-same (λ s. not (within (enablingOf c s) (A s))) (λ s. not (within (enablingOf c s) (setsOf (greatest c) s))) (c .states)
+      (λ s h. ap (λ v. not (within (enablingOf c s) v)) (greatest-determined c w A (setsOf (greatest c)) g greatest-is-greatest s h))

@@ -1,23 +1,22 @@
 -- 18 with its place, exactly: of an accepted model it is answered with the least component, state, lower and higher action that clash.
-use mathlib.Core.Path.{_≡_, refl, sym, _∙_, ap}
+use mathlib.Core.Path.{_≡_, refl, _∙_}
 use mathlib.Core.Logic.{_↔_, _⊎_, inl, inr, ⊎-elim}
 use mathlib.Core.Option.{Option, none, some}
 use mathlib.Core.List.{List, [], _∷_}
-use Prim.Native.Nat.{ℕ, suc, _+_, _<_}
+use Prim.Native.Nat.{ℕ, suc, _+_}
 use native.Mathlib.Omega.{arith}
-use lib.ListN.{length, take}
+use lib.ListN.{length}
 use Rattle.laws.specs.Search.{orElse, mapSome}
-use Rattle.laws.proofs.SearchLaws.{no-some}
 use Rattle.answer.specs.Limits.{maxActions}
 use Rattle.answer.specs.Told.{Told, tell}
-use Rattle.iosa.specs.Model.{Comp, Model, compAt, rowCount}
+use Rattle.iosa.specs.Model.{Comp, Model, compAt}
 use Rattle.iosa.specs.WellFormed.{WellComp, WellFormed}
 use Rattle.iosa.specs.Checks.{clashes, check18, clashAmong, acceptOf, confluentOf}
 use Rattle.iosa.specs.Faults.{Broken18, Clash, clash, Fault, First}
 use Rattle.iosa.proofs.Acceptance.Rows.{Single, from-below, urgent-below}
 use Rattle.iosa.proofs.Acceptance.Check18.{clash-broken, broken-clash}
 use Rattle.iosa.proofs.Acceptance.ConfluentExactly.{accepted-single}
-use Rattle.iosa.proofs.Acceptance.Ranks.{Decides, decided-exactly, decides-as, decides-map, Told′}
+use Rattle.iosa.proofs.Acceptance.Ranks.{Decides, decided-exactly, decides-as, decides-map, Retold}
 use Rattle.iosa.proofs.Acceptance.Places.{AtThree, decides-three}
 use Rattle.iosa.proofs.Acceptance.InTurn.{inTurn, InTurn, decides-turn}
 use Rattle.iosa.proofs.Acceptance.Refused.{refused-exactly, unrefused-exactly}
@@ -27,7 +26,7 @@ clashAt : ℕ → ℕ → Comp → Option Told
 clashAt i n c = mapSome (λ p. tell 18 (i ∷ p)) (check18 c)
 
 abbrev Clashing : Comp → ℕ → ℕ → List ℕ → Told → Type 0
-Clashing c i n = Told′ (λ p. tell 18 (i ∷ p)) (AtThree (Broken18 c))
+Clashing c i n = Retold (λ p. tell 18 (i ∷ p)) (AtThree (Broken18 c))
 
 pub decides-18 : (c : Comp) → WellComp c → Single c → Decides (AtThree (Broken18 c)) (check18 c)
 unfolding check18

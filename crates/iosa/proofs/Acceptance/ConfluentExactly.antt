@@ -1,16 +1,16 @@
 -- Confluent exactly: of an accepted model no 18 exactly if every component is confluent.
-use mathlib.Core.Path.{_≡_, refl, sym, _∙_, ap}
+use mathlib.Core.Path.{_≡_, refl}
 use mathlib.Core.Logic.{_↔_}
 use mathlib.Core.Option.{Option, none, some}
 use mathlib.Core.List.{List, [], _∷_}
-use Prim.Native.Nat.{ℕ, zero, suc, _+_, _<_}
+use Prim.Native.Nat.{ℕ, zero, suc, _<_}
 use native.Mathlib.Omega.{arith}
 use lib.ListN.{length}
 use Rattle.laws.proofs.SearchLaws.{no-some, or-else-none}
 use Rattle.answer.specs.Told.{Told, tell}
-use Rattle.iosa.specs.Model.{Comp, Model, compAt}
+use Rattle.iosa.specs.Model.{Model, compAt}
 use Rattle.iosa.specs.WellFormed.{WellFormed}
-use Rattle.iosa.specs.Automaton.{autoOf, Conditions, AllConfluent}
+use Rattle.iosa.specs.Automaton.{AllConfluent}
 use Rattle.iosa.specs.Checks.{check18, clashAmong, acceptOf, confluentOf}
 use Rattle.iosa.proofs.Acceptance.Rows.{Single}
 use Rattle.iosa.proofs.Acceptance.Check18.{check18-exactly}

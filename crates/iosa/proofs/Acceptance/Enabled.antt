@@ -1,5 +1,5 @@
 -- Stable and enabling, computed exactly: the test `unstable` and the set `enablingOf` say what document 000 does.
-use mathlib.Core.Path.{_≡_, refl, sym, _∙_, ap}
+use mathlib.Core.Path.{_≡_, refl, sym, _∙_}
 use mathlib.Core.Logic.{⊎-elim}
 use mathlib.Core.Bool.{Bool, true, false, _&&_, cond, true≢false}
 use mathlib.Core.List.{List, [], _∷_}
@@ -14,7 +14,7 @@ use Rattle.laws.proofs.SearchLaws.{any-true, any-false}
 use Rattle.laws.proofs.TestLaws.{and-true, not-so}
 use Rattle.iosa.specs.Model.{Row, Comp, rowAt, noRow, guardSet}
 use Rattle.iosa.specs.WellFormed.{WellComp}
-use Rattle.iosa.specs.Automaton.{Leads, autoOf, UrgentRow, Stable, Enabling}
+use Rattle.iosa.specs.Automaton.{autoOf, Stable, Enabling}
 use Rattle.iosa.specs.Checks.{enablingIn, enablingOf, unstable}
 
 -- ---- enabling

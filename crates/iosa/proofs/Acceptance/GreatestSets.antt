@@ -1,28 +1,17 @@
 -- (f) by the greatest sets: they are determined, and sets that will do can be given exactly if these will.
-use mathlib.Core.Path.{_≡_, refl, sym, _∙_, ap, subst}
-use mathlib.Core.Logic.{_≢_, _↔_, ⊎-elim, by-cases}
-use mathlib.Core.Bool.{Bool, true, false, _&&_, not, cond, true≢false, false≢true}
-use mathlib.Core.Option.{Option, none, some}
-use mathlib.Core.List.{List, [], _∷_}
-use Prim.Native.Nat.{ℕ, zero, suc, _+_, _≤_, _<_}
-use native.Mathlib.Omega.{arith}
-use native.Mathlib.Decide.{ℕ-discrete}
-use lib.ListN.{length, getD, set, length-set}
-use lib.Seq.{getD-set-same, getD-set-other}
-use lib.Bits.{bitAnd, and-le-l}
+use mathlib.Core.Path.{_≡_, refl, sym, subst}
+use mathlib.Core.Logic.{_↔_, ⊎-elim}
+use mathlib.Core.Bool.{Bool, true, false, cond, true≢false, false≢true}
+use Prim.Native.Nat.{ℕ, _<_}
+use lib.ListN.{length}
 use lib.Dec.{eqb}
-use borrow.Author.Tests.{eqb-true, eqb-false, eq-eqb, not-true, not-false}
+use borrow.Author.Tests.{eqb-true, eq-eqb}
 use Rattle.laws.specs.Sets.{has, _∪_, _∩_, _∖_, within, _∈_, _⊆_}
-use Rattle.laws.specs.Search.{least}
-use Rattle.laws.specs.Fold.{tab, sum}
-use Rattle.laws.proofs.SetLaws.{in-or, or-in-l, or-in-r, in-and, and-in, in-without, without-in, within-true, true-within, has-ext}
-use Rattle.laws.proofs.SearchLaws.{least-none, least-some, any-true, any-false}
-use Rattle.laws.proofs.FoldLaws.{tab-length, tab-at, sum-set}
-use Rattle.laws.proofs.TestLaws.{not-so}
-use Rattle.iosa.specs.Model.{Row, Comp, rowAt, guardSet}
+use Rattle.laws.proofs.SetLaws.{in-or, or-in-l, or-in-r, in-and, and-in, in-without, without-in, has-ext}
+use Rattle.iosa.specs.Model.{Comp, rowAt, guardSet}
 use Rattle.iosa.specs.WellFormed.{WellComp}
-use Rattle.iosa.specs.Automaton.{Leads, autoOf, Stable, Enabling, Active, CondF}
-use Rattle.iosa.specs.Checks.{enablingOf, unstable, allowed, handedOn, breaks, narrowed, narrow, greatest, check14}
+use Rattle.iosa.specs.Automaton.{autoOf, Active, CondF}
+use Rattle.iosa.specs.Checks.{enablingOf, unstable, allowed}
 use Rattle.iosa.specs.Greatest.{handed, Allows, Above, Greatest}
 use Rattle.iosa.proofs.Acceptance.Rows.{leads-at}
 use Rattle.iosa.proofs.Acceptance.Enabled.{enabling-row, row-enabling, stable-test, test-stable}
@@ -43,16 +32,16 @@ abbrev restPart : Comp → ℕ → ℕ
 restPart c s = cond (unstable c s) (c .clocks) (enablingOf c s)
 
 module _ (c : Comp) where
+  parts-allowed : (s x : ℕ) → x ∈ c .clocks → x ∈ startPart c s → x ∈ restPart c s → x ∈ allowed c s
+  unfolding allowed
+  parts-allowed s x p q r = and-in (c .clocks) (startPart c s ∩ restPart c s) x p (and-in (startPart c s) (restPart c s) x q r)
+
   allowed-parts : (s x : ℕ) → x ∈ allowed c s → (x ∈ c .clocks) × (x ∈ startPart c s) × (x ∈ restPart c s)
   unfolding allowed
   allowed-parts s x h =
       let p = in-and (c .clocks) (startPart c s ∩ restPart c s) x h in
       let q = in-and (startPart c s) (restPart c s) x (p .1) in
       (p .0, q .0, q .1)
-
-  parts-allowed : (s x : ℕ) → x ∈ c .clocks → x ∈ startPart c s → x ∈ restPart c s → x ∈ allowed c s
-  unfolding allowed
-  parts-allowed s x p q r = and-in (c .clocks) (startPart c s ∩ restPart c s) x p (and-in (startPart c s) (restPart c s) x q r)
 
 handed-grows : (t u C R : ℕ) → t ⊆ u → (t ∖ C ∪ R) ⊆ (u ∖ C ∪ R)
 handed-grows t u C R f x h = ⊎-elim

@@ -1,11 +1,9 @@
 -- A guard is none or one clock: what its set of clocks tells.
-use mathlib.Core.Path.{_≡_, refl, sym, _∙_, ap, subst}
-use mathlib.Core.Logic.{_≢_, by-cases}
-use mathlib.Core.Bool.{true, false, true≢false}
-use Prim.Native.Nat.{ℕ, zero, suc, _^_, _<_}
+use mathlib.Core.Path.{_≡_, refl, sym, ap, subst}
+use mathlib.Core.Logic.{_≢_}
+use Prim.Native.Nat.{ℕ, zero, suc}
 use native.Mathlib.Omega.{arith}
-use native.Mathlib.Decide.{decLt}
-use lib.Pow.{pow-pos, pow-lt}
+use lib.Pow.{pow-pos}
 use Rattle.laws.specs.Sets.{_∈_, only}
 use Rattle.laws.proofs.SetLaws.{in-one, one-in, none-in}
 use Rattle.iosa.specs.Model.{guardSet}

@@ -1,21 +1,21 @@
 -- 15 to 17: the tests of two components, and that the searches find none exactly if every two components are compatible.
-use mathlib.Core.Path.{_≡_, refl, sym, _∙_, ap, ap₂}
+use mathlib.Core.Path.{_≡_, refl, sym, _∙_}
 use mathlib.Core.Logic.{_↔_, _⊎_, inl, inr, ⊎-elim}
 use mathlib.Core.Bool.{Bool, true, false, _&&_, _||_, true≢false}
-use mathlib.Core.Option.{Option, none, some}
-use mathlib.Core.List.{List, [], _∷_}
+use mathlib.Core.Option.{none}
+use mathlib.Core.List.{[], _∷_}
 use Prim.Native.Nat.{ℕ, suc, _<_}
 use native.Mathlib.Omega.{arith}
 use lib.ListN.{length}
-use Rattle.laws.specs.Sets.{has, _∈_, _∪_}
+use Rattle.laws.specs.Sets.{has, _∈_}
 use Rattle.laws.specs.Search.{seek, when}
 use Rattle.laws.proofs.SetLaws.{in-or, or-in-l, or-in-r, or-cases, or-right, in-below}
 use Rattle.laws.proofs.SearchLaws.{seek-none, none-seek, when-none}
-use Rattle.laws.proofs.TestLaws.{and-true, and-not-both, not-so}
+use Rattle.laws.proofs.TestLaws.{and-true, not-so}
 use Rattle.answer.specs.Limits.{maxActions, maxClocks}
 use Rattle.iosa.specs.Model.{Comp, Model, compAt, inputs, outputs, urgents}
 use Rattle.iosa.specs.WellFormed.{WellComp, WellFormed}
-use Rattle.iosa.specs.Automaton.{autoOf, alphabet, Compatible, Joinable}
+use Rattle.iosa.specs.Automaton.{autoOf, alphabet, Joinable}
 use Rattle.iosa.specs.Checks.{clashIn, clashFor, shareOutput, shareClock, calmActs, differUrgent, check15, check16, check17}
 use Rattle.iosa.specs.Faults.{OnlyThere}
 use Rattle.iosa.proofs.Acceptance.Rows.{output-below, urgent-below}

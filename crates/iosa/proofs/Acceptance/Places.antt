@@ -1,14 +1,13 @@
 -- The searches of the checks answer the least place: of one number, of a pair, of three.
 use mathlib.Core.Path.{_≡_, refl, sym, _∙_, ap}
-use mathlib.Core.Logic.{_↔_, _⊎_, inl, inr, ⊎-elim}
-use mathlib.Core.Bool.{Bool, true, false}
-use mathlib.Core.Option.{Option, none, some}
+use mathlib.Core.Logic.{_⊎_, ⊎-elim}
+use mathlib.Core.Bool.{Bool, true}
+use mathlib.Core.Option.{Option}
 use mathlib.Core.List.{List, [], _∷_}
-use Prim.Native.Nat.{ℕ, zero, suc, _≤_, _<_}
+use Prim.Native.Nat.{ℕ, suc, _≤_, _<_}
 use native.Mathlib.Omega.{arith}
 use Rattle.laws.specs.Search.{seek, when, orElse, least, least2}
-use Rattle.iosa.specs.WellFormed.{lower}
-use Rattle.iosa.proofs.Acceptance.Ranks.{Decides, decides-as, decides-when, decides-seek, decides-else, lower-head, Here, Among, Under, Told′}
+use Rattle.iosa.proofs.Acceptance.Ranks.{Decides, decides-as, decides-when, decides-seek, decides-else, lower-head, Here, Among, Under, Retold}
 
 -- ---- the places
 pub record AtOne (P : ℕ → Type 0) (q : List ℕ) (t : ℕ) : Type 0 where
@@ -131,7 +130,7 @@ module _ {A : Type 0} (n : ℕ) {G H : List ℕ → A → Type 0} (g : Headed n 
 
 -- ---- a number, and what is told of a place
 abbrev pub Numbered : {A B : Type 0} → ℕ → (A → B) → (List ℕ → A → Type 0) → List ℕ → B → Type 0
-Numbered n g F = Under n (Told′ g F)
+Numbered n g F = Under n (Retold g F)
 
 pub headed : {A : Type 0} (n : ℕ) (F : List ℕ → A → Type 0) → Headed n (Under n F)
 headed n F q t u = (u .tail, u .split)

@@ -4,12 +4,12 @@ use mathlib.Core.Logic.{_↔_, _⊎_, inl, inr, ⊎-elim}
 use mathlib.Core.Bool.{Bool, true, false, true≢false, false≢true}
 use mathlib.Core.Option.{Option, none, some}
 use mathlib.Core.List.{List, [], _∷_}
-use Prim.Native.Nat.{ℕ, zero, suc, _≤_, _<_}
+use Prim.Native.Nat.{ℕ, _≤_, _<_}
 use native.Mathlib.Omega.{arith}
 use lib.Dec.{eqb, ltb}
 use borrow.Author.Tests.{eqb-true, eq-eqb, ne-eqb, ltb-true, lt-ltb}
 use Rattle.laws.specs.Search.{seek, when, orElse, mapSome}
-use Rattle.laws.proofs.SearchLaws.{no-some, seek-some, seek-none, some-seek, when-some, when-none, map-none, map-some}
+use Rattle.laws.proofs.SearchLaws.{no-some, seek-some, seek-none, some-seek, when-some, map-none, map-some}
 use Rattle.iosa.specs.WellFormed.{lower}
 use Rattle.iosa.specs.Faults.{First}
 use Rattle.iosa.proofs.Acceptance.Order.{lower-irreflexive, lower-transitive}
@@ -184,12 +184,12 @@ module _ {A : Type 0} where
               absurd (p .before (j ∷ s .rank) u (rw (g .split) (lower-head j (g .place) (s .rank) (g .tail) k)) (record { place = j; tail = s .rank; from = h; below = b; split = refl; there = s .here }))
 
 -- an answer in other words
-pub record Told′ {A B : Type 0} (g : A → B) (F : List ℕ → A → Type 0) (q : List ℕ) (t : B) : Type 0 where
+pub record Retold {A B : Type 0} (g : A → B) (F : List ℕ → A → Type 0) (q : List ℕ) (t : B) : Type 0 where
   pub value : A
   pub told : t ≡ g value
   pub there : F q value
 
-pub decides-map : {A B : Type 0} (g : A → B) {F : List ℕ → A → Type 0} {o : Option A} → Decides F o → Decides (Told′ g F) (mapSome g o)
+pub decides-map : {A B : Type 0} (g : A → B) {F : List ℕ → A → Type 0} {o : Option A} → Decides F o → Decides (Retold g F) (mapSome g o)
 decides-map {A} {B} g {F} {o} d = record {
   found = λ t e.
       let x = map-some g o t e in

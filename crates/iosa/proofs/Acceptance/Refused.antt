@@ -1,5 +1,5 @@
 -- Refused exactly: 10 to 17 are answered with their place exactly if the condition is broken there and no fault comes before it in 01's order.
-use mathlib.Core.Path.{_≡_, refl, sym, _∙_, ap, subst}
+use mathlib.Core.Path.{_≡_, refl}
 use mathlib.Core.Logic.{_↔_, _⊎_, inl, inr, ⊎-elim}
 use mathlib.Core.Bool.{Bool, true}
 use mathlib.Core.Option.{Option, none, some}
@@ -13,7 +13,7 @@ use Rattle.laws.proofs.SetLaws.{in-below}
 use Rattle.answer.specs.Limits.{maxActions, maxClocks}
 use Rattle.answer.specs.Told.{Told, tell}
 use Rattle.iosa.specs.Model.{Comp, Model, compAt, rowCount}
-use Rattle.iosa.specs.WellFormed.{lower, WellComp, WellFormed}
+use Rattle.iosa.specs.WellFormed.{WellComp, WellFormed}
 use Rattle.iosa.specs.Automaton.{Automaton, autoOf}
 use Rattle.iosa.specs.Checks.{check15, check16, check17, faultAt, faultFrom, clashFor, shareOutput, shareClock, differUrgent, acceptOf}
 use Rattle.iosa.specs.Faults.{Broken15, Broken16, Broken17, OnlyThere, Between, FaultAt, Fault, inside, output-shared, clock-shared, urgency-differs, First}

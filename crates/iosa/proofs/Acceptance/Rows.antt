@@ -1,15 +1,15 @@
 -- The row that `rowFor` finds is a row of the relation, and where (a) and (e) hold it is the only one.
 use mathlib.Core.Path.{_≡_, refl, sym, _∙_, ap}
 use mathlib.Core.Logic.{⊎-elim}
-use mathlib.Core.Bool.{Bool, true, false, _&&_, true≢false}
+use mathlib.Core.Bool.{true, false, true≢false}
 use mathlib.Core.Option.{Option, none, some}
-use Prim.Native.Nat.{ℕ, zero, suc, _<_}
+use Prim.Native.Nat.{ℕ, _<_}
 use native.Mathlib.Omega.{arith}
 use lib.ListN.{length}
 use lib.Dec.{eqb}
 use borrow.Author.Tests.{eqb-true, eq-eqb}
-use Rattle.laws.specs.Sets.{_∈_, _∪_}
-use Rattle.laws.specs.Search.{seek, when}
+use Rattle.laws.specs.Sets.{_∈_}
+use Rattle.laws.specs.Search.{when}
 use Rattle.laws.proofs.SetLaws.{or-in-l, or-in-r, in-or, in-below}
 use Rattle.laws.proofs.SearchLaws.{seek-some, seek-none, when-some, when-none}
 use Rattle.laws.proofs.TestLaws.{and-true}

@@ -1,0 +1,126 @@
+-- `fields::kind_of` meets its contract.
+use mathlib.Core.Path.{_≡_, sym, _∙_, ap}
+use lib.ListN.{drop}
+use denote.Ref.{now}
+use Rattle.fields.specs.Fields.{past}
+use Rattle.fields.proofs.FieldLaws.{kind-in, kind-out, kind-uin, kind-uout, kind-none}
+use borrow.Author.Needs.{needs}
+use Rattle.fields.proofs.kind_of.Statement.{statement}
+use Rattle.fields.proofs.kind_of.Tie as tie
+
+slice-aggregate-word : tie.Need-slice-aggregate-word
+slice-aggregate-word c = search needs
+
+word-requires : tie.Need-word-requires
+word-requires c κs = search needs
+
+enum-known-d : tie.Need-enum-known-d
+enum-known-d c = search needs
+
+returns : tie.Need-returns
+returns c =
+    let a = c .before .before .before .before .before .before .args in
+    let t = now (a .text) in
+    sym (kind-in (drop (a .c .at) t) (sym (c .before .before .before .word .ensures) ∙ ap (past t) (c .before .d .given .1)))
+
+enum-told : tie.Need-enum-told
+enum-told c = search needs
+
+slice-aggregate-word-2 : tie.Need-slice-aggregate-word-2
+slice-aggregate-word-2 c = search needs
+
+word-requires-2 : tie.Need-word-requires-2
+word-requires-2 c κs = search needs
+
+enum-known-d-2 : tie.Need-enum-known-d-2
+enum-known-d-2 c = search needs
+
+returns-2 : tie.Need-returns-2
+returns-2 c =
+    let a = c .before .before .before .before .before .before .before .before .before .before .args in
+    let t = now (a .text) in
+    sym (kind-out (drop (a .c .at) t)
+    (sym (c .before .before .before .before .before .before .before .word .ensures) ∙ ap (past t) (c .before .before .before .before .before .enum-told .given .1))
+    (sym (c .before .before .before .word2 .ensures) ∙ ap (past t) (c .before .d2 .given .1)))
+
+enum-told-2 : tie.Need-enum-told-2
+enum-told-2 c = search needs
+
+slice-aggregate-word-3 : tie.Need-slice-aggregate-word-3
+slice-aggregate-word-3 c = search needs
+
+word-requires-3 : tie.Need-word-requires-3
+word-requires-3 c κs = search needs
+
+enum-known-d-3 : tie.Need-enum-known-d-3
+enum-known-d-3 c = search needs
+
+returns-3 : tie.Need-returns-3
+returns-3 c =
+    let a = c .before .before .before .before .before .before .before .before .before .before .before .before .before .before .args in
+    let t = now (a .text) in
+    sym (kind-uin (drop (a .c .at) t)
+    (sym (c .before .before .before .before .before .before .before .before .before .before .before .word .ensures) ∙ ap (past t) (c .before .before .before .before .before .before .before .before .before .enum-told .given .1))
+    (sym (c .before .before .before .before .before .before .before .word2 .ensures) ∙ ap (past t) (c .before .before .before .before .before .enum-told2 .given .1))
+    (sym (c .before .before .before .word3 .ensures) ∙ ap (past t) (c .before .d3 .given .1)))
+
+enum-told-3 : tie.Need-enum-told-3
+enum-told-3 c = search needs
+
+slice-aggregate-word-4 : tie.Need-slice-aggregate-word-4
+slice-aggregate-word-4 c = search needs
+
+word-requires-4 : tie.Need-word-requires-4
+word-requires-4 c κs = search needs
+
+enum-known-d-4 : tie.Need-enum-known-d-4
+enum-known-d-4 c = search needs
+
+returns-4 : tie.Need-returns-4
+returns-4 c =
+    let a = c .before .before .before .before .before .before .before .before .before .before .before .before .before .before .before .before .before .before .args in
+    let t = now (a .text) in
+    sym (kind-uout (drop (a .c .at) t)
+    (sym (c .before .before .before .before .before .before .before .before .before .before .before .before .before .before .before .word .ensures) ∙ ap (past t) (c .before .before .before .before .before .before .before .before .before .before .before .before .before .enum-told .given .1))
+    (sym (c .before .before .before .before .before .before .before .before .before .before .before .word2 .ensures) ∙ ap (past t) (c .before .before .before .before .before .before .before .before .before .enum-told2 .given .1))
+    (sym (c .before .before .before .before .before .before .before .word3 .ensures) ∙ ap (past t) (c .before .before .before .before .before .enum-told3 .given .1))
+    (sym (c .before .before .before .word4 .ensures) ∙ ap (past t) (c .before .d4 .given .1)))
+
+enum-told-4 : tie.Need-enum-told-4
+enum-told-4 c = search needs
+
+returns-5 : tie.Need-returns-5
+returns-5 c =
+    let a = c .before .before .before .before .before .before .before .before .before .before .before .before .before .before .before .before .before .args in
+    let t = now (a .text) in
+    sym (kind-none (drop (a .c .at) t)
+    (sym (c .before .before .before .before .before .before .before .before .before .before .before .before .before .before .word .ensures) ∙ ap (past t) (c .before .before .before .before .before .before .before .before .before .before .before .before .enum-told .given .1))
+    (sym (c .before .before .before .before .before .before .before .before .before .before .word2 .ensures) ∙ ap (past t) (c .before .before .before .before .before .before .before .before .enum-told2 .given .1))
+    (sym (c .before .before .before .before .before .before .word3 .ensures) ∙ ap (past t) (c .before .before .before .before .enum-told3 .given .1))
+    (sym (c .before .before .word4 .ensures) ∙ ap (past t) (c .enum-told4 .given .1)))
+
+pub kind-of-spec : {M : Type 1} → statement M
+kind-of-spec =
+    tie.close
+    (tie.spec
+    slice-aggregate-word
+    word-requires
+    enum-known-d
+    returns
+    enum-told
+    slice-aggregate-word-2
+    word-requires-2
+    enum-known-d-2
+    returns-2
+    enum-told-2
+    slice-aggregate-word-3
+    word-requires-3
+    enum-known-d-3
+    returns-3
+    enum-told-3
+    slice-aggregate-word-4
+    word-requires-4
+    enum-known-d-4
+    returns-4
+    enum-told-4
+    returns-5)

@@ -1,0 +1,78 @@
+-- `fields::resets_of` meets its contract.
+use mathlib.Core.Path.{_≡_, sym, _∙_, ap}
+use lib.ListN.{length, drop}
+use denote.Ref.{now}
+use Rattle.iosa.specs.Reading.{numbersOrDash, moreNumbers}
+use Rattle.fields.specs.Fields.{past, gotNumber}
+use Rattle.fields.specs.Resets.{valued, summary, withAll}
+use Rattle.fields.proofs.FieldLaws.{resets-dash, resets-numbers}
+use Rattle.fields.proofs.ResetLaws.{no-resets, first-number, no-number}
+use borrow.Author.Needs.{needs}
+use Rattle.fields.proofs.resets_of.Statement.{statement}
+use Rattle.fields.proofs.resets_of.Tie as tie
+
+byte-requires : tie.Need-byte-requires
+byte-requires c κs = search needs
+
+enum-known-d : tie.Need-enum-known-d
+enum-known-d c = search needs
+
+returns : tie.Need-returns
+returns c =
+    let a = c .before .before .before .before .before .args in
+    let t = now (a .text) in
+    let bs = drop (a .c .at) t in
+    sym (no-resets (numbersOrDash bs) (drop (c .before .d .given .0 .0 .at) t) (resets-dash bs (sym (c .before .before .before .byte .ensures) ∙ ap (past t) (c .before .d .given .1))))
+
+enum-told : tie.Need-enum-told
+enum-told c = search needs
+
+number-requires : tie.Need-number-requires
+number-requires c κs = search needs
+
+enum-known-n : tie.Need-enum-known-n
+enum-known-n c = search needs
+
+enum-told-2 : tie.Need-enum-told-2
+enum-told-2 c = search needs
+
+returns-2 : tie.Need-returns-2
+returns-2 c =
+    let a = c .before .before .before .before .before .before .before .args in
+    let t = now (a .text) in
+    let bs = drop (a .c .at) t in
+    let d = resets-numbers bs (sym (c .before .before .before .before .before .byte .ensures) ∙ ap (past t) (c .before .before .before .enum-told .given .1)) in
+    sym (ap (valued summary) (d ∙ no-number bs (sym (c .before .before .number .ensures) ∙ ap (gotNumber t) (c .enum-told2 .given .1))))
+
+first-reset-requires : tie.Need-first-reset-requires
+first-reset-requires c κs = search needs
+
+more-resets-requires : tie.Need-more-resets-requires
+more-resets-requires c κs = search needs
+
+returns-3 : tie.Need-returns-3
+returns-3 c =
+    let a = c .before .before .before .before .before .before .before .before .before .before .args in
+    let t = now (a .text) in
+    let bs = drop (a .c .at) t in
+    let v = c .before .before .before .n .given .0 in
+    let cs = drop (v .1 .0 .at) t in
+    let d = resets-numbers bs (sym (c .before .before .before .before .before .before .before .before .byte .ensures) ∙ ap (past t) (c .before .before .before .before .before .before .enum-told .given .1)) in
+    let n = first-number bs cs (v .0) (sym (c .before .before .before .before .before .number .ensures) ∙ ap (gotNumber t) (c .before .before .before .n .given .1)) in
+    c .more-resets .ensures ∙ ap (λ s. valued (withAll s) (moreNumbers (length cs) cs)) (c .before .first-reset .ensures) ∙ sym (ap (valued summary) d ∙ n)
+
+pub resets-of-spec : {M : Type 1} → statement M
+resets-of-spec =
+    tie.close
+    (tie.spec
+    byte-requires
+    enum-known-d
+    returns
+    enum-told
+    number-requires
+    enum-known-n
+    enum-told-2
+    returns-2
+    first-reset-requires
+    more-resets-requires
+    returns-3)

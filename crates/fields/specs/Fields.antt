@@ -1,0 +1,45 @@
+-- What a field's answer says: the value and the bytes behind it, or nothing, as the scans of a line's definition do.
+use mathlib.Core.Option.{Option, none, some}
+use mathlib.Core.List.{List}
+use Prim.Native.Nat.{ℕ}
+use lib.ListN.{drop}
+use Rattle.iosa.specs.Text.{Kind as TheKind, in-kind, out-kind, uin-kind, uout-kind}
+use Rattle.iosa.specs.Reading.{Got, got}
+use Rattle.fields.specs.declared.Step.{Step}
+use Rattle.fields.specs.declared.Step.the-variants as OfStep
+use Rattle.fields.specs.declared.NumberScan.{NumberScan}
+use Rattle.fields.specs.declared.NumberScan.the-variants as OfNumber
+use Rattle.fields.specs.declared.Guard.{Guard}
+use Rattle.fields.specs.declared.Guard.the-variants as OfGuard
+use Rattle.fields.specs.declared.GuardScan.{GuardScan}
+use Rattle.fields.specs.declared.GuardScan.the-variants as OfGuardScan
+use Rattle.fields.specs.declared.Kind.{Kind}
+use Rattle.fields.specs.declared.Kind.the-variants as OfKind
+use Rattle.fields.specs.declared.KindScan.{KindScan}
+use Rattle.fields.specs.declared.KindScan.the-variants as OfKindScan
+
+abbrev pub past : List ℕ → Step → Option (Got (Unit {0}))
+past t (OfStep.Past c) = got tt (drop (c .at) t)
+past t OfStep.Missing = none
+
+abbrev pub gotNumber : List ℕ → NumberScan → Option (Got ℕ)
+gotNumber t (OfNumber.Is n c) = got n (drop (c .at) t)
+gotNumber t OfNumber.Missing = none
+
+abbrev pub guardOf : Guard → Option ℕ
+guardOf OfGuard.Dash = none
+guardOf (OfGuard.Clock x) = some x
+
+abbrev pub gotGuard : List ℕ → GuardScan → Option (Got (Option ℕ))
+gotGuard t (OfGuardScan.Is g c) = got (guardOf g) (drop (c .at) t)
+gotGuard t OfGuardScan.Missing = none
+
+abbrev pub kindOf : Kind → TheKind
+kindOf OfKind.In = in-kind
+kindOf OfKind.Out = out-kind
+kindOf OfKind.Uin = uin-kind
+kindOf OfKind.Uout = uout-kind
+
+abbrev pub gotKind : List ℕ → KindScan → Option (Got TheKind)
+gotKind t (OfKindScan.Is k c) = got (kindOf k) (drop (c .at) t)
+gotKind t OfKindScan.Missing = none

@@ -1,0 +1,280 @@
+// Fields of a text: each scan takes bytes off at a cursor and answers a value with the cursor behind it, or that there is no such field.
+ghost use mathlib.Core.Path.{_≡_};
+ghost use mathlib.Core.Option.{some};
+ghost use Prim.Native.Nat.{_-_, _<_};
+ghost use lib.ListN.{length, drop};
+ghost use Rattle.iosa.specs.Reading.{exactly, theByte, isDigit, moreDigits, number as numberOf, guardOrDash, kind as kindScan, moreNumbers, numbersOrDash, field};
+ghost use Rattle.answer.specs.Limits.{maxDigits};
+ghost use Rattle.fields.specs.Fields.{past, gotNumber, gotGuard, gotKind};
+ghost use Rattle.fields.specs.Resets.{gotResets, valued, first, with, withAll, summary};
+use answer::Model;
+
+pub struct Cursor {
+    pub at: usize,
+}
+
+// The bytes of the text's signs.
+pub struct Sign {}
+
+impl Sign {
+    pub const TAB: u8 = 9;
+
+    pub const LF: u8 = 10;
+
+    pub const COMMA: u8 = 44;
+
+    pub const DASH: u8 = 45;
+
+    pub const ZERO: u8 = 48;
+
+    pub const NINE: u8 = 57;
+}
+
+// "Numbers are decimal, 1 to 5 digits".
+pub const DIGITS: usize = 5;
+
+pub enum Step {
+    Past(Cursor),
+    Missing,
+}
+
+pub enum NumberScan {
+    Is(u64, Cursor),
+    Missing,
+}
+
+// "guard (a clock or `-`)".
+pub enum Guard {
+    Dash,
+    Clock(u64),
+}
+
+pub enum GuardScan {
+    Is(Guard, Cursor),
+    Missing,
+}
+
+// "`in`, `out`, `uin` or `uout`".
+pub enum Kind {
+    In,
+    Out,
+    Uin,
+    Uout,
+}
+
+pub enum KindScan {
+    Is(Kind, Cursor),
+    Missing,
+}
+
+// What reading needs of the numbers of a resets field: that all of them are clocks, that they ascend, the last one, and the set.
+pub struct Resets {
+    pub clocks: bool,
+    pub ascend: bool,
+    pub last: u64,
+    pub set: u64,
+}
+
+pub enum ResetsScan {
+    Is(Resets, Cursor),
+    Missing,
+}
+
+pub fn byte(text: &[u8], c: Cursor, b: u8) -> Step
+    ensures { λ r. ⌜ past (now (text .entry)) r ≡ theByte b (drop (c .at) (now (text .entry))) ⌝ }
+{
+    let at = c.at;
+    if at < text.len() {
+        if text[at] == b {
+            return Step::Past(Cursor { at: at + 1 });
+        }
+    }
+    Step::Missing
+}
+
+pub fn word(text: &[u8], c: Cursor, w: &[u8]) -> Step
+    ensures { λ r. ⌜ past (now (text .entry)) r ≡ exactly (now (w .entry)) (drop (c .at) (now (text .entry))) ⌝ }
+{
+    let mut at = c.at;
+    let mut i = 0;
+    while i < w.len() {
+        if text.len() <= at {
+            return Step::Missing;
+        }
+        if w[i] != text[at] {
+            return Step::Missing;
+        }
+        i += 1;
+        at += 1;
+    }
+    Step::Past(Cursor { at })
+}
+
+pub fn is_digit(b: u8) -> bool
+    ensures { λ r. ⌜ r ≡ isDigit b ⌝ }
+{
+    Sign::ZERO <= b && b < Sign::ZERO + 10
+}
+
+// The digits behind a number's first.
+fn more_digits(text: &[u8], first: u64, c: Cursor) -> NumberScan
+    requires { ⌜ first < 10 ⌝ }
+    ensures { λ r. ⌜ gotNumber (now (text .entry)) r ≡ some (moreDigits (maxDigits - 1) first (drop (c .at) (now (text .entry)))) ⌝ }
+{
+    let mut n = first;
+    let mut at = c.at;
+    let mut k = 1;
+    while k < DIGITS {
+        if text.len() <= at {
+            return NumberScan::Is(n, Cursor { at });
+        }
+        let b = text[at];
+        if !is_digit(b) {
+            return NumberScan::Is(n, Cursor { at });
+        }
+        n = n * 10 + (b - Sign::ZERO) as u64;
+        at += 1;
+        k += 1;
+    }
+    NumberScan::Is(n, Cursor { at })
+}
+
+pub fn number(text: &[u8], c: Cursor) -> NumberScan
+    ensures { λ r. ⌜ gotNumber (now (text .entry)) r ≡ numberOf (drop (c .at) (now (text .entry))) ⌝ }
+{
+    let at = c.at;
+    if text.len() <= at {
+        return NumberScan::Missing;
+    }
+    let b = text[at];
+    if !is_digit(b) {
+        return NumberScan::Missing;
+    }
+    if b == Sign::ZERO {
+        return NumberScan::Is(0, Cursor { at: at + 1 });
+    }
+    more_digits(text, (b - Sign::ZERO) as u64, Cursor { at: at + 1 })
+}
+
+// A number behind a tab.
+pub fn number_field(text: &[u8], c: Cursor) -> NumberScan
+    ensures { λ r. ⌜ gotNumber (now (text .entry)) r ≡ field numberOf (drop (c .at) (now (text .entry))) ⌝ }
+{
+    let Step::Past(d) = byte(text, c, Sign::TAB) else {
+        return NumberScan::Missing;
+    };
+    number(text, d)
+}
+
+pub fn guard_of(text: &[u8], c: Cursor) -> GuardScan
+    ensures { λ r. ⌜ gotGuard (now (text .entry)) r ≡ guardOrDash (drop (c .at) (now (text .entry))) ⌝ }
+{
+    if let Step::Past(d) = byte(text, c, Sign::DASH) {
+        return GuardScan::Is(Guard::Dash, d);
+    }
+    match number(text, c) {
+        NumberScan::Is(n, d) => GuardScan::Is(Guard::Clock(n), d),
+        NumberScan::Missing => GuardScan::Missing,
+    }
+}
+
+pub fn kind_of(text: &[u8], c: Cursor) -> KindScan
+    ensures { λ r. ⌜ gotKind (now (text .entry)) r ≡ kindScan (drop (c .at) (now (text .entry))) ⌝ }
+{
+    if let Step::Past(d) = word(text, c, b"in") {
+        return KindScan::Is(Kind::In, d);
+    }
+    if let Step::Past(d) = word(text, c, b"out") {
+        return KindScan::Is(Kind::Out, d);
+    }
+    if let Step::Past(d) = word(text, c, b"uin") {
+        return KindScan::Is(Kind::Uin, d);
+    }
+    if let Step::Past(d) = word(text, c, b"uout") {
+        return KindScan::Is(Kind::Uout, d);
+    }
+    KindScan::Missing
+}
+
+fn first_reset(n: u64) -> Resets
+    ensures { λ r. ⌜ r ≡ first n ⌝ }
+{
+    if n < Model::CLOCKS as u64 {
+        Resets {
+            clocks: true,
+            ascend: true,
+            last: n,
+            set: sets::single(n),
+        }
+    } else {
+        Resets {
+            clocks: false,
+            ascend: true,
+            last: n,
+            set: 0,
+        }
+    }
+}
+
+fn with_reset(s: Resets, n: u64) -> Resets
+    ensures { λ r. ⌜ r ≡ with s n ⌝ }
+{
+    let ascend = s.ascend && s.last < n;
+    if n < Model::CLOCKS as u64 {
+        Resets {
+            clocks: s.clocks,
+            ascend,
+            last: n,
+            set: sets::union(s.set, sets::single(n)),
+        }
+    } else {
+        Resets {
+            clocks: false,
+            ascend,
+            last: n,
+            set: s.set,
+        }
+    }
+}
+
+// Further numbers, each behind a comma.
+fn more_resets(text: &[u8], s: Resets, c: Cursor) -> ResetsScan
+    ensures { λ r.
+        ⌜ gotResets (now (text .entry)) r
+        ≡ valued (withAll s) (moreNumbers (length (drop (c .at) (now (text .entry)))) (drop (c .at) (now (text .entry)))) ⌝ }
+{
+    let mut sum = s;
+    let mut at = c.at;
+    while at < text.len() {
+        if text[at] != Sign::COMMA {
+            return ResetsScan::Is(sum, Cursor { at });
+        }
+        let NumberScan::Is(n, next) = number(text, Cursor { at: at + 1 }) else {
+            return ResetsScan::Missing;
+        };
+        let more = with_reset(sum, n);
+        sum = more;
+        at = next.at;
+    }
+    ResetsScan::Is(sum, Cursor { at })
+}
+
+pub fn resets_of(text: &[u8], c: Cursor) -> ResetsScan
+    ensures { λ r. ⌜ gotResets (now (text .entry)) r ≡ valued summary (numbersOrDash (drop (c .at) (now (text .entry)))) ⌝ }
+{
+    if let Step::Past(d) = byte(text, c, Sign::DASH) {
+        return ResetsScan::Is(
+            Resets {
+                clocks: true,
+                ascend: true,
+                last: 0,
+                set: 0,
+            },
+            d,
+        );
+    }
+    let NumberScan::Is(n, d) = number(text, c) else {
+        return ResetsScan::Missing;
+    };
+    more_resets(text, first_reset(n), d)
+}
