@@ -105,7 +105,11 @@ pub fn better(values: &[i64], e: u64, b: u64, k: u64) -> u64
         if at == Model::CLOCKS {
             k
         } else {
-            if less(values[k as usize], values[at]) { k } else { b }
+            if less(values[k as usize], values[at]) {
+                k
+            } else {
+                b
+            }
         }
     } else {
         b
