@@ -1,15 +1,15 @@
 -- The words of an image stand as the layout says: a table is an image exactly where they do and its model is well-formed.
-use mathlib.Core.Path.{_≡_, refl, sym, _∙_, ap}
+use mathlib.Core.Path.{_≡_, ap}
 use mathlib.Core.Logic.{_↔_}
 use mathlib.Core.List.{List}
-use Prim.Native.Nat.{ℕ, zero, suc, _+_, _≤_, _<_}
+use Prim.Native.Nat.{ℕ, suc, _<_}
 use native.Mathlib.Omega.{arith}
 use lib.ListN.{length, take}
 use lib.Seq.{take-all}
 use Rattle.iosa.specs.Model.{rowCount}
 use Rattle.iosa.specs.WellFormed.{WellFormed}
 use Rattle.layout.specs.Layout.{countOf, blockWord, firstOf}
-use Rattle.layout.specs.Image.{compOf, modelOf, Image}
+use Rattle.layout.specs.Image.{modelOf, Image}
 use Rattle.layout.specs.Laid.{Laid}
 use Rattle.layout.proofs.ModelOf.{model-length, comp-at}
 use Rattle.layout.proofs.ReadBack.{rows-next, no-block, no-row}

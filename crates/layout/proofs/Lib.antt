@@ -9,5 +9,6 @@ pub mod RowsOfRange
 pub mod ImageIsSane
 pub mod LowestAction
 pub mod WalkByStates
+pub mod FrontByWords
 pub mod FrontOfModel
 pub mod ImageIsLaid

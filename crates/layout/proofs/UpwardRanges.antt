@@ -1,15 +1,14 @@
 -- A component whose ranges go upward, first[s] to first[s + 1]: its rows by their places, of any table.
-use mathlib.Core.Path.{_≡_, refl, sym, _∙_, ap}
+use mathlib.Core.Path.{_≡_, refl, _∙_, ap}
 use mathlib.Core.List.{List, [], _∷_, _++_}
 use Prim.Native.Nat.{ℕ, zero, suc, _+_, _-_, _≤_, _<_}
 use native.Mathlib.Omega.{arith}
 use native.Mathlib.Decide.{ℕ-discrete, decLt}
 use lib.ListN.{length, getD, length-append, List·getD-append}
 use lib.Seq.{getD-append-add}
-use lib.Dec.{ltb}
 use Rattle.laws.specs.Fold.{tab, spread}
 use Rattle.laws.proofs.FoldLaws.{tab-length, tab-at}
-use Rattle.iosa.specs.Model.{Row, Comp, noRow, rowAt}
+use Rattle.iosa.specs.Model.{Row, noRow, rowAt}
 use Rattle.layout.specs.Layout.{blockWord, firstOf}
 use Rattle.layout.specs.Image.{leaveBelow, rowIn, rowsLeaving, compOf}
 use Rattle.layout.proofs.RowsAscend.{none-below, all-below}

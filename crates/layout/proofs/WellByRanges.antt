@@ -1,12 +1,12 @@
 -- A component's rows are well-formed and in order where those of each state's range are.
-use mathlib.Core.Path.{_≡_, refl, sym, _∙_, ap}
-use mathlib.Core.Bool.{Bool, true, false}
+use mathlib.Core.Path.{_≡_, ap}
+use mathlib.Core.Bool.{true}
 use mathlib.Core.List.{List}
 use Prim.Native.Nat.{ℕ, suc, _+_, _-_, _≤_, _<_}
 use native.Mathlib.Omega.{arith}
 use lib.ListN.{length}
 use Rattle.laws.proofs.TestLaws.{apart-cases}
-use Rattle.iosa.specs.Model.{Row, Comp, rowAt}
+use Rattle.iosa.specs.Model.{rowAt}
 use Rattle.iosa.specs.WellFormed.{before, WellRow}
 use Rattle.iosa.proofs.Merging.Ascend.{by-from}
 use Rattle.layout.specs.Layout.{blockWord, firstOf}

@@ -2,3 +2,4 @@ pub mod Layout
 pub mod Image
 pub mod Ranges
 pub mod Laid
+pub mod Words
