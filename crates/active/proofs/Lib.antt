@@ -1,1 +1,2 @@
 pub mod Stability
+pub mod Passes

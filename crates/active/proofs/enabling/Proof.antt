@@ -22,7 +22,6 @@ use Rattle.layout.proofs.first_of.Reads as first-of-reads
 use Rattle.layout.proofs.guard_at.Reads as guard-at-reads
 use Rattle.sets.proofs.union.Reads as union-reads
 
-
 abbrev Inv-loop : tie.InvT-loop
 Inv-loop t i s lo hi all₀ k₀ all k = (lo ≤ k) × (over (λ r x. x ∪ guardSet (guardAt t r)) k hi all ≡ over (λ r x. x ∪ guardSet (guardAt t r)) lo hi 0)
 
@@ -66,9 +65,11 @@ loop-again : tie.Need-loop-again Inv-loop μ-loop
 loop-again c =
     let l = c .before .before .before .before .loop in
     let s0 = c .before .before .before .before .before .before .before .before in
-    let t = now (s0 .args .t) in
-    (search needs, ap (over (λ r x. x ∪ guardSet (guardAt t r)) (l .k + 1) _) (c .union .ensures ∙ ap (λ g. l .all ∪ g) (c .before .guard-set .ensures ∙ ap guardSet (c .before .before .guard-at .ensures)))
-    ∙ sym (over-next (λ r x. x ∪ guardSet (guardAt t r)) (l .k) _ (l .all) (search needs)) ∙ l .inv .1)
+    let t = now (s0 .args .t) in (
+      search needs,
+      ap (over (λ r x. x ∪ guardSet (guardAt t r)) (l .k + 1) _) (c .union .ensures ∙ ap (λ g. l .all ∪ g) (c .before .guard-set .ensures ∙ ap guardSet (c .before .before .guard-at .ensures)))
+          ∙ sym (over-next (λ r x. x ∪ guardSet (guardAt t r)) (l .k) _ (l .all) (search needs)) ∙ l .inv .1,
+    )
 
 returns : tie.Need-returns Inv-loop μ-loop
 returns c =

@@ -1,4 +1,4 @@
--- `active::first_set` meets its contract.
+-- `active::first_set` meets its contract: what the start allows, and what stability allows.
 use mathlib.Core.Path.{_≡_, refl, sym, ap, ap₂, _∙_}
 use Prim.Native.Nat.{ℕ, zero, suc, _+_, _-_, _≤_, _<_}
 use native.Mathlib.Omega.{arith}
@@ -45,9 +45,18 @@ returns c =
     let t = now (s0 .args .t) in
     let i = s0 .args .i in
     let s = s0 .args .s in
-    let one : c .before .before .before .before .if1 .first ≡ cond (eqb s (blockWord t i 1)) (blockWord t i 7) (blockWord t i 6) = ⊎-elim (λ w. ?) (λ w. ?) (c .before .before .before .before .if1 .came) in
-    let two : c .before .before .if2 .rest ≡ cond (unstable (compOf t i) s) (blockWord t i 6) (enablingOf (compOf t i) s) = ⊎-elim (λ w. ?) (λ w. ?) (c .before .before .if2 .came) in
-    ?
+    let clocks = c .before .before .before .before .before .before .before .block-word in
+    let started = c .before .before .before .before .before .before .block-word2 in
+    let start = c .before .before .before .before .before .block-word3 in
+    let one : c .before .before .before .before .if1 .first ≡ cond (eqb s (blockWord t i 1)) (blockWord t i 7) (blockWord t i 6) = ⊎-elim
+    (λ w. w .1 ∙ started .ensures ∙ sym (ap (λ b. cond b (blockWord t i 7) (blockWord t i 6)) (eq-eqb s (blockWord t i 1) (w .0 .taken ∙ start .ensures))))
+    (λ w. w .1 ∙ clocks .ensures ∙ sym (ap (λ b. cond b (blockWord t i 7) (blockWord t i 6)) (ne-eqb s (blockWord t i 1) (λ e. w .0 .left (e ∙ sym (start .ensures))))))
+    (c .before .before .before .before .if1 .came) in
+    let two : c .before .before .if2 .rest ≡ cond (unstable (compOf t i) s) (blockWord t i 6) (enablingOf (compOf t i) s) = ⊎-elim
+    (λ w. w .1 ∙ clocks .ensures ∙ ap (λ b. cond b (blockWord t i 6) (enablingOf (compOf t i) s)) (sym (w .0 .taken) ∙ c .before .before .before .is-unstable .ensures))
+    (λ w. w .2 ∙ w .1 .ensures ∙ ap (λ b. cond b (blockWord t i 6) (enablingOf (compOf t i) s)) (sym (w .0 .left) ∙ c .before .before .before .is-unstable .ensures))
+    (c .before .before .if2 .came) in
+    ap₂ _∩_ (clocks .ensures) (ap₂ _∩_ one two)
 
 pub first-set-spec : {M : Type 1} → statement M
 first-set-spec =

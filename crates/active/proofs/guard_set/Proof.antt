@@ -13,10 +13,10 @@ use Rattle.active.proofs.guard_set.Tie as tie
 use Rattle.active.proofs.guard_set.Reads as reads
 use Rattle.active.proofs.guard_set.Lts as lts
 use Rattle.sets.proofs.single.Reads as single-reads
+
 single-guard : (g : ℕ) → (g ≡ 0 → ⊥) → only (g - 1) ≡ guardSet g
 single-guard zero h = absurd (h refl)
 single-guard (suc x) h = ap only (omega arith)
-
 
 sub-single : tie.Need-sub-single
 sub-single c = search needs

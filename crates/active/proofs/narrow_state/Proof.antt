@@ -125,10 +125,12 @@ loop-again : tie.Need-loop-again Inv-loop μ-loop
 loop-again c =
     let l = c .before .before .before .before .before .before .before .before .before .loop in
     let s0 = c .before .before .before .before .before .before .before .before .before .before .before .before .before in
-    let t = now (s0 .args .t) in
-    (search needs, ap (over (λ r B. narrowed B (rowIn t (s0 .args .s) r)) (l .k + 1) _) (one-row t (l .cur .sets) (s0 .args .s) (l .k) (c .before .before .before .before .before .before .before .target-at .result) (c .before .union .result)
-    (c .before .before .before .before .before .before .before .target-at .ensures) (c .before .union .ensures ∙ ap₂ _∪_ (c .before .before .before .minus .ensures ∙ ap (λ g. getD (l .cur .sets) (s0 .args .s) 0 ∖ g) (c .before .before .before .before .guard-set .ensures ∙ ap guardSet (c .before .before .before .before .before .guard-at .ensures))) (c .before .before .resets-at .ensures)))
-    ∙ sym (over-next (λ r B. narrowed B (rowIn t (s0 .args .s) r)) (l .k) _ (l .cur .sets) (search needs)) ∙ l .inv .1)
+    let t = now (s0 .args .t) in (
+      search needs,
+      ap (over (λ r B. narrowed B (rowIn t (s0 .args .s) r)) (l .k + 1) _) (one-row t (l .cur .sets) (s0 .args .s) (l .k) (c .before .before .before .before .before .before .before .target-at .result) (c .before .union .result)
+          (c .before .before .before .before .before .before .before .target-at .ensures) (c .before .union .ensures ∙ ap₂ _∪_ (c .before .before .before .minus .ensures ∙ ap (λ g. getD (l .cur .sets) (s0 .args .s) 0 ∖ g) (c .before .before .before .before .guard-set .ensures ∙ ap guardSet (c .before .before .before .before .before .guard-at .ensures))) (c .before .before .resets-at .ensures)))
+          ∙ sym (over-next (λ r B. narrowed B (rowIn t (s0 .args .s) r)) (l .k) _ (l .cur .sets) (search needs)) ∙ l .inv .1,
+    )
 
 returns : tie.Need-returns Inv-loop μ-loop
 unfolding narrowState

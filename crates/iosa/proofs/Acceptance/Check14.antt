@@ -37,7 +37,7 @@ narrowed-at P A r s h f g = by-cases (ℕ-discrete s (r .target))
     (λ ne. rw (getD-set-other A (r .target) s (getD A (r .target) 0 ∩ handedOn A r) 0 ne) (g ne))
 
 -- it takes a member off
-shrinks : (A : List ℕ) (r : Row) → r .target < length A → breaks A r ≡ true → sum (narrowed A r) < sum A
+pub shrinks : (A : List ℕ) (r : Row) → r .target < length A → breaks A r ≡ true → sum (narrowed A r) < sum A
 shrinks A r h e =
     let n = eqb-false (getD A (r .target) 0 ∩ handedOn A r) (getD A (r .target) 0) (not-true (within (getD A (r .target) 0) (handedOn A r)) e) in
     omega (arith, sum-set A (r .target) (getD A (r .target) 0 ∩ handedOn A r) h, and-le-l (getD A (r .target) 0) (handedOn A r), n)
