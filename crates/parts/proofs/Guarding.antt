@@ -12,7 +12,9 @@ use Rattle.iosa.specs.Model.{Comp, rowAt}
 use Rattle.iosa.specs.Checks.{unclocked, badGuard, check10}
 use Rattle.layout.specs.Layout.{countOf, blockWord, firstOf, actionAt, guardAt}
 use Rattle.layout.specs.Image.{Image, compOf}
-use Rattle.layout.proofs.RowsOfRange.{row-there, rows-end}
+use Rattle.layout.proofs.RowsOfRange.{well-comp, row-there, row-from, row-to, rows-end}
+use Rattle.layout.proofs.ImageIsSane.{row-ranges}
+use Rattle.layout.specs.Ranges.{RowRanges}
 use Rattle.parts.specs.Faults.{badGuardBy, fault10}
 
 -- row r of the system breaks (a) or (b)
@@ -35,3 +37,12 @@ module _ (t : List ℕ) (im : Image t) (i : ℕ) (h : i < countOf t) where
       ∙ seek-ext (λ k. when (guardFault t (unclocked (compOf t i)) (blockWord t i 3) (lo + k)) (tell 10 ((lo + k) ∷ []))) (λ k. mapSome (λ j. tell 10 ((lo + j) ∷ [])) (when (badGuard (compOf t i) k) k)) 0 n
       (λ k a b. ap (λ w. when w (tell 10 ((lo + k) ∷ []))) (sym (one k b)) ∙ sym (map-when (λ j. tell 10 ((lo + j) ∷ [])) (badGuard (compOf t i) k) k))
       ∙ sym (map-seek (λ j. tell 10 ((lo + j) ∷ [])) (λ k. when (badGuard (compOf t i) k) k) 0 n)
+
+  -- a row of the component, whatever state it leaves
+  pub any-row : (r : ℕ) → firstOf t i 0 ≤ r → r < firstOf t i (blockWord t i 0) → RowRanges t i r
+  unfolding compOf
+  any-row r p q =
+      let k = r - firstOf t i 0 in
+      let inside : k < length (compOf t i .rows) = omega (arith, rows-end t im i h) in
+      let e : firstOf t i 0 + k ≡ r = omega arith in
+      rw e at (row-ranges t im i (rowAt (compOf t i) k .from) (firstOf t i 0 + k) h (well-comp t im i h .rows k inside .from) (row-from t im i h k inside) (row-to t im i h k inside))
