@@ -25,8 +25,8 @@ by-cells : (f : ℕ → ℕ → Bool) (n i states : ℕ)
 by-cells f n i states =
     seek-ext (λ s. seek (λ a. when (f s a) (tell n (i ∷ s ∷ a ∷ []))) 0 maxActions) (λ s. mapSome (λ p. tell n (i ∷ p)) (seek (λ a. when (f s a) (cellOf s a)) 0 maxActions)) 0 states
     (λ s p q.
-        seek-ext (λ a. when (f s a) (tell n (i ∷ s ∷ a ∷ []))) (λ a. mapSome (λ p. tell n (i ∷ p)) (when (f s a) (cellOf s a))) 0 maxActions (λ a u v. sym (map-when (λ p. tell n (i ∷ p)) (f s a) (cellOf s a)))
-        ∙ sym (map-seek (λ p. tell n (i ∷ p)) (λ a. when (f s a) (cellOf s a)) 0 maxActions))
+    seek-ext (λ a. when (f s a) (tell n (i ∷ s ∷ a ∷ []))) (λ a. mapSome (λ p. tell n (i ∷ p)) (when (f s a) (cellOf s a))) 0 maxActions (λ a u v. sym (map-when (λ p. tell n (i ∷ p)) (f s a) (cellOf s a)))
+    ∙ sym (map-seek (λ p. tell n (i ∷ p)) (λ a. when (f s a) (cellOf s a)) 0 maxActions))
     ∙ sym (map-seek (λ p. tell n (i ∷ p)) (λ s. seek (λ a. when (f s a) (cellOf s a)) 0 maxActions) 0 states)
 
 module _ (t : List ℕ) (im : Image t) (i : ℕ) (h : i < countOf t) where
@@ -54,3 +54,9 @@ module _ (t : List ℕ) (im : Image t) (i : ℕ) (h : i < countOf t) where
 pub in-turn : (i n : ℕ) (c : Comp) → orElse (fault10 n c) (orElse (fault11 n c) (orElse (fault12 i c) (orElse (fault13 i c) (fault14 i c)))) ≡ faultAt i n c
 unfolding faultAt fault10 fault11 fault12 fault13 fault14
 in-turn i n c = refl
+
+-- as the code asks them
+pub turn-by-states : (t : List ℕ) (im : Image t) (i : ℕ) (h : i < countOf t)
+    → orElse (fault10 (firstOf t i 0) (compOf t i)) (orElse (seek (stateFault Clocks t i) 0 (blockWord t i 0)) (orElse (seek (stateFault Inputs t i) 0 (blockWord t i 0)) (orElse (seek (stateFault Single t i) 0 (blockWord t i 0)) (fault14 i (compOf t i)))))
+    ≡ faultAt i (firstOf t i 0) (compOf t i)
+turn-by-states t im i h = rw (clocks-by-states t im i h, inputs-by-states t im i h, single-by-states t im i h) (in-turn i (firstOf t i 0) (compOf t i))

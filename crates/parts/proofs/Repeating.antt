@@ -15,7 +15,8 @@ use Rattle.laws.specs.Fold.{over}
 use Rattle.laws.proofs.SetLaws.{in-and, and-in, same-members, none-in}
 use Rattle.laws.proofs.SearchLaws.{is-some, seek-some, seek-none, is-none, when-some, when-none, any-true, true-any}
 use Rattle.laws.proofs.TestLaws.{and-true, not-so}
-use Rattle.laws.proofs.UnionLaws.{joinAll, has-joined}
+use Rattle.laws.proofs.UnionLaws.{joinAll, has-joined, over-last}
+use Rattle.laws.proofs.FoldLaws.{over-end}
 use Rattle.iosa.specs.Model.{Row, Comp, rowAt, guardSet}
 use Rattle.iosa.specs.Checks.{sameClock, repeats}
 use Rattle.iosa.specs.Faults.{Broken11}
@@ -27,6 +28,14 @@ use Rattle.layout.proofs.RowsOfRange.{row-there, row-from, row-to, range-from, 
 -- the guards of lo .. k, as a set
 unfoldable pub guardsIn : List ℕ → ℕ → ℕ → ℕ
 guardsIn t lo k = over (joinAll (λ r. guardSet (guardAt t r))) lo k 0
+
+pub guards-none : (t : List ℕ) (lo : ℕ) → guardsIn t lo lo ≡ 0
+unfolding guardsIn
+guards-none t lo = over-end (joinAll (λ r. guardSet (guardAt t r))) lo lo 0 (omega arith)
+
+pub guards-next : (t : List ℕ) (lo k : ℕ) → lo ≤ k → guardsIn t lo (k + 1) ≡ guardsIn t lo k ∪ guardSet (guardAt t k)
+unfolding guardsIn
+guards-next t lo k h = over-last (joinAll (λ r. guardSet (guardAt t r))) lo k 0 h
 
 in-guards : (t : List ℕ) (lo k j x : ℕ) → lo ≤ j → j < k → x ∈ guardSet (guardAt t j) → x ∈ guardsIn t lo k
 unfolding guardsIn
@@ -58,10 +67,11 @@ module _ (t : List ℕ) (im : Image t) (i : ℕ) (h : i < countOf t) (s r : ℕ)
       let there = row-there t im i h j inside in
       let leaves : rowAt (compOf t i) j .from ≡ s = k .from ∙ sym (ap (λ r. r .from) at-row) in
       let below = range-from t im i h s r b p q in
-      let lo : firstOf t i s ≤ firstOf t i 0 + j = rw leaves at (row-from t im i h j inside) in
-      (k .clock,
-      in-guards t (firstOf t i s) r (firstOf t i 0 + j) (k .clock) lo (omega (arith, k .above)) (rw (sym (ap (λ r. r .guard) there)) at (k .first)),
-      rw (sym (ap (λ r. r .guard) at-row)) at (k .again))
+      let lo : firstOf t i s ≤ firstOf t i 0 + j = rw leaves at (row-from t im i h j inside) in (
+        k .clock,
+        in-guards t (firstOf t i s) r (firstOf t i 0 + j) (k .clock) lo (omega (arith, k .above)) (rw (sym (ap (λ r. r .guard) there)) at (k .first)),
+        rw (sym (ap (λ r. r .guard) at-row)) at (k .again),
+      )
 
   repeated : (x : ℕ) → x ∈ guardsIn t (firstOf t i s) r → x ∈ guardSet (guardAt t r) → Broken11 (compOf t i) (r - firstOf t i 0)
   repeated x m n =

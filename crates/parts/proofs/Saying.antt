@@ -51,3 +51,10 @@ refused-some (Refused r) none e ne = go (told r) e
     go : (u : Option Told) → asRefused {A = Unit {0}} u ≡ some (answered tt) → (t : Told) × (_≡_ {A = Option Told} none (some t))
     go none e = absurd (let z : _≡_ {A = ℕ} 0 1 = cc in omega arith)
     go (some t) e = absurd (unequal (sym e))
+
+pub not-fine : (r : Checked) (x : Refusal) → r ≡ Refused x → r ≡ Fine → ⊥
+not-fine r x e f = let z : _≡_ {A = ℕ} 0 1 = cc in omega arith
+
+-- the same fault under another name
+pub says-as : (r : Checked) (o p : Option Told) → o ≡ p → Says r o → Says r p
+says-as r o p e s = s ∙ ap (λ u. some (unless u tt)) e

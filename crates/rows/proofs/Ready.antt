@@ -19,6 +19,9 @@ module _ (t : List ℕ) (im : Image t) (i : ℕ) (h : i < countOf t) where
   pub word-ready : (k : ℕ) → k < blockWords → (imageWords ≤ length t) × (i < maxComponents) × (k < blockWords)
   word-ready k p = (image-long t im, omega (arith, count-below t im), p)
 
+  pub states-ready : (s : ℕ) → s ≤ maxStates → (imageWords ≤ length t) × (i < maxComponents) × (s ≤ maxStates)
+  states-ready s p = (image-long t im, omega (arith, count-below t im), p)
+
   -- state s and its rows
   module _ (s : ℕ) (b : s < blockWord t i 0) where
     pub first-ready : (imageWords ≤ length t) × (i < maxComponents) × (s ≤ maxStates)
