@@ -4,9 +4,17 @@ pub mod Fields
 pub mod Lines
 pub mod Members
 pub mod Tests
+pub mod LowestFault
+pub mod LinesFrom
 pub mod Faults
+pub mod Kinds
 pub mod GrowActs
 pub mod GrowClocks
 pub mod GrowRows
 pub mod TextOfRead
+pub mod Printed
+pub mod Phases
+pub mod ReadActs
+pub mod ReadClocks
+pub mod ReadRows
 pub mod ReadOfText

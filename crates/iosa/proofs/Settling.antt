@@ -18,3 +18,4 @@ pub mod Called
 pub mod Listed
 pub mod WellFormedTest
 pub mod Witness
+pub mod StepCalled

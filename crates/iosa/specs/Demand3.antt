@@ -1,12 +1,12 @@
 -- Demand 3 (the mission; 01, "Confluence and settling"), over series of urgent outputs of the product's own rows.
 use mathlib.Core.Path.{_≡_}
 use mathlib.Core.Logic.{_⊎_, _↔_}
-use mathlib.Core.Bool.{Bool, true, false}
+use mathlib.Core.Bool.{true, false}
 use mathlib.Core.List.{List, [], _∷_, _++_}
-use Prim.Native.Nat.{ℕ, suc, _≤_, _<_}
+use Prim.Native.Nat.{ℕ, _≤_, _<_}
 use lib.ListN.{length}
 use Rattle.laws.specs.Sets.{_∪_}
-use Rattle.iosa.specs.Model.{Comp, Model}
+use Rattle.iosa.specs.Model.{Comp}
 use Rattle.iosa.specs.Automaton.{Automaton, UrgentRow, Stable}
 use Rattle.iosa.specs.Product.{product, stateOf, Within, Series, count}
 use Rattle.iosa.specs.Step.{urgentStep}
@@ -46,6 +46,7 @@ pub record Same (A : Automaton) (l : List ℕ) (R : ℕ) (y : A .State) (k : Lis
 pub record Stops (c : Comp) (cs : List Comp) (s : List ℕ) (l : List ℕ) (R : ℕ) (y : product c cs .State) : Type 0 where
   pub longest : {k : List ℕ} {Q : ℕ} {z : product c cs .State} → Series (product c cs) (stateOf c cs s) k Q z → length k ≤ length l
   pub same : {k : List ℕ} {Q : ℕ} {z : product c cs .State} → Series (product c cs) (stateOf c cs s) k Q z → Stable (product c cs) z → Same (product c cs) l R y k Q z
+  pub exactly : (budget : ℕ) → (settle (urgentStep (c ∷ cs)) budget s .stable ≡ true) ↔ (length l ≤ budget)
   pub enough : (budget : ℕ) → length l ≤ budget → SettledAs c cs (length l) R y (settle (urgentStep (c ∷ cs)) budget s)
   pub short : (budget : ℕ) → budget < length l → Unsettled budget (settle (urgentStep (c ∷ cs)) budget s)
 

@@ -12,6 +12,7 @@ pub mod Greatest
 pub mod Step
 pub mod Settle
 pub mod Demand3
+pub mod Stepped
 pub mod Timed
 pub mod Merge
 pub mod Report

@@ -1,13 +1,17 @@
 -- What it is for a merged component to be the product of two (01, "Composition").
 use mathlib.Core.Path.{_≡_}
 use mathlib.Core.Logic.{_↔_}
-use Prim.Native.Nat.{ℕ, suc, _*_, _<_}
-use lib.ListN.{length}
-use Rattle.iosa.specs.Model.{Comp, Model, compAt, inputs, outputs, urgents}
+use mathlib.Core.List.{List, [], _∷_, _++_}
+use Prim.Native.Nat.{ℕ, suc, _*_, _≤_, _<_}
+use lib.ListN.{length, getD, take, drop}
+use Rattle.answer.specs.Limits.{maxStates, maxRows, maxBytes}
+use Rattle.answer.specs.Told.{tell, Answer, answered, refused}
+use Rattle.iosa.specs.Model.{Comp, Model, compAt, inputs, outputs, urgents, rowCount}
+use Rattle.iosa.specs.Text.{textOf}
 use Rattle.iosa.specs.WellFormed.{WellFormed}
 use Rattle.iosa.specs.Automaton.{Leads, autoOf}
 use Rattle.iosa.specs.Product.{Joint, _⊗_}
-use Rattle.iosa.specs.Merge.{pairOf, merged}
+use Rattle.iosa.specs.Merge.{pairOf, merged, mergedAt}
 
 -- from x to y: x and y number pairs of states, and by R1, R2 or R3 the first pair goes to the second
 pub record PairRow (c d : Comp) (x C a R y : ℕ) : Type 0 where
@@ -39,9 +43,26 @@ pub record MergedExactly (c d : Comp) : Type 0 where
 
 -- n is m after "Merging replaces components i and i+1 by their product": the others as they were, in order, and a model that a text can state
 pub record MergedModel (m : Model) (i : ℕ) (n : Model) : Type 0 where
+  pub neighbour : suc i < length m
   pub fewer : suc (length n) ≡ length m
   pub before : (k : ℕ) → k < i → compAt n k ≡ compAt m k
   pub here : compAt n i ≡ merged (compAt m i) (compAt m (suc i))
   pub after : (k : ℕ) → i < k → compAt n k ≡ compAt m (suc k)
   pub exact : MergedExactly (compAt m i) (compAt m (suc i))
   pub well-formed : WellFormed n
+
+-- not "over 64 states, 1,024 rows or 32,768 bytes"
+pub record FitsIn (m : Model) (i : ℕ) : Type 0 where
+  pub states : compAt m i .states * compAt m (suc i) .states ≤ maxStates
+  pub rows : rowCount (mergedAt m i) ≤ maxRows
+  pub bytes : length (textOf (mergedAt m i)) ≤ maxBytes
+
+-- the answers for an accepted model and a buffer with room, each with what it is given for
+pub data MergeAnswer (m : Model) (i : ℕ) : Answer Model → Type 0 where
+  is25 : (suc i < length m → ⊥) → MergeAnswer m i (refused (tell 25 (0 ∷ [])))
+  is26 : suc i < length m → (FitsIn m i → ⊥) → MergeAnswer m i (refused (tell 26 (0 ∷ [])))
+  is-merged : suc i < length m → FitsIn m i → MergeAnswer m i (answered (mergedAt m i))
+
+-- a composed state of m as one of the merged model: the two numbers at i and i+1 as the number of their pair
+abbrev pub pairedAt : Model → ℕ → List ℕ → List ℕ
+pairedAt m i s = take i s ++ pairOf (compAt m (suc i)) (getD s i 0) (getD s (suc i) 0) ∷ drop (suc (suc i)) s

@@ -7,7 +7,7 @@ use Prim.Native.Nat.{ℕ, zero, suc, _+_, _-_, _≤_, _<_}
 use native.Mathlib.Omega.{arith}
 use native.Mathlib.Decide.{ℕ-discrete}
 use lib.ListN.{length, getD}
-use Rattle.laws.specs.Search.{firstFrom, seek, when, isSome, orElse, mapSome, least, any}
+use Rattle.laws.specs.Search.{firstFrom, seek, when, isSome, orElse, mapSome}
 use Rattle.laws.specs.Fold.{overFrom, over, tab, spread}
 
 -- ---- folds

@@ -1,5 +1,6 @@
 -- Laws of the search for the least place: what an answer tells, and how a loop that searches goes on.
 use mathlib.Core.Path.{_≡_, refl, sym, _∙_, ap}
+use mathlib.Core.Logic.{_↔_}
 use mathlib.Core.Option.{Option, none, some, Option·some-inj}
 use mathlib.Core.Bool.{Bool, true, false, true≢false, false≢true}
 use Prim.Native.Nat.{ℕ, zero, suc, _+_, _-_, _≤_, _<_}
@@ -105,6 +106,18 @@ when-some false x e = absurd (no-some refl e)
 pub when-none {ℓ} : {A : Type ℓ} (b : Bool) (x : A) → when b x ≡ none → b ≡ false
 when-none true x e = absurd (no-some e refl)
 when-none false x e = refl
+
+-- a refusal whose test decides P by its failure: none where P holds, given where not
+module _ {A P : Type 0} (bad : Bool) (d : (bad ≡ false) ↔ P) (t : A) where
+  pub when-fine : P → when bad t ≡ none
+  when-fine p = rw (d .1 p)
+
+  pub when-faulty : (P → ⊥) → when bad t ≡ some t
+  when-faulty n = go bad refl
+    where
+      go : (b : Bool) → bad ≡ b → when b t ≡ some t
+      go true e = refl
+      go false e = absurd (n (d .0 e))
 
 pub is-some {ℓ} : {A : Type ℓ} (o : Option A) → isSome o ≡ true → (x : A) × (o ≡ some x)
 is-some none e = absurd (false≢true e)

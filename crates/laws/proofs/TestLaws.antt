@@ -1,6 +1,6 @@
 -- Laws of tests: what a joined test tells of its parts, and back.
 use mathlib.Core.Path.{_≡_, refl, sym, _∙_, ap}
-use mathlib.Core.Logic.{_⊎_, inl, inr, by-cases}
+use mathlib.Core.Logic.{_↔_, _⊎_, inl, inr, by-cases}
 use mathlib.Core.Bool.{Bool, true, false, _&&_, _||_, not, true≢false, false≢true}
 use mathlib.Core.List.{List, [], _∷_}
 use Prim.Native.Nat.{ℕ, zero, suc, _≤_, _<_}
@@ -62,3 +62,12 @@ test-at (b ∷ bs) e (suc i) = test-at bs (and-true b (allOf bs) e .1) i
 -- two numbers: the same, or one is below the other
 pub apart-cases {ℓ} : {P : Type ℓ} (j k : ℕ) → (j ≡ k → P) → (j < k → P) → (k < j → P) → P
 apart-cases j k f g h = by-cases (ℕ-discrete j k) f (λ ne. by-cases (decLt j k) g (λ n. h (omega arith)))
+
+-- ---- a test that decides P by its failure
+pub decided : (P : Type 0) (bad : Bool) → (bad ≡ false) ↔ P → P ⊎ (P → ⊥)
+decided P true d = inr (λ p. true≢false (d .1 p))
+decided P false d = inl (d .0 refl)
+
+pub not-exactly : {P : Type 0} (b : Bool) → (b ≡ true) ↔ P → (not b ≡ false) ↔ P
+not-exactly true d = (λ e. d .0 refl, λ p. refl)
+not-exactly false d = (λ e. absurd (true≢false e), λ p. absurd (false≢true (d .1 p)))

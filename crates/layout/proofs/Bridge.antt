@@ -1,9 +1,9 @@
 -- The bridge: the rows of a component that leave a state are those of its range first[s] up to first[s + 1], so a walk over the one is a walk over the other.
 use mathlib.Core.Path.{_≡_, refl, sym, _∙_, ap}
-use mathlib.Core.Option.{Option, none, some}
-use mathlib.Core.Bool.{Bool, true, false, _&&_, cond}
+use mathlib.Core.Option.{Option, none}
+use mathlib.Core.Bool.{Bool, false, _&&_, cond}
 use mathlib.Core.List.{List, [], _∷_}
-use Prim.Native.Nat.{ℕ, zero, suc, _≤_, _<_}
+use Prim.Native.Nat.{ℕ, suc, _<_}
 use native.Mathlib.Omega.{arith}
 use lib.ListN.{length}
 use lib.Dec.{eqb}
@@ -14,8 +14,8 @@ use Rattle.laws.specs.Search.{seek, when, isSome, orElse, mapSome, any}
 use Rattle.laws.specs.Fold.{over}
 use Rattle.laws.proofs.SetLaws.{or-assoc}
 use Rattle.laws.proofs.RangeLaws.{folded, folded-tab, folded-spread, over-list, over-still, over-ext, else-none, over-seek, seek-ext, seek-map, seek-any}
-use Rattle.iosa.specs.Model.{Row, Comp, noRow, rowAt, guardSet}
-use Rattle.iosa.specs.Checks.{leaves, rowFor, unstable, enablingIn, enablingOf}
+use Rattle.iosa.specs.Model.{Row, noRow, rowAt, guardSet}
+use Rattle.iosa.specs.Checks.{rowFor, unstable, enablingIn, enablingOf}
 use Rattle.iosa.specs.Timed.{clockRow}
 use Rattle.layout.specs.Layout.{blockWord, firstOf, actionAt, guardAt}
 use Rattle.layout.specs.Image.{rowIn, rowsLeaving, compOf}

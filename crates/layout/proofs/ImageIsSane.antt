@@ -1,17 +1,17 @@
 -- An image keeps every range that the code below the recogniser counts on.
-use mathlib.Core.Path.{_≡_, refl, sym, _∙_, ap}
+use mathlib.Core.Path.{ap}
 use mathlib.Core.List.{List}
-use Prim.Native.Nat.{ℕ, zero, suc, _+_, _≤_, _<_, _^_, min}
+use Prim.Native.Nat.{ℕ, zero, suc, _+_, _≤_, _<_}
 use native.Mathlib.Omega.{arith}
 use native.Mathlib.Decide.{decLt, decLe}
-use lib.ListN.{length, take, length-take}
+use lib.ListN.{length, length-take}
 use Rattle.laws.specs.Sets.{_∪_, _∈_, _⊆_}
 use Rattle.laws.proofs.SetLaws.{in-below, in-or, in-one}
 use Rattle.answer.specs.Limits.{maxComponents, maxStates, maxRows, maxActions, maxClocks}
-use Rattle.iosa.specs.Model.{Row, Comp, compAt, acts, guardSet, rowCount}
-use Rattle.iosa.specs.WellFormed.{WellRow, WellComp, WellFormed}
-use Rattle.layout.specs.Layout.{headWords, blockWords, imageWords, countOf, blockWord, firstOf, actionAt, guardAt}
-use Rattle.layout.specs.Image.{compOf, modelOf, rowIn, imageOf, Image, Sane}
+use Rattle.iosa.specs.Model.{Comp, acts, guardSet}
+use Rattle.iosa.specs.WellFormed.{WellComp}
+use Rattle.layout.specs.Layout.{headWords, imageWords, countOf, blockWord, firstOf, actionAt, guardAt}
+use Rattle.layout.specs.Image.{compOf, modelOf, Image, Sane}
 use Rattle.layout.specs.Ranges.{CompRanges, RowRanges}
 use Rattle.layout.proofs.ModelOf.{model-length}
 use Rattle.layout.proofs.ReadBack.{length-of-image, no-block}

@@ -2,8 +2,13 @@ pub mod Bridge
 pub mod ModelOf
 pub mod ReadBack
 pub mod RowsAscend
+pub mod UpwardRanges
+pub mod WellByRanges
 pub mod ModelOfImage
 pub mod RowsOfRange
 pub mod ImageIsSane
 pub mod LowestAction
 pub mod WalkByStates
+pub mod FrontByWords
+pub mod FrontOfModel
+pub mod ImageIsLaid

@@ -1,20 +1,18 @@
 -- Rows ascend by action within the range of a state, so the first row with an action of a set has the lowest such action that leaves the state.
 use mathlib.Core.Path.{_≡_, refl, sym, _∙_, ap}
 use mathlib.Core.Option.{Option, none, some}
-use mathlib.Core.Bool.{Bool, true, false, _&&_, true≢false, false≢true}
+use mathlib.Core.Bool.{Bool, true, false, _&&_, false≢true}
 use mathlib.Core.List.{List}
-use Prim.Native.Nat.{ℕ, zero, suc, _+_, _-_, _≤_, _<_}
+use Prim.Native.Nat.{ℕ, suc, _-_, _≤_, _<_}
 use native.Mathlib.Omega.{arith}
 use native.Mathlib.Decide.{ℕ-discrete, decLt}
-use lib.ListN.{length}
 use lib.Dec.{eqb}
 use borrow.Author.Tests.{eqb-true, eq-eqb, ne-eqb}
 use Rattle.laws.specs.Sets.{has}
-use Rattle.laws.specs.Search.{seek, when, isSome, mapSome, least, Found, Least}
+use Rattle.laws.specs.Search.{seek, when, isSome, mapSome, least, Found}
 use Rattle.laws.proofs.SearchLaws.{seek-some, seek-none, some-seek, when-some, when-none, is-some, none-least, some-least}
-use Rattle.laws.proofs.TestLaws.{and-true, and-not-both}
+use Rattle.laws.proofs.TestLaws.{and-not-both}
 use Rattle.answer.specs.Limits.{maxActions}
-use Rattle.iosa.specs.Model.{Row, Comp, rowAt}
 use Rattle.iosa.specs.WellFormed.{before}
 use Rattle.iosa.specs.Checks.{rowFor}
 use Rattle.iosa.proofs.Acceptance.Order.{rows-ascend}

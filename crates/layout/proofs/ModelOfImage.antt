@@ -1,15 +1,15 @@
 -- The model of an image is the model it was made from, so one model has one image, and one image one model.
-use mathlib.Core.Path.{_≡_, refl, sym, _∙_, ap}
-use mathlib.Core.List.{List, [], _∷_, _++_}
+use mathlib.Core.Path.{_≡_, sym, _∙_, ap}
+use mathlib.Core.List.{List, _∷_, _++_}
 use Prim.Native.Nat.{ℕ, zero, suc, _+_, _-_, _≤_, _<_}
 use native.Mathlib.Omega.{arith}
 use native.Mathlib.Decide.{decLt}
 use lib.ListN.{length, getD, take, drop}
-use lib.Seq.{take-length, take-all, drop-length, drop-cons, ext-getD}
+use lib.Seq.{take-all, drop-length, drop-cons, ext-getD}
 use Rattle.laws.specs.Fold.{tab, spread}
-use Rattle.iosa.specs.Model.{Row, Comp, Model, noRow, noComp, rowAt, compAt, rowCount}
-use Rattle.iosa.specs.WellFormed.{WellComp, WellFormed}
-use Rattle.layout.specs.Layout.{blockWords, imageWords, countOf, blockWord, firstOf, actionAt, guardAt, resetsAt, targetAt}
+use Rattle.iosa.specs.Model.{Comp, Model, noRow, noComp, rowAt, compAt, rowCount}
+use Rattle.iosa.specs.WellFormed.{WellFormed}
+use Rattle.layout.specs.Layout.{blockWords, imageWords, blockWord}
 use Rattle.layout.specs.Image.{leaveBelow, blockOf, imageOf, rowIn, rowsLeaving, compOf, modelOf, Image}
 use Rattle.layout.proofs.ModelOf.{model-length, comp-at}
 use Rattle.layout.proofs.ReadBack.{length-of-image, count-is, block-is, first-is, action-is, guard-is, resets-is, target-is}
@@ -102,3 +102,15 @@ one-model m m′ w w′ e = sym (model-of-image m w) ∙ ap modelOf e ∙ model-
 
 pub model-of : (t : List ℕ) (im : Image t) → modelOf t ≡ im .model
 model-of t im = model-is (im .model) t (im .well) (im .front)
+
+-- every well-formed model has its image
+pub image-of-model : (m : Model) → WellFormed m → Image (imageOf m)
+image-of-model m w = record { model = m; well = w; front = take-all imageWords (imageOf m) (omega (arith, length-of-image m w)) }
+
+-- and only the one: two tables of one model have one front
+pub one-image : (t t′ : List ℕ) → Image t → Image t′ → modelOf t ≡ modelOf t′ → take imageWords t ≡ take imageWords t′
+one-image t t′ im im′ e = im .front ∙ ap imageOf (sym (model-of t im) ∙ e ∙ model-of t′ im′) ∙ sym (im′ .front)
+
+-- what stands behind the front does not count
+pub image-by-front : (t t′ : List ℕ) → take imageWords t ≡ take imageWords t′ → Image t → Image t′
+image-by-front t t′ e im = record { model = im .model; well = im .well; front = sym e ∙ im .front }

@@ -1,19 +1,18 @@
 -- What stands in a table whose front is the image of a model: each word read back.
 use mathlib.Core.Path.{_≡_, refl, sym, _∙_, ap}
-use mathlib.Core.Bool.{Bool, true, false, cond}
 use mathlib.Core.List.{List, [], _∷_, _++_, append-assoc}
 use Prim.Native.Nat.{ℕ, zero, suc, _+_, _-_, _*_, _≤_, _<_}
 use native.Mathlib.Omega.{arith}
-use lib.ListN.{length, getD, take, replicate, length-append, length-replicate, List·getD-append}
+use lib.ListN.{length, getD, take, length-append, length-replicate, List·getD-append}
 use lib.Seq.{getD-take, getD-append-add}
-use lib.Dec.{leb}
 use borrow.Author.Tests.{le-leb, lt-leb}
 use Rattle.laws.specs.Fold.{tab}
 use Rattle.laws.proofs.FoldLaws.{tab-length, tab-at}
 use Rattle.answer.specs.Limits.{maxComponents, maxRows, maxStates}
-use Rattle.iosa.specs.Model.{Row, Comp, Model, noRow, noComp, rowAt, compAt, rowCount}
+use Rattle.iosa.specs.Model.{Row, Comp, Model, noRow, rowAt, compAt, rowCount}
 use Rattle.iosa.specs.WellFormed.{WellFormed}
 use Rattle.layout.specs.Layout.{headWords, blockWords, rowWords, rowsAt, imageWords, countOf, blockWord, firstOf, actionAt, guardAt, resetsAt, targetAt}
+use Rattle.layout.specs.Words.{wordsOf, rowWord}
 use Rattle.layout.specs.Image.{leaveBelow, firstWord, blockOf, blocksOf, rowsOf, allRowsOf, zeros, imageOf}
 
 -- ---- lengths
@@ -86,9 +85,6 @@ block-at n (c ∷ cs) (suc i) k h q =
     let z : n + (length (c .rows) + rowCount (take i cs)) ≡ n + length (c .rows) + rowCount (take i cs) = omega arith in
     rw (e, z) (getD-append-add (blockOf n c) (blocksOf (n + length (c .rows)) cs) (blockWords * i + k) 0 ∙ block-at (n + length (c .rows)) cs i k (omega arith) q)
 
-abbrev wordsOf : Row → List ℕ
-wordsOf r = r .action ∷ r .guard ∷ r .resets ∷ r .target ∷ []
-
 row-at : (rs : List Row) (k w : ℕ) → k < length rs → w < rowWords → getD (rowsOf rs) (rowWords * k + w) 0 ≡ getD (wordsOf (getD rs k noRow)) w 0
 unfolding rowsOf
 row-at [] k w h q = absurd (omega arith)
@@ -133,7 +129,7 @@ module _ (m : Model) (t : List ℕ) (w : WellFormed m) (front : take imageWords 
       let e : 1 + blockWords * i + k ≡ suc (blockWords * i + k) = omega arith in
       rw e (word-at (suc (blockWords * i + k)) (omega arith) ∙ List·getD-append (blockPart m) (rowPart m) 0 (blockWords * i + k) (omega (arith, block-part-length m (w .components))))
 
-  in-rows : (r v : ℕ) → r < maxRows → v < rowWords → getD t (rowsAt + rowWords * r + v) 0 ≡ getD (rowPart m) (rowWords * r + v) 0
+  in-rows : (r v : ℕ) → r < maxRows → v < rowWords → rowWord t r v ≡ getD (rowPart m) (rowWords * r + v) 0
   in-rows r v h q =
       let e : rowsAt + rowWords * r + v ≡ suc (length (blockPart m) + (rowWords * r + v)) = omega (arith, block-part-length m (w .components)) in
       rw e (word-at (suc (length (blockPart m) + (rowWords * r + v))) (omega (arith, block-part-length m (w .components))) ∙ getD-append-add (blockPart m) (rowPart m) (rowWords * r + v) 0)
@@ -180,8 +176,8 @@ module _ (m : Model) (t : List ℕ) (w : WellFormed m) (front : take imageWords 
   first-above i s h p q = first-word i s h q ∙ rw (lt-leb s (compAt m i .states) p)
 
   -- row k of component i
-  row-word : (i k v : ℕ) → i < length m → k < length (compAt m i .rows) → v < rowWords
-      → getD t (rowsAt + rowWords * (rowCount (take i m) + k) + v) 0 ≡ getD (wordsOf (rowAt (compAt m i) k)) v 0
+  pub row-word : (i k v : ℕ) → i < length m → k < length (compAt m i .rows) → v < rowWords
+      → rowWord t (rowCount (take i m) + k) v ≡ getD (wordsOf (rowAt (compAt m i) k)) v 0
   unfolding rowPart
   row-word i k v h p q =
       let b = rows-before m i h in
@@ -206,7 +202,7 @@ module _ (m : Model) (t : List ℕ) (w : WellFormed m) (front : take imageWords 
   target-is i k h p = row-word i k 3 h p (omega arith)
 
   -- "unused places are zero"
-  pub no-row : (r v : ℕ) → rowCount m ≤ r → r < maxRows → v < rowWords → getD t (rowsAt + rowWords * r + v) 0 ≡ 0
+  pub no-row : (r v : ℕ) → rowCount m ≤ r → r < maxRows → v < rowWords → rowWord t r v ≡ 0
   unfolding rowPart
   no-row r v p h q =
       let e : rowWords * r + v ≡ length (allRowsOf m) + (rowWords * r + v - length (allRowsOf m)) = omega (arith, all-rows-length m) in

@@ -1,41 +1,34 @@
 -- Rows that ascend by the state they leave: how many leave a state below s says which ones do.
-use mathlib.Core.Path.{_≡_, refl, sym, _∙_, ap}
-use mathlib.Core.Bool.{Bool, true, false, cond, true≢false, false≢true}
+use mathlib.Core.Path.{_≡_, refl}
+use mathlib.Core.Logic.{⊎-elim}
+use mathlib.Core.Bool.{Bool, true, false, cond}
 use mathlib.Core.List.{List, [], _∷_}
 use Prim.Native.Nat.{ℕ, zero, suc, _+_, _≤_, _<_}
 use native.Mathlib.Omega.{arith}
 use native.Mathlib.Decide.{ℕ-discrete}
 use lib.ListN.{length, getD}
-use lib.Dec.{eqb, ltb}
-use borrow.Author.Tests.{eqb-true, eq-eqb, ltb-true, ltb-false, lt-ltb, le-ltb}
+use lib.Dec.{ltb}
+use borrow.Author.Tests.{ltb-true, ltb-false, lt-ltb, le-ltb}
 use Rattle.iosa.specs.Model.{Row, Comp, noRow, rowAt}
 use Rattle.iosa.specs.WellFormed.{lower, before, WellComp}
 use Rattle.iosa.proofs.Acceptance.Order.{rows-ascend}
+use Rattle.iosa.proofs.Merging.Ascend.{lower-cases}
 use Rattle.layout.specs.Image.{leaveBelow}
 
 -- ---- what the order of two rows tells
-abbrev Decides : Bool → List ℕ → List ℕ → ℕ → ℕ → Bool
-Decides b xs ys x y = elim b as (λ _. Bool) [ true ↦ lower xs ys | false ↦ ltb x y ]
-
-lower-head : (x y : ℕ) (xs ys : List ℕ) → lower (x ∷ xs) (y ∷ ys) ≡ true → x ≤ y
-unfolding lower
-lower-head x y xs ys e = go (eqb x y) refl e
-  where
-    go : (b : Bool) → eqb x y ≡ b → Decides b xs ys x y ≡ true → x ≤ y
-    go true p f = omega (arith, eqb-true x y p)
-    go false p f = omega (arith, ltb-true x y f)
-
-lower-tail : (x y : ℕ) (xs ys : List ℕ) → x ≡ y → lower (x ∷ xs) (y ∷ ys) ≡ true → lower xs ys ≡ true
-unfolding lower
-lower-tail x y xs ys p e = rw (eq-eqb x y p, lower) at e
+-- the first number is no greater, and where it is the same the rest decides
+lower-head : (x y : ℕ) (xs ys : List ℕ) → lower (x ∷ xs) (y ∷ ys) ≡ true → (x ≤ y) × (x ≡ y → lower xs ys ≡ true)
+lower-head x y xs ys e = ⊎-elim (λ h. (omega arith, λ p. absurd (omega arith))) (λ h. (omega (arith, h .0), λ p. h .1)) (lower-cases x y xs ys e)
 
 pub before-from : (r q : Row) → before r q ≡ true → r .from ≤ q .from
 unfolding before
-before-from r q e = lower-head (r .from) (q .from) _ _ e
+before-from r q e = lower-head (r .from) (q .from) (r .action ∷ r .guard ∷ r .resets ∷ r .target ∷ []) (q .action ∷ q .guard ∷ q .resets ∷ q .target ∷ []) e .0
 
 pub before-action : (r q : Row) → before r q ≡ true → r .from ≡ q .from → r .action ≤ q .action
 unfolding before
-before-action r q e p = lower-head (r .action) (q .action) _ _ (lower-tail (r .from) (q .from) _ _ p e)
+before-action r q e p =
+    lower-head (r .action) (q .action) (r .guard ∷ r .resets ∷ r .target ∷ []) (q .guard ∷ q .resets ∷ q .target ∷ [])
+    (lower-head (r .from) (q .from) (r .action ∷ r .guard ∷ r .resets ∷ r .target ∷ []) (q .action ∷ q .guard ∷ q .resets ∷ q .target ∷ []) e .1 p) .0
 
 -- of two rows of a component the later one leaves no lower state
 pub froms-ascend : (c : Comp) → WellComp c → (j k : ℕ) → j ≤ k → k < length (c .rows) → rowAt c j .from ≤ rowAt c k .from

@@ -1,18 +1,18 @@
 -- An image's rows by their places: row k of a component is row first[0] + k of the table, and leaves the state in whose range that lies.
 use mathlib.Core.Path.{_≡_, refl, sym, _∙_, ap}
-use mathlib.Core.List.{List, [], _∷_}
-use Prim.Native.Nat.{ℕ, zero, suc, _+_, _-_, _≤_, _<_}
+use mathlib.Core.List.{List}
+use Prim.Native.Nat.{ℕ, suc, _+_, _-_, _≤_, _<_}
 use native.Mathlib.Omega.{arith}
 use native.Mathlib.Decide.{decLt}
-use lib.ListN.{length, getD, take}
+use lib.ListN.{length, take}
 use Rattle.answer.specs.Limits.{maxRows, maxStates}
-use Rattle.iosa.specs.Model.{Row, Comp, Model, noRow, noComp, rowAt, compAt, rowCount}
+use Rattle.iosa.specs.Model.{rowAt, compAt, rowCount}
 use Rattle.iosa.specs.WellFormed.{WellRow, WellComp, WellFormed}
 use Rattle.layout.specs.Layout.{imageWords, countOf, blockWord, firstOf}
 use Rattle.layout.specs.Image.{leaveBelow, imageOf, rowIn, compOf, modelOf, Image}
 use Rattle.layout.proofs.ModelOf.{model-length, comp-at}
 use Rattle.layout.proofs.ReadBack.{rows-before, rows-next, first-is, first-above}
-use Rattle.layout.proofs.RowsAscend.{froms-ascend, below-le, none-below, all-below, below-up, below-leaves, leaves-below}
+use Rattle.layout.proofs.RowsAscend.{froms-ascend, none-below, all-below, below-up, below-leaves, leaves-below}
 use Rattle.layout.proofs.ModelOfImage.{model-of, row-is, leaves-own}
 
 -- an image's own model

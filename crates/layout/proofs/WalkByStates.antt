@@ -1,14 +1,14 @@
 -- A walk over all rows of a component is a walk over its states, and over the rows of each.
-use mathlib.Core.Path.{_≡_, refl, sym, _∙_, ap}
-use mathlib.Core.Option.{Option, none, some}
+use mathlib.Core.Path.{_≡_, sym, _∙_, ap}
+use mathlib.Core.Option.{Option, none}
 use mathlib.Core.List.{List}
-use Prim.Native.Nat.{ℕ, zero, suc, _+_, _-_, _≤_, _<_}
+use Prim.Native.Nat.{ℕ, suc, _+_, _-_, _<_}
 use native.Mathlib.Omega.{arith}
 use lib.ListN.{length}
 use Rattle.laws.specs.Search.{seek, orElse}
 use Rattle.laws.specs.Fold.{over}
 use Rattle.laws.proofs.RangeLaws.{over-ext, over-shift, over-nest, keep, over-seek, over-keep}
-use Rattle.iosa.specs.Model.{Row, Comp, rowAt}
+use Rattle.iosa.specs.Model.{Row, rowAt}
 use Rattle.layout.specs.Layout.{countOf, blockWord, firstOf}
 use Rattle.layout.specs.Image.{rowIn, compOf, Image}
 use Rattle.layout.proofs.RowsOfRange.{rows-end, first-up, range-row}

@@ -1,17 +1,16 @@
 -- The image of a model, and the model of an image.
 use mathlib.Core.Path.{_≡_}
-use mathlib.Core.Option.{Option, none, some}
-use mathlib.Core.Bool.{Bool, true, false, cond}
+use mathlib.Core.Bool.{cond}
 use mathlib.Core.List.{List, [], _∷_, _++_}
-use Prim.Native.Nat.{ℕ, zero, suc, _+_, _*_, _-_, _≤_}
+use Prim.Native.Nat.{ℕ, suc, _+_, _*_, _-_, _≤_}
 use lib.ListN.{length, take, replicate}
 use lib.Dec.{ltb, leb}
 use Rattle.laws.specs.Fold.{tab, spread}
 use Rattle.answer.specs.Limits.{maxComponents, maxRows, maxStates}
-use Rattle.answer.specs.Told.{Told, tell, Answer, answered, refused}
+use Rattle.answer.specs.Told.{Told, tell}
 use Rattle.iosa.specs.Model.{Row, Comp, Model, rowCount}
 use Rattle.iosa.specs.WellFormed.{WellFormed}
-use Rattle.layout.specs.Layout.{headWords, blockWords, rowWords, imageWords, countOf, blockWord, firstOf, actionAt, guardAt, resetsAt, targetAt}
+use Rattle.layout.specs.Layout.{blockWords, rowWords, imageWords, countOf, blockWord, firstOf, actionAt, guardAt, resetsAt, targetAt}
 
 -- ---- from a model to words
 -- how many of the rows leave a state below s

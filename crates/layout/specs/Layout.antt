@@ -3,7 +3,6 @@ use mathlib.Core.List.{List}
 use Prim.Native.Nat.{ℕ, suc, _+_, _*_}
 use lib.ListN.{getD}
 use Rattle.answer.specs.Limits.{maxComponents, maxRows, maxStates}
-use Rattle.iosa.specs.Model.{Row, Comp, Model}
 
 -- the words of a block before first[0]: states, start, ins, outs, uins, uouts, clocks, started
 abbrev pub headWords : ℕ

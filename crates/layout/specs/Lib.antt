@@ -1,3 +1,5 @@
 pub mod Layout
 pub mod Image
 pub mod Ranges
+pub mod Laid
+pub mod Words

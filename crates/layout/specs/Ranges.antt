@@ -1,5 +1,5 @@
 -- The ranges that an image keeps (docs/TABLE.md): what a caller may count on for indices, casts and sets.
-use Prim.Native.Nat.{ℕ, suc, _≤_, _<_}
+use Prim.Native.Nat.{ℕ, _≤_, _<_}
 use mathlib.Core.List.{List}
 use Rattle.laws.specs.Sets.{_∈_, _⊆_}
 use Rattle.answer.specs.Limits.{maxStates, maxRows, maxActions, maxClocks}

@@ -1,14 +1,14 @@
 -- The machine's counts of digits are the lowest member and the number of members.
 use mathlib.Core.Path.{_≡_, refl, sym, _∙_, ap}
 use mathlib.Core.Option.{Option, none, some}
-use mathlib.Core.Bool.{Bool, true, false, cond, true≢false}
+use mathlib.Core.Bool.{cond, true≢false}
 use Prim.Native.Nat.{ℕ, zero, suc, _+_, _/_, _%_, _^_, _<_}
-use native.Mathlib.Nat.{div-one, mod-lt, lt-of-lt-of-le}
+use native.Mathlib.Nat.{div-one}
 use native.Mathlib.Numerals.{add-one}
 use native.Mathlib.Omega.{arith}
 use lib.Count.{ones, ones-step, under, trailingZeros}
 use lib.Dec.{eqb}
-use lib.Pow.{shr-shr, pow-mono}
+use lib.Pow.{shr-shr}
 use Rattle.laws.specs.Sets.{has, _∈_}
 use Rattle.laws.specs.Search.{firstFrom, seek, when, least}
 use Rattle.laws.specs.Fold.{tab, sum}

@@ -1,7 +1,7 @@
 -- The lowest member of a set and the number of its members ("A set .. is one 64-bit number, bit x for member x", 01, "The model text").
 use mathlib.Core.Option.{Option, none, some}
 use mathlib.Core.Bool.{cond}
-use Prim.Native.Nat.{ℕ, _+_}
+use Prim.Native.Nat.{ℕ}
 use Rattle.laws.specs.Sets.{has}
 use Rattle.laws.specs.Search.{least}
 use Rattle.laws.specs.Fold.{tab, sum}

@@ -2,22 +2,20 @@
 use mathlib.Core.Path.{_≡_, refl, sym, _∙_, ap, ap₂}
 use mathlib.Core.Bool.{false, cond}
 use mathlib.Core.List.{List, [], _++_, append-assoc, append-nil}
-use Prim.Native.Nat.{ℕ, _^_, _≤_, _<_}
+use Prim.Native.Nat.{ℕ, _≤_, _<_}
 use native.Mathlib.Omega.{arith}
-use lib.ListN.{length}
-use lib.Bits.{or-lt}
-use lib.Pow.{pow-lt}
 use Rattle.laws.specs.Sets.{has, _∪_, only, _∈_}
 use Rattle.laws.specs.Fold.{spread}
 use Rattle.laws.proofs.SetLaws.{not-or, none-in, or-assoc}
 use Rattle.laws.proofs.TestLaws.{not-so}
-use Rattle.laws.proofs.GrowLaws.{added-here, added-there, added-apart, apart-flip, or-past, spread-none, spread-added}
+use Rattle.laws.proofs.GrowLaws.{added-here, added-there, or-past, spread-none, spread-added}
 use Rattle.answer.specs.Limits.{maxActions, maxClocks}
 use Rattle.iosa.specs.Model.{Comp, acts}
 use Rattle.iosa.specs.Text.{Kind, in-kind, out-kind, uin-kind, uout-kind, compLine, actLine, kindOf, actPart, clkPart, rowLines, compText}
 use Rattle.iosa.specs.WellFormed.{WellComp}
 use Rattle.iosa.specs.Reading.{withAct, act-entry}
 use Rattle.iosa.specs.Line.{lineOf}
+use Rattle.iosa.proofs.Reading.Kinds.{KindsApart, four-turn, four-grow, kinds-apart, well-with-no-row}
 
 -- what an `act` line leaves as it was
 pub record Kept (c d : Comp) : Type 0 where
@@ -108,91 +106,14 @@ act-text c a k h below e f =
     ∙ ap (λ (l : List ℕ). l ++ actLine a k) (sym (bare-text c e f))
 
 -- ---- it is well-formed
-bound : (s a : ℕ) → s < 2 ^ maxActions → a < maxActions → (s ∪ only a) < 2 ^ maxActions
-bound s a p h = or-lt maxActions s (only a) p (pow-lt h)
+act-apart : (c : Comp) (a : ℕ) (k : Kind) → a < maxActions → NoKind c a → KindsApart c → KindsApart (withAct c a k)
+act-apart c a in-kind h n f = four-grow a h (n .outs) (n .uins) (n .uouts) f
+act-apart c a out-kind h n f = four-turn (four-turn (four-turn (four-grow a h (n .uins) (n .uouts) (n .ins) (four-turn f))))
+act-apart c a uin-kind h n f = four-turn (four-turn (four-grow a h (n .uouts) (n .ins) (n .outs) (four-turn (four-turn f))))
+act-apart c a uout-kind h n f = four-turn (four-grow a h (n .ins) (n .outs) (n .uins) (four-turn (four-turn (four-turn f))))
 
 pub act-well : (c : Comp) (a : ℕ) (k : Kind) → WellComp c → a < maxActions → has (acts c) a ≡ false → c .rows ≡ [] → WellComp (withAct c a k)
-act-well c a in-kind w h e f =
-    let n = no-kind c a e in
-    record {
-      some = w .some;
-      states = w .states;
-      start = w .start;
-      ins = bound (c .ins) a (w .ins) h;
-      outs = w .outs;
-      uins = w .uins;
-      uouts = w .uouts;
-      ins-outs = added-apart (c .ins) (c .outs) a (w .ins-outs) (n .outs);
-      ins-uins = added-apart (c .ins) (c .uins) a (w .ins-uins) (n .uins);
-      ins-uouts = added-apart (c .ins) (c .uouts) a (w .ins-uouts) (n .uouts);
-      outs-uins = w .outs-uins;
-      outs-uouts = w .outs-uouts;
-      uins-uouts = w .uins-uouts;
-      clocks = w .clocks;
-      started = w .started;
-      rows = λ j p. absurd (omega (arith, ap length f));
-      ascend = λ j p. absurd (omega (arith, ap length f));
-    }
-act-well c a out-kind w h e f =
-    let n = no-kind c a e in
-    record {
-      some = w .some;
-      states = w .states;
-      start = w .start;
-      ins = w .ins;
-      outs = bound (c .outs) a (w .outs) h;
-      uins = w .uins;
-      uouts = w .uouts;
-      ins-outs = apart-flip (c .outs ∪ only a) (c .ins) (added-apart (c .outs) (c .ins) a (apart-flip (c .ins) (c .outs) (w .ins-outs)) (n .ins));
-      ins-uins = w .ins-uins;
-      ins-uouts = w .ins-uouts;
-      outs-uins = added-apart (c .outs) (c .uins) a (w .outs-uins) (n .uins);
-      outs-uouts = added-apart (c .outs) (c .uouts) a (w .outs-uouts) (n .uouts);
-      uins-uouts = w .uins-uouts;
-      clocks = w .clocks;
-      started = w .started;
-      rows = λ j p. absurd (omega (arith, ap length f));
-      ascend = λ j p. absurd (omega (arith, ap length f));
-    }
-act-well c a uin-kind w h e f =
-    let n = no-kind c a e in
-    record {
-      some = w .some;
-      states = w .states;
-      start = w .start;
-      ins = w .ins;
-      outs = w .outs;
-      uins = bound (c .uins) a (w .uins) h;
-      uouts = w .uouts;
-      ins-outs = w .ins-outs;
-      ins-uouts = w .ins-uouts;
-      outs-uouts = w .outs-uouts;
-      ins-uins = apart-flip (c .uins ∪ only a) (c .ins) (added-apart (c .uins) (c .ins) a (apart-flip (c .ins) (c .uins) (w .ins-uins)) (n .ins));
-      outs-uins = apart-flip (c .uins ∪ only a) (c .outs) (added-apart (c .uins) (c .outs) a (apart-flip (c .outs) (c .uins) (w .outs-uins)) (n .outs));
-      uins-uouts = added-apart (c .uins) (c .uouts) a (w .uins-uouts) (n .uouts);
-      clocks = w .clocks;
-      started = w .started;
-      rows = λ j p. absurd (omega (arith, ap length f));
-      ascend = λ j p. absurd (omega (arith, ap length f));
-    }
-act-well c a uout-kind w h e f =
-    let n = no-kind c a e in
-    record {
-      some = w .some;
-      states = w .states;
-      start = w .start;
-      ins = w .ins;
-      outs = w .outs;
-      uins = w .uins;
-      uouts = bound (c .uouts) a (w .uouts) h;
-      ins-outs = w .ins-outs;
-      ins-uins = w .ins-uins;
-      outs-uins = w .outs-uins;
-      ins-uouts = apart-flip (c .uouts ∪ only a) (c .ins) (added-apart (c .uouts) (c .ins) a (apart-flip (c .ins) (c .uouts) (w .ins-uouts)) (n .ins));
-      outs-uouts = apart-flip (c .uouts ∪ only a) (c .outs) (added-apart (c .uouts) (c .outs) a (apart-flip (c .outs) (c .uouts) (w .outs-uouts)) (n .outs));
-      uins-uouts = apart-flip (c .uouts ∪ only a) (c .uins) (added-apart (c .uouts) (c .uins) a (apart-flip (c .uins) (c .uouts) (w .uins-uouts)) (n .uins));
-      clocks = w .clocks;
-      started = w .started;
-      rows = λ j p. absurd (omega (arith, ap length f));
-      ascend = λ j p. absurd (omega (arith, ap length f));
-    }
+act-well c a k w h e f =
+    let q = act-kept c a k in
+    well-with-no-row (withAct c a k) (rw (q .states) (w .some)) (rw (q .states) (w .states)) (rw (q .states, q .start) (w .start)) (act-apart c a k h (no-kind c a e) (kinds-apart c w))
+    (rw (q .clocks) (w .clocks)) (rw (q .clocks, q .started) (w .started)) (q .rows ∙ f)

@@ -4,7 +4,6 @@ use mathlib.Core.Bool.{Bool, true, false, cond}
 use mathlib.Core.List.{List, [], _++_, append-assoc, append-nil}
 use Prim.Native.Nat.{ℕ, zero, suc, _≤_, _<_}
 use native.Mathlib.Omega.{arith}
-use lib.ListN.{length}
 use lib.Bits.{or-lt}
 use lib.Pow.{pow-lt}
 use lib.Dec.{eqb}
@@ -19,6 +18,7 @@ use Rattle.iosa.specs.Text.{compLine, clkLine, kindOf, actPart, clkPart,
 use Rattle.iosa.specs.WellFormed.{WellComp}
 use Rattle.iosa.specs.Reading.{withClk, clk-entry}
 use Rattle.iosa.specs.Line.{lineOf}
+use Rattle.iosa.proofs.Reading.Kinds.{kinds-apart, well-with-no-row}
 
 -- ---- its text
 set-there : (t : Bool) (s x y : ℕ) → (y ≡ x → ⊥) → has (cond t (s ∪ only x) s) y ≡ has s y
@@ -73,22 +73,5 @@ set-within false s u x f = λ y m. or-in-l u (only x) y (f y m)
 
 pub clk-well : (c : Comp) (x b : ℕ) → WellComp c → x < maxClocks → c .rows ≡ [] → WellComp (withClk c x b)
 clk-well c x b w h f =
-    record {
-      some = w .some;
-      states = w .states;
-      start = w .start;
-      ins = w .ins;
-      outs = w .outs;
-      uins = w .uins;
-      uouts = w .uouts;
-      ins-outs = w .ins-outs;
-      ins-uins = w .ins-uins;
-      ins-uouts = w .ins-uouts;
-      outs-uins = w .outs-uins;
-      outs-uouts = w .outs-uouts;
-      uins-uouts = w .uins-uouts;
-      clocks = or-lt maxClocks (c .clocks) (only x) (w .clocks) (pow-lt h);
-      started = set-within (eqb b 1) (c .started) (c .clocks) x (w .started);
-      rows = λ j p. absurd (omega (arith, ap length f));
-      ascend = λ j p. absurd (omega (arith, ap length f));
-    }
+    well-with-no-row (withClk c x b) (w .some) (w .states) (w .start) (kinds-apart c w) (or-lt maxClocks (c .clocks) (only x) (w .clocks) (pow-lt h))
+    (set-within (eqb b 1) (c .started) (c .clocks) x (w .started)) f

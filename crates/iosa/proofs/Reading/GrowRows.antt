@@ -22,8 +22,9 @@ use Rattle.iosa.specs.WellFormed.{before, WellRow, WellComp}
 use Rattle.iosa.specs.Reading.{row-entry, guardOf, rowOf, setOf, withRow}
 use Rattle.iosa.specs.Line.{lineOf, listField}
 use Rattle.iosa.specs.Faulty.{Each, GuardIs, InRange, Named, Ascends}
+use Rattle.iosa.proofs.Reading.Kinds.{kinds-apart, well-by-kinds}
 use Rattle.iosa.proofs.Reading.Members.{in-set-of, set-printed, members-of-set}
-use Rattle.iosa.proofs.Reading.Tests.{each-below, each-in, ascends-decided}
+use Rattle.iosa.proofs.Reading.Tests.{below-decided, in-decided, ascends-decided}
 
 -- ---- its text
 row-lines : (rs : List Row) (r : Row) → rowLines (rs ++ r ∷ []) ≡ rowLines rs ++ rowLine r
@@ -48,39 +49,20 @@ set-below (x ∷ xs) h = or-lt maxClocks (only x) (setOf xs) (pow-lt (h .0)) (se
 pub row-line : (s : ℕ) (g : Option ℕ) (a : ℕ) (r : List ℕ) (t : ℕ) → Ascends r → Each (λ x. x < maxClocks) r → rowLine (rowOf s g a r t) ≡ lineOf (row-entry s g a r t)
 unfolding rowLine lineOf
 row-line s g a r t h b =
-    let e : setField (setOf r) ≡ listField r = set-printed (setOf r) (set-below r b) ∙ ap listField (members-of-set r (ascends-decided r .1 h) (each-below maxClocks r .1 b)) in
+    let e : setField (setOf r) ≡ listField r = set-printed (setOf r) (set-below r b) ∙ ap listField (members-of-set r (ascends-decided r .1 h) (below-decided maxClocks r .1 b)) in
     rw e
 
 -- ---- it is well-formed
 pub row-well : (c : Comp) (s : ℕ) (g : Option ℕ) (a : ℕ) (r : List ℕ) (t : ℕ) → InRange c (row-entry s g a r t) → Named c (row-entry s g a r t) → WellRow c (rowOf s g a r t)
 row-well c s g a r t h n =
-    record { from = h .0; guard = guard-within g (n .0); action = n .1; resets = in-set-of (c .clocks) r (each-in (c .clocks) r .1 (n .2)); target = h .4 }
+    record { from = h .0; guard = guard-within g (n .0); action = n .1; resets = in-set-of (c .clocks) r (in-decided (c .clocks) r .1 (n .2)); target = h .4 }
   where
     guard-within : (g : Option ℕ) → GuardIs (λ x. x ∈ c .clocks) g → guardSet (guardOf g) ⊆ c .clocks
     guard-within none h x m = absurd (none-in x m)
     guard-within (some y) h x m = rw (one-in y x m) h
 
 pub rows-well : (c : Comp) (q : Row) → WellComp c → WellRow c q → ((k : ℕ) → suc k ≡ length (c .rows) → before (rowAt c k) q ≡ true) → WellComp (withRow c q)
-rows-well c q w h last =
-    record {
-      some = w .some;
-      states = w .states;
-      start = w .start;
-      ins = w .ins;
-      outs = w .outs;
-      uins = w .uins;
-      uouts = w .uouts;
-      ins-outs = w .ins-outs;
-      ins-uins = w .ins-uins;
-      ins-uouts = w .ins-uouts;
-      outs-uins = w .outs-uins;
-      outs-uouts = w .outs-uouts;
-      uins-uouts = w .uins-uouts;
-      clocks = w .clocks;
-      started = w .started;
-      rows = each;
-      ascend = up;
-    }
+rows-well c q w h last = well-by-kinds (withRow c q) (w .some) (w .states) (w .start) (kinds-apart c w) (w .clocks) (w .started) each up
   where
     keep : (r : Row) → WellRow c r → WellRow (withRow c q) r
     keep r h = record { from = h .from; guard = h .guard; action = h .action; resets = h .resets; target = h .target }

@@ -13,7 +13,7 @@ use Rattle.laws.proofs.SetLaws.{none-in, one-in, in-or, same-members}
 use Rattle.laws.proofs.TestLaws.{not-so}
 use Rattle.laws.proofs.ListLaws.{All, all-at, all-reverse}
 use Rattle.laws.proofs.GrowLaws.{spread-none}
-use Rattle.answer.specs.Limits.{maxComponents, maxRows, maxActions}
+use Rattle.answer.specs.Limits.{maxComponents, maxRows, maxStates, maxActions}
 use Rattle.answer.specs.Told.{answered}
 use Rattle.iosa.specs.Model.{Comp, Model, noRow, noComp, rowAt, acts, rowCount}
 use Rattle.iosa.specs.Text.{Kind, compLine, actPart, compText, textOf}
@@ -23,6 +23,7 @@ use Rattle.iosa.specs.Line.{lineOf}
 use Rattle.iosa.specs.Faulty.{InTurn, After, Faultless, Reaches, first-line, next-line}
 use Rattle.iosa.proofs.Reading.Lines.{entry-exact}
 use Rattle.iosa.proofs.Reading.Faults.{model-read}
+use Rattle.iosa.proofs.Reading.Kinds.{FourApart, well-with-no-row}
 use Rattle.iosa.proofs.Reading.GrowActs.{act-kept, act-acts, act-text, act-well, bare-text}
 use Rattle.iosa.proofs.Reading.GrowClocks.{clk-text, clk-well}
 use Rattle.iosa.proofs.Reading.GrowRows.{row-text, row-line, row-well, rows-well}
@@ -38,30 +39,26 @@ new-text n s =
     ∙ ap (λ (l : List ℕ). compLine (newComp n s) ++ l) (spread-none (actPart (newComp n s)) 0 maxActions (λ x p. rw (not-so (has 0 x) (none-in x))))
     ∙ append-nil (compLine (newComp n s))
 
-new-well : (n s : ℕ) → 1 ≤ n → n ≤ 64 → s < n → WellComp (newComp n s)
-new-well n s p q h =
-    record {
-      some = p;
-      states = q;
-      start = h;
-      ins = omega arith;
-      outs = omega arith;
-      uins = omega arith;
-      uouts = omega arith;
-      ins-outs = none-in′;
-      ins-uins = none-in′;
-      ins-uouts = none-in′;
-      outs-uins = none-in′;
-      outs-uouts = none-in′;
-      uins-uouts = none-in′;
-      clocks = omega arith;
-      started = λ x m. m;
-      rows = λ k l. absurd (omega arith);
-      ascend = λ k l. absurd (omega arith);
-    }
+new-well : (n s : ℕ) → 1 ≤ n → n ≤ maxStates → s < n → WellComp (newComp n s)
+new-well n s p q h = well-with-no-row (newComp n s) p q h none-apart (omega arith) (λ x m. m) refl
   where
-    none-in′ : (x : ℕ) → x ∈ 0 → x ∈ 0 → ⊥
-    none-in′ x m l = none-in x m
+    both-none : (x : ℕ) → x ∈ 0 → x ∈ 0 → ⊥
+    both-none x m l = none-in x m
+
+    none-apart : FourApart 0 0 0 0
+    none-apart =
+        record {
+          first = omega arith;
+          second = omega arith;
+          third = omega arith;
+          fourth = omega arith;
+          one-two = both-none;
+          one-three = both-none;
+          one-four = both-none;
+          two-three = both-none;
+          two-four = both-none;
+          three-four = both-none;
+        }
 
 -- ---- texts and counts of the components so far
 text-append : (m n : Model) → textOf (m ++ n) ≡ textOf m ++ textOf n

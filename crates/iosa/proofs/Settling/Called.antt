@@ -1,15 +1,15 @@
 -- Demand 3 of the call: settling that is not refused answers what the theorem says, and it is refused for nothing else.
-use mathlib.Core.Path.{_≡_, refl, sym, _∙_, ap}
+use mathlib.Core.Path.{_≡_, refl, ap}
 use mathlib.Core.Logic.{_↔_}
-use mathlib.Core.Bool.{Bool, true, false, not}
+use mathlib.Core.Bool.{not}
 use mathlib.Core.Option.{Option, none, some}
 use mathlib.Core.List.{List, [], _∷_}
-use Prim.Native.Nat.{ℕ, _≤_, _<_}
+use Prim.Native.Nat.{ℕ, _≤_}
 use native.Mathlib.Omega.{arith}
 use lib.ListN.{length}
 use lib.Dec.{ltb}
 use borrow.Author.Tests.{ltb-false, le-ltb, not-false}
-use Rattle.laws.specs.Search.{when, orElse}
+use Rattle.laws.specs.Search.{orElse}
 use Rattle.laws.proofs.SearchLaws.{no-some, when-none, or-else-none}
 use Rattle.answer.specs.Limits.{maxBudget}
 use Rattle.answer.specs.Told.{Told, tell, Answer, answered, refused}
@@ -35,16 +35,20 @@ pub same-refusal : {A : Type 0} {t u : Told} → _≡_ {A = Answer A} (refused t
 same-refusal p = cc
 
 -- a refusal, or else what follows
-answers-exactly : {A : Type 0} (o : Option Told) (x : Answer A) (y : A)
+pub answers-exactly : {A : Type 0} (o : Option Told) (x : Answer A) (y : A)
     → ((elim o as (λ _. Answer A) [ some t ↦ refused t | none ↦ x ]) ≡ answered y) ↔ (o ≡ none) × (x ≡ answered y)
 answers-exactly none x y = (λ e. (refl, e), λ p. p .1)
 answers-exactly (some t) x y = (λ e. absurd (no-answer e), λ p. absurd (no-some (p .0) refl))
+
+pub not-refused : {A : Type 0} (o : Option Told) (x : Answer A) → o ≡ none → (elim o as (λ _. Answer A) [ some t ↦ refused t | none ↦ x ]) ≡ x
+not-refused none x e = refl
+not-refused (some t) x e = absurd (no-some e refl)
 
 none-of-four : {A : Type 0} (o p q r : Option A) → o ≡ none → p ≡ none → q ≡ none → r ≡ none → orElse o (orElse p (orElse q r)) ≡ none
 none-of-four o p q r e f g h = simp (e, f, g, h)
 
 -- no refusal of 21, 22 and 24
-state-faultless : (m : Model) (s : List ℕ) → (stateFault m s ≡ none) ↔ Within m s
+pub state-faultless : (m : Model) (s : List ℕ) → (stateFault m s ≡ none) ↔ Within m s
 unfolding stateFault
 state-faultless m s = (
   λ e. range-exactly m s .0 (not-false (inRange m s) (when-none (not (inRange m s)) (tell 21 (0 ∷ [])) e)),
@@ -90,6 +94,12 @@ settle-list-answers-exactly m s l d =
           (q .0, state-faultless m s .0 (r .0), budget-faultless (length l) .0 (r .1), p .1),
       λ p. x .1 (simp (p .0, state-faultless m s .1 (p .1), budget-faultless (length l) .1 (p .2)), p .3),
     )
+
+-- where nothing is refused before it, the list is played
+pub settle-list-plays : (m : Model) (s l : List ℕ) → confluentOf m ≡ none → Within m s → length l ≤ maxBudget → settleListOf m s l ≡ play m 0 l s
+unfolding settleListOf
+settle-list-plays m s l e w h =
+    not-refused (orElse (confluentOf m) (orElse (stateFault m s) (budgetFault (length l)))) (play m 0 l s) (simp (e, state-faultless m s .1 w, budget-faultless (length l) .1 h))
 
 pub demand-3-of-the-call : (c : Comp) (cs : List Comp) → WellFormed (c ∷ cs) → (s : List ℕ) (budget room : ℕ) (d : Settling (List ℕ))
     → settleOf (c ∷ cs) s budget room ≡ answered d → Called c cs s budget d

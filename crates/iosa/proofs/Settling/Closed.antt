@@ -1,14 +1,14 @@
 -- The rows of a component, and of a product, stay among its own states, actions and clocks.
-use mathlib.Core.Path.{_≡_, refl}
 use mathlib.Core.Logic.{⊎-elim}
 use mathlib.Core.List.{List, [], _∷_}
 use Prim.Native.Nat.{ℕ}
 use Rattle.laws.specs.Sets.{_∪_, _∈_, _⊆_}
 use Rattle.laws.proofs.SetLaws.{or-in-l, or-in-r, in-or, none-in}
-use Rattle.iosa.specs.Model.{Comp, Model}
+use Rattle.iosa.specs.Model.{Comp}
 use Rattle.iosa.specs.WellFormed.{WellComp}
 use Rattle.iosa.specs.Automaton.{Automaton, alphabet, autoOf}
-use Rattle.iosa.specs.Product.{_⊗_, productFrom, product, Joint}
+use Rattle.iosa.specs.Product.{_⊗_, productFrom}
+use Rattle.iosa.proofs.Acceptance.Rows.{from-below, target-below}
 use Rattle.iosa.proofs.Settling.Each.{All}
 use Rattle.iosa.proofs.Settling.Parts.{Go, goes, rests, Parts, joint-parts, joint-known}
 
@@ -33,10 +33,10 @@ component-closed c w = record {
   own = λ l.
       let r = w .rows (l .place) (l .inside) in
       record {
-        from = rw (l .from) at (r .from);
+        from = from-below c w l;
         guard = rw (l .guard) at (r .guard);
         resets = rw (l .resets) at (r .resets);
-        target = rw (l .target) at (r .target);
+        target = target-below c w l;
       };
 }
 

@@ -1,8 +1,7 @@
 -- Where the product is confluent, two different urgent steps of a composed state commute.
-use mathlib.Core.Path.{_≡_, refl, sym, _∙_, ap}
-use mathlib.Core.Logic.{_≢_}
-use mathlib.Core.Option.{Option, none, some}
-use mathlib.Core.List.{List, [], _∷_}
+use mathlib.Core.Path.{_≡_, sym, _∙_}
+use mathlib.Core.Option.{some}
+use mathlib.Core.List.{List, _∷_}
 use Prim.Native.Nat.{ℕ}
 use Rattle.iosa.specs.Model.{Comp}
 use Rattle.iosa.specs.WellFormed.{WellFormed}

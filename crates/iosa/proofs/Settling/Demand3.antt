@@ -1,23 +1,25 @@
 -- Demand 3: one theorem over series of urgent outputs of the product's own rows; and our run is one of them.
 use mathlib.Core.Path.{_≡_, refl, sym, _∙_, ap}
-use mathlib.Core.Logic.{_↔_, _⊎_, inl, inr}
-use mathlib.Core.Bool.{Bool, true, false, true≢false, false≢true}
-use mathlib.Core.Option.{Option, none, some}
-use mathlib.Core.List.{List, [], _∷_}
-use Prim.Native.Nat.{ℕ, _≤_, _<_}
+use mathlib.Core.Logic.{_↔_, _⊎_, by-cases}
+use mathlib.Core.Bool.{Bool, true, false, true≢false}
+use mathlib.Core.Option.{none}
+use mathlib.Core.List.{List, _∷_}
+use Prim.Native.Nat.{ℕ, _≤_}
+use native.Mathlib.Omega.{arith}
+use native.Mathlib.Decide.{decLt}
 use lib.ListN.{length}
 use Rattle.laws.proofs.SearchLaws.{no-some}
-use Rattle.iosa.specs.Model.{Comp, Model}
+use Rattle.iosa.specs.Model.{Comp}
 use Rattle.iosa.specs.WellFormed.{WellFormed}
-use Rattle.iosa.specs.Automaton.{Conforming, Joinable, AllConfluent, Stable}
+use Rattle.iosa.specs.Automaton.{Conforming, Joinable, Stable}
 use Rattle.iosa.specs.Product.{product, stateOf, Within, Series}
-use Rattle.iosa.specs.Checks.{acceptOf, confluentOf}
-use Rattle.iosa.specs.Step.{Gone, Went, urgentStep}
+use Rattle.iosa.specs.Checks.{confluentOf}
+use Rattle.iosa.specs.Step.{urgentStep}
 use Rattle.iosa.specs.Settle.{Settling, settle}
-use Rattle.iosa.specs.Demand3.{Demand3, Stops, Same, SettledAs, Unsettled, GoesOn, OurRun}
+use Rattle.iosa.specs.Demand3.{Demand3, Stops, Same, GoesOn, OurRun}
 use Rattle.iosa.proofs.Acceptance.Accepted.{accepted-exactly}
 use Rattle.iosa.proofs.Acceptance.ConfluentExactly.{confluent-exactly, confluent-accepted}
-use Rattle.iosa.proofs.Settling.Descent.{Run, Stuck, Keeps, Diamond, Alike, none-is-longer, all-that-stop-are-alike}
+use Rattle.iosa.proofs.Settling.Descent.{Run, Stuck, Keeps, Diamond, none-is-longer, all-that-stop-are-alike}
 use Rattle.iosa.proofs.Settling.Rule.{Ran, Exact, settle-ran, settle-exact, settle-never}
 use Rattle.iosa.proofs.Settling.Steps.{steps-keep-the-range, steps-are-bounded, stable-stuck, stuck-stable, stable-or-goes-on}
 use Rattle.iosa.proofs.Settling.Commute.{urgent-steps-commute}
@@ -35,6 +37,7 @@ module _ (c : Comp) (cs : List Comp) (well : WellFormed (c ∷ cs)) (conf : Conf
             record {
               longest = λ other. none-is-longer (urgentStep (c ∷ cs)) P keeps dia u ok (p .1) (series-is-a-run c cs well conf join s w refl other .1);
               same = λ other st′. alike u (p .1) (p .2) (series-is-a-run c cs well conf join s w refl other) st′;
+              exactly = λ n. exactly n (settle-exact (urgentStep (c ∷ cs)) P keeps dia (steps-are-bounded c cs well conf join) u ok (p .1) n);
               enough = λ n h.
                   let x = settle-exact (urgentStep (c ∷ cs)) P keeps dia (steps-are-bounded c cs well conf join) u ok (p .1) n .enough h in
                   record { stable = x .0; steps = x .1; resets = x .2; state = ap (stateOf c cs) (x .3) ∙ sym (p .2) };
@@ -43,6 +46,9 @@ module _ (c : Comp) (cs : List Comp) (well : WellFormed (c ∷ cs)) (conf : Conf
                   record { unstable = x .0; steps = x .1 };
             }
           where
+            exactly : (n : ℕ) {t : List ℕ} {d : Settling (List ℕ)} → Exact (urgentStep (c ∷ cs)) n l R t d → (d .stable ≡ true) ↔ (length l ≤ n)
+            exactly n x = (λ e. by-cases (decLt n (length l)) (λ h. absurd (true≢false (sym e ∙ x .short h .0))) (λ h. omega arith), λ h. x .enough h .0)
+
             alike : {t : List ℕ} → Stuck (urgentStep (c ∷ cs)) t → Run (urgentStep (c ∷ cs)) s l R t → y ≡ stateOf c cs t → {k : List ℕ} {Q : ℕ} {z : product c cs .State}
                 → (v : List ℕ) × Run (urgentStep (c ∷ cs)) s k Q v × (z ≡ stateOf c cs v) × Within (c ∷ cs) v → Stable (product c cs) z → Same (product c cs) l R y k Q z
             alike u run e q st′ =

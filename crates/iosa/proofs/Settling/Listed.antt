@@ -1,7 +1,7 @@
 -- Settling by a list: a list that is a series is answered as that series, and any other is refused at its first action that is not enabled.
 use mathlib.Core.Path.{_≡_, refl, sym, _∙_, ap}
 use mathlib.Core.Logic.{_↔_}
-use mathlib.Core.Bool.{Bool, true, false, false≢true}
+use mathlib.Core.Bool.{Bool, true, false}
 use mathlib.Core.Option.{Option, none, some}
 use mathlib.Core.List.{List, [], _∷_, _++_}
 use Prim.Native.Nat.{ℕ, suc, _+_}
@@ -12,14 +12,14 @@ use Rattle.laws.proofs.SearchLaws.{no-some}
 use Rattle.answer.specs.Told.{Told, tell, Answer, answered, refused}
 use Rattle.iosa.specs.Model.{Comp, Model}
 use Rattle.iosa.specs.WellFormed.{WellFormed}
-use Rattle.iosa.specs.Automaton.{Conforming, Joinable, Stable, UrgentRow}
-use Rattle.iosa.specs.Product.{product, stateOf, Within, Series}
+use Rattle.iosa.specs.Automaton.{Conforming, Joinable}
+use Rattle.iosa.specs.Product.{product, stateOf, Within}
 use Rattle.iosa.specs.Step.{Gone, urgentStep, isStable}
-use Rattle.iosa.specs.Settle.{Settling, resting, afterListed, play}
+use Rattle.iosa.specs.Settle.{Settling, afterListed, play}
 use Rattle.iosa.specs.Demand3.{Listed, NotEnabledAt}
 use Rattle.iosa.proofs.Settling.Parts.{within-length}
 use Rattle.iosa.proofs.Settling.Descent.{Run, stop, then}
-use Rattle.iosa.proofs.Settling.Steps.{state-is-one-list, stable-exactly, step-is-a-row, row-is-a-step}
+use Rattle.iosa.proofs.Settling.Steps.{state-is-one-list, stable-exactly, row-is-a-step, no-row-no-step}
 use Rattle.iosa.proofs.Settling.SeriesAndRuns.{series-is-a-run, run-is-a-series}
 use Rattle.iosa.proofs.Settling.Called.{no-answer, same-answer, same-refusal}
 
@@ -149,14 +149,6 @@ module _ (c : Comp) (cs : List Comp) (well : WellFormed (c ∷ cs)) (conf : Conf
             state = sym e i;
           }))
 
-  -- the state of a run that cannot go on by a
-  stopped : {a : ℕ} (t : List ℕ) → Within (c ∷ cs) t → ((C R : ℕ) (y : product c cs .State) → UrgentRow (product c cs) (stateOf c cs t) C a R y → ⊥) → urgentStep (c ∷ cs) t a ≡ none
-  stopped {a} t v f = go (urgentStep (c ∷ cs) t a) refl
-    where
-      go : (o : Option (Gone (List ℕ))) → urgentStep (c ∷ cs) t a ≡ o → o ≡ none
-      go none e = refl
-      go (some g) e = absurd (f 0 (g .resets) (stateOf c cs (g .after)) (step-is-a-row c cs well conf join t v a g e .0))
-
   -- and refused, 23, exactly at its first action that is not enabled
   pub list-that-is-no-series : (t : Told) → (play (c ∷ cs) 0 l s ≡ refused t) ↔ (i : ℕ) × (t ≡ tell 23 (i ∷ [])) × NotEnabledAt (product c cs) (stateOf c cs s) l i
   list-that-is-no-series t = (λ e. there (refused-breaks (c ∷ cs) 0 l s t e), back)
@@ -187,6 +179,6 @@ module _ (c : Comp) (cs : List Comp) (well : WellFormed (c ∷ cs)) (conf : Conf
           let q = series-is-a-run c cs well conf join s w refl (b .series) in
           let n : 0 + length (b .before) ≡ p .0 = omega (arith, b .index) in
           ap (λ k. play (c ∷ cs) 0 k s) (b .split)
-          ∙ run-breaks (c ∷ cs) 0 (b .action) (b .later) (q .1) (stopped (q .0) (q .3) (rw (q .2) at (b .disabled)))
+          ∙ run-breaks (c ∷ cs) 0 (b .action) (b .later) (q .1) (no-row-no-step c cs well conf join (q .0) (q .3) (b .action) (rw (q .2) at (b .disabled)))
           ∙ ap (λ k. refused (tell 23 (k ∷ []))) n
           ∙ ap refused (sym (p .1))

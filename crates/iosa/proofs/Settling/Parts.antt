@@ -7,7 +7,7 @@ use Prim.Native.Nat.{ℕ, suc}
 use native.Mathlib.Omega.{arith}
 use lib.ListN.{length}
 use lib.Bits.{or-zero-r}
-use Rattle.laws.specs.Sets.{has, _∪_, _∖_, _∈_}
+use Rattle.laws.specs.Sets.{has, _∪_, _∈_}
 use Rattle.laws.proofs.SetLaws.{or-assoc, has-or, has-without, has-ext, or-in-l, or-in-r, in-or, not-or, or-not}
 use Rattle.iosa.specs.Model.{Comp, Model, acts}
 use Rattle.iosa.specs.Automaton.{Automaton, alphabet, autoOf}

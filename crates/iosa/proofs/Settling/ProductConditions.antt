@@ -1,17 +1,16 @@
 -- Proposition 4.1 of document 000: the product of compatible automata that meet (a) to (f) meets them again.
-use mathlib.Core.Path.{_≡_, refl, sym, _∙_, ap, ap₂}
+use mathlib.Core.Path.{_≡_, refl, sym, _∙_, ap₂}
 use mathlib.Core.Logic.{_⊎_, inl, inr, ⊎-elim}
 use mathlib.Core.Bool.{Bool, true, false, true≢false}
-use mathlib.Core.List.{List, [], _∷_}
 use Prim.Native.Nat.{ℕ}
 use lib.Bits.{or-zero-r}
-use Rattle.laws.specs.Sets.{has, _∪_, _∖_, only, _∈_, _⊆_, Apart}
+use Rattle.laws.specs.Sets.{has, _∪_, _∖_, only, _∈_, _⊆_}
 use Rattle.laws.proofs.SetLaws.{or-in-l, or-in-r, in-or, not-or, or-not, in-without, without-in, none-in}
 use Rattle.laws.proofs.TestLaws.{not-so}
-use Rattle.iosa.specs.Automaton.{Automaton, alphabet, autoOf, UrgentRow, Stable, Enabling, CondA, CondB, CondC, CondD, CondE, Active, CondF, Conditions, Compatible}
-use Rattle.iosa.specs.Product.{_⊗_, productFrom, product}
-use Rattle.iosa.proofs.Settling.Parts.{Go, goes, rests, Parts, go-row, joint-parts, parts-go, joint-known, alphabet-joins}
-use Rattle.iosa.proofs.Settling.Closed.{Closed, Own, go-own, or-within}
+use Rattle.iosa.specs.Automaton.{Automaton, alphabet, Stable, Enabling, CondA, CondB, CondC, CondD, CondE, Active, CondF, Conditions, Compatible}
+use Rattle.iosa.specs.Product.{_⊗_}
+use Rattle.iosa.proofs.Settling.Parts.{Go, goes, rests, Parts, go-row, joint-parts, parts-go, alphabet-joins}
+use Rattle.iosa.proofs.Settling.Closed.{Closed, go-own, or-within}
 
 pub compatible-sym : (A B : Automaton) → Compatible A B → Compatible B A
 compatible-sym A B k = record {
@@ -110,6 +109,20 @@ hand-on P P′ C D R R′ x f g r h = ⊎-elim
     (λ i. or-in-r (P′ ∖ D) R′ x (r i))
     (in-or (P ∖ C) R x h)
 
+-- X in state s is a side of P in state p: its rows by outputs are P's with the same guard. Where P is stable so is X, and then X's active clocks guard rows of P
+module _ (X P : Automaton) (s : X .State) (p : P .State) (out : X .outputs ⊆ P .outputs) (ur : X .urgent ⊆ P .urgent)
+    (lift : (C a R : ℕ) (t : X .State) → a ∈ X .outputs → X .Row s C a R t → (Q : ℕ) × (y : P .State) × P .Row p C a Q y) where
+  stable-side : Stable P p → Stable X s
+  stable-side st = record { rests = λ {C} {a} {R} {t} r. st .rests (record { output = out a (r .output); urgent = ur a (r .urgent); row = lift C a R t (r .output) (r .row) .2 }) }
+
+  enabling-side : CondA X → Closed X → (x : ℕ) → Enabling X s x → Enabling P p x
+  enabling-side ca o x e =
+      let w = lift (e .guard) (e .action) (e .resets) (e .target) (guard-output X ca o x (e .guards) (e .row)) (e .row) in
+      record { guard = e .guard; action = e .action; resets = w .0; target = w .1; guards = e .guards; row = w .2 }
+
+  equal-side : CondA X → Closed X → (active : X .State → ℕ) → Active X active → X .States s → Stable P p → (x : ℕ) → x ∈ active s → Enabling P p x
+  equal-side ca o active f ok st x h = enabling-side ca o x (f .equal s ok (stable-side st) x h)
+
 -- the conditions, one by one
 module _ (A B : Automaton) (k : Compatible A B) (ca : Conditions A) (cb : Conditions B) (oa : Closed A) (ob : Closed B) where
   product-meets-a : CondA (A ⊗ B)
@@ -191,33 +204,7 @@ module _ (A B : Automaton) (k : Compatible A B) (ca : Conditions A) (cb : Condit
     abbrev active : A .State × B .State → ℕ
     active x = fa .0 (x .0) ∪ fb .0 (x .1)
 
-    -- where the pair is stable, so is each side
-    stable-left : (s : A .State) (t : B .State) → B .States t → Stable (A ⊗ B) (s, t) → Stable A s
-    stable-left s t ok st = record {
-      rests = λ {C} {a} {R} {t = u} r.
-          let w = with-left t ok (r .output) (r .row) in
-          st .rests (record { output = or-in-l (A .outputs) (B .outputs) a (r .output); urgent = or-in-l (A .urgent) (B .urgent) a (r .urgent); row = w .2 });
-    }
-
-    stable-right : (s : A .State) (t : B .State) → A .States s → Stable (A ⊗ B) (s, t) → Stable B t
-    stable-right s t ok st = record {
-      rests = λ {C} {a} {R} {t = u} r.
-          let w = with-right s ok (r .output) (r .row) in
-          st .rests (record { output = or-in-r (A .outputs) (B .outputs) a (r .output); urgent = or-in-r (A .urgent) (B .urgent) a (r .urgent); row = w .2 });
-    }
-
-    -- a clock that guards in one side guards in the pair
-    enabling-left : (s : A .State) (t : B .State) → B .States t → (x : ℕ) → Enabling A s x → Enabling (A ⊗ B) (s, t) x
-    enabling-left s t ok x e =
-        let w = with-left t ok (guard-output A (ca .condA) oa x (e .guards) (e .row)) (e .row) in
-        record { guard = e .guard; action = e .action; resets = w .0; target = w .1; guards = e .guards; row = w .2 }
-
-    enabling-right : (s : A .State) (t : B .State) → A .States s → (x : ℕ) → Enabling B t x → Enabling (A ⊗ B) (s, t) x
-    enabling-right s t ok x e =
-        let w = with-right s ok (guard-output B (cb .condA) ob x (e .guards) (e .row)) (e .row) in
-        record { guard = e .guard; action = e .action; resets = w .0; target = w .1; guards = e .guards; row = w .2 }
-
-    -- and back
+    -- a clock that guards in the pair guards in one side
     enabling-sides : (s : A .State × B .State) (x : ℕ) → Enabling (A ⊗ B) s x → Enabling A (s .0) x ⊎ Enabling B (s .1) x
     enabling-sides s x e = build (joint-parts A B (e .action) (e .row)) (e .guards)
       where
@@ -236,8 +223,10 @@ module _ (A B : Automaton) (k : Compatible A B) (ca : Conditions A) (cb : Condit
           (λ i. or-in-r (fa .0 (s .0)) (fb .0 (s .1)) x (fb .1 .enabled (s .1) (ok .1) x i))
           (enabling-sides s x e);
       equal = λ s ok st x h. ⊎-elim
-          (λ i. enabling-left (s .0) (s .1) (ok .1) x (fa .1 .equal (s .0) (ok .0) (stable-left (s .0) (s .1) (ok .1) st) x i))
-          (λ i. enabling-right (s .0) (s .1) (ok .0) x (fb .1 .equal (s .1) (ok .1) (stable-right (s .0) (s .1) (ok .0) st) x i))
+          (λ i. equal-side A (A ⊗ B) (s .0) s (or-in-l (A .outputs) (B .outputs)) (or-in-l (A .urgent) (B .urgent)) (λ C a R t. with-left (s .1) (ok .1))
+          (ca .condA) oa (fa .0) (fa .1) (ok .0) st x i)
+          (λ i. equal-side B (A ⊗ B) (s .1) s (or-in-r (A .outputs) (B .outputs)) (or-in-r (A .urgent) (B .urgent)) (λ C a R t. with-right (s .0) (ok .0))
+          (cb .condA) ob (fb .0) (fb .1) (ok .1) st x i)
           (in-or (fa .0 (s .0)) (fb .0 (s .1)) x h);
       kept = λ {C} {a} {R} {s} {t} r. handed (joint-parts A B a r);
     }

@@ -1,7 +1,7 @@
 -- Proposition 4.2 of document 000: the product of compatible confluent automata is confluent.
-use mathlib.Core.Path.{_≡_, refl, sym, _∙_, ap}
+use mathlib.Core.Path.{_≡_, sym, _∙_, ap}
 use mathlib.Core.Logic.{_≢_}
-use mathlib.Core.Bool.{true, false}
+use mathlib.Core.Bool.{false}
 use Prim.Native.Nat.{ℕ}
 use Rattle.laws.specs.Sets.{has, _∪_, _∈_}
 use Rattle.laws.proofs.SetLaws.{has-ext, not-or, none-in}

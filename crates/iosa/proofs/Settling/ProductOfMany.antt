@@ -1,11 +1,8 @@
 -- Propositions 4.1 and 4.2 of document 000 for a system: "A system of several is the product from the left" (paper 01).
-use mathlib.Core.Path.{_≡_, refl}
 use mathlib.Core.Logic.{⊎-elim}
 use mathlib.Core.List.{List, [], _∷_}
-use Prim.Native.Nat.{ℕ, suc, _<_}
+use Prim.Native.Nat.{ℕ, suc}
 use native.Mathlib.Omega.{arith}
-use lib.ListN.{length}
-use Rattle.laws.specs.Sets.{_∪_, _∈_}
 use Rattle.laws.proofs.SetLaws.{or-in-l, or-in-r, in-or}
 use Rattle.iosa.specs.Model.{Comp, Model}
 use Rattle.iosa.specs.WellFormed.{WellComp, WellFormed}

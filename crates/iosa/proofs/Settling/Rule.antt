@@ -8,7 +8,6 @@ use Prim.Native.Nat.{ℕ, zero, suc, _≤_, _<_}
 use native.Mathlib.Omega.{arith}
 use lib.ListN.{length}
 use Rattle.laws.specs.Sets.{_∪_}
-use Rattle.laws.specs.Search.{seek}
 use Rattle.laws.proofs.SearchLaws.{no-some, seek-some, seek-none}
 use Rattle.answer.specs.Limits.{maxActions}
 use Rattle.iosa.specs.Step.{Gone, Went, named, lowest}

@@ -1,16 +1,15 @@
 -- A series of the product's urgent rows is a run of the step that computes, and back.
-use mathlib.Core.Path.{_≡_, refl, sym, _∙_, ap}
-use mathlib.Core.Option.{Option, none, some}
-use mathlib.Core.List.{List, [], _∷_}
-use Prim.Native.Nat.{ℕ, _<_}
+use mathlib.Core.Path.{_≡_}
+use mathlib.Core.List.{List, _∷_}
+use Prim.Native.Nat.{ℕ}
 use Rattle.laws.proofs.SearchLaws.{no-some}
 use Rattle.iosa.specs.Model.{Comp}
 use Rattle.iosa.specs.WellFormed.{WellFormed}
 use Rattle.iosa.specs.Automaton.{Automaton, Conforming, Joinable}
 use Rattle.iosa.specs.Product.{product, stateOf, Within, Series, over, next}
-use Rattle.iosa.specs.Step.{Gone, urgentStep}
+use Rattle.iosa.specs.Step.{urgentStep}
 use Rattle.iosa.specs.Demand3.{LowestSeries, rest, take}
-use Rattle.iosa.proofs.Settling.Steps.{step-is-a-row, row-is-a-step, RowStep}
+use Rattle.iosa.proofs.Settling.Steps.{step-is-a-row, row-is-a-step}
 use Rattle.iosa.proofs.Settling.Descent.{Run, stop, then}
 use Rattle.iosa.proofs.Settling.Rule.{LowRun, stay, low}
 

@@ -2,25 +2,25 @@
 -- the lowest-numbered one; a state is stable exactly when none leaves it.
 use mathlib.Core.Path.{_≡_, refl, sym, _∙_, ap}
 use mathlib.Core.Logic.{_↔_, _⊎_, inl, inr}
-use mathlib.Core.Bool.{Bool, true, false, not, true≢false, false≢true}
+use mathlib.Core.Bool.{Bool, true, false, not, false≢true}
 use mathlib.Core.Option.{Option, none, some}
 use mathlib.Core.List.{List, [], _∷_}
-use Prim.Native.Nat.{ℕ, suc, _<_}
+use Prim.Native.Nat.{ℕ, _<_}
 use native.Mathlib.Omega.{arith}
 use lib.ListN.{length}
-use Rattle.laws.specs.Sets.{_∪_, _∈_}
+use Rattle.laws.specs.Sets.{_∈_}
 use Rattle.laws.specs.Search.{isSome}
 use Rattle.laws.proofs.SetLaws.{or-in-r}
 use Rattle.laws.proofs.SearchLaws.{no-some}
-use Rattle.iosa.specs.Model.{Comp, Model, inputs, outputs, urgents, acts}
+use Rattle.iosa.specs.Model.{Comp, Model, inputs, outputs}
 use Rattle.iosa.specs.WellFormed.{WellComp, WellFormed}
 use Rattle.iosa.specs.Automaton.{Automaton, alphabet, autoOf, UrgentRow, Stable, Conforming, Joinable, Conditions}
-use Rattle.iosa.specs.Product.{_⊗_, productFrom, product, embed, stateOf, Within}
+use Rattle.iosa.specs.Product.{_⊗_, product, embed, stateOf, Within}
 use Rattle.iosa.specs.Step.{Gone, Went, moveAll, isUout, urgentStep, lowest, isStable}
 use Rattle.iosa.specs.Demand3.{GoesOn}
 use Rattle.iosa.proofs.Acceptance.Rows.{Single, urgent-unclocked}
 use Rattle.iosa.proofs.Settling.Each.{All, each-all, all-map}
-use Rattle.iosa.proofs.Settling.Parts.{GoAll, parts-row, row-parts, within-length}
+use Rattle.iosa.proofs.Settling.Parts.{parts-row, row-parts, within-length}
 use Rattle.iosa.proofs.Settling.ProductOfMany.{Pairwise, joinable-pairwise, wells}
 use Rattle.iosa.proofs.Settling.UrgentOutputs.{uout-urgent, uout-labels, labels-uout, uout-below}
 use Rattle.iosa.proofs.Settling.Moves.{Unclocked, moves-go, go-moves, go-within}
@@ -122,13 +122,18 @@ module _ (c : Comp) (cs : List Comp) (well : WellFormed (c ∷ cs)) (conf : Conf
   pub steps-are-bounded : Bounded (urgentStep (c ∷ cs))
   steps-are-bounded s a g e = uout-below (c ∷ cs) each-well a (step-uout (c ∷ cs) s a g e .0)
 
-  -- ---- stable
-  pub stable-stuck : (s : List ℕ) → Within (c ∷ cs) s → Stable (product c cs) (stateOf c cs s) → Stuck (urgentStep (c ∷ cs)) s
-  stable-stuck s w st a = go (urgentStep (c ∷ cs) s a) refl
+  -- where no urgent row by a leaves, no step does
+  pub no-row-no-step : (s : List ℕ) → Within (c ∷ cs) s → (a : ℕ) → ((C R : ℕ) (y : product c cs .State) → UrgentRow (product c cs) (stateOf c cs s) C a R y → ⊥)
+      → urgentStep (c ∷ cs) s a ≡ none
+  no-row-no-step s w a f = go (urgentStep (c ∷ cs) s a) refl
     where
       go : (o : Option (Gone (List ℕ))) → urgentStep (c ∷ cs) s a ≡ o → o ≡ none
       go none e = refl
-      go (some g) e = absurd (st .rests (step-is-a-row s w a g e .0))
+      go (some g) e = absurd (f 0 (g .resets) (stateOf c cs (g .after)) (step-is-a-row s w a g e .0))
+
+  -- ---- stable
+  pub stable-stuck : (s : List ℕ) → Within (c ∷ cs) s → Stable (product c cs) (stateOf c cs s) → Stuck (urgentStep (c ∷ cs)) s
+  stable-stuck s w st a = no-row-no-step s w a (λ C R y r. st .rests r)
 
   pub stuck-stable : (s : List ℕ) → Within (c ∷ cs) s → Stuck (urgentStep (c ∷ cs)) s → Stable (product c cs) (stateOf c cs s)
   stuck-stable s w st = record { rests = λ {C} {a} {R} {t} r. no-some (st a) (row-is-a-step s w t r .step) }

@@ -1,15 +1,15 @@
 -- The urgent outputs of a system: what `isUout` computes are the product's actions that are outputs and urgent.
-use mathlib.Core.Path.{_≡_, refl, sym, _∙_}
-use mathlib.Core.Logic.{_⊎_, inl, inr, ⊎-elim, ⊎-map}
+use mathlib.Core.Path.{_≡_, refl}
+use mathlib.Core.Logic.{inl, inr, ⊎-elim, ⊎-map}
 use mathlib.Core.Bool.{Bool, true, false, _||_, false≢true}
 use mathlib.Core.List.{List, [], _∷_}
 use Prim.Native.Nat.{ℕ, _<_}
-use Rattle.laws.specs.Sets.{has, _∪_, _∈_}
-use Rattle.laws.proofs.SetLaws.{or-in-l, or-in-r, in-or, or-cases, in-below}
+use Rattle.laws.specs.Sets.{has, _∈_}
+use Rattle.laws.proofs.SetLaws.{or-in-r, in-or, or-cases, in-below}
 use Rattle.answer.specs.Limits.{maxActions}
 use Rattle.iosa.specs.Model.{Comp, Model, inputs, outputs, urgents, acts}
 use Rattle.iosa.specs.WellFormed.{WellComp}
-use Rattle.iosa.specs.Automaton.{Automaton, autoOf}
+use Rattle.iosa.specs.Automaton.{autoOf}
 use Rattle.iosa.specs.Product.{product}
 use Rattle.iosa.specs.Step.{isUout}
 use Rattle.iosa.proofs.Settling.Each.{All, Any, all-map, all-zip, any-map, any-zip}

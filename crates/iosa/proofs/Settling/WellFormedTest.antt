@@ -1,13 +1,13 @@
 -- A test that computes, for worked examples: where it holds, the model is well-formed.
-use mathlib.Core.Path.{_≡_, refl, sym, _∙_, ap}
-use mathlib.Core.Bool.{Bool, true, false}
-use mathlib.Core.List.{List, [], _∷_}
-use Prim.Native.Nat.{ℕ, suc, _-_, _^_, _≤_, _<_}
+use mathlib.Core.Path.{_≡_}
+use mathlib.Core.Bool.{Bool, true}
+use mathlib.Core.List.{[], _∷_}
+use Prim.Native.Nat.{ℕ, suc, _-_, _^_}
 use native.Mathlib.Omega.{arith}
 use lib.ListN.{length}
 use lib.Dec.{eqb, ltb, leb}
 use borrow.Author.Tests.{eqb-true, ltb-true, leb-true}
-use Rattle.laws.specs.Sets.{has, _∩_, within, _∈_, Apart}
+use Rattle.laws.specs.Sets.{has, _∩_, within, Apart}
 use Rattle.laws.specs.Fold.{all}
 use Rattle.laws.specs.Tests.{allOf}
 use Rattle.laws.proofs.SetLaws.{within-true, and-in, none-in}

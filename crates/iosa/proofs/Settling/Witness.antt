@@ -1,30 +1,33 @@
 -- Demand 3 is not empty: it holds of the paper's M, and of three components that share actions and reset clocks, where two series in different
 -- order stop; every hypothesis is computed. And two inputs alone that clash are refused.
 use mathlib.Core.Path.{_≡_, refl, sym, _∙_, ap}
-use mathlib.Core.Bool.{Bool, true, false}
-use mathlib.Core.Option.{Option, none, some}
+use mathlib.Core.Bool.{true, false, true≢false}
+use mathlib.Core.Option.{none, some}
 use mathlib.Core.List.{List, [], _∷_}
-use Prim.Native.Nat.{ℕ, _≤_, _<_}
+use Prim.Native.Nat.{ℕ, zero, suc, _≤_}
 use native.Mathlib.Omega.{arith}
 use lib.ListN.{length}
 use Rattle.laws.specs.Fold.{all}
 use Rattle.laws.specs.Tests.{allOf}
-use Rattle.answer.specs.Told.{tell, Answer, answered, refused}
-use Rattle.iosa.specs.Model.{Row, Comp, Model}
+use Rattle.answer.specs.Told.{tell, answered, refused}
+use Rattle.iosa.specs.Model.{Row, Comp}
 use Rattle.iosa.specs.WellFormed.{WellFormed}
-use Rattle.iosa.specs.Automaton.{Stable}
+use Rattle.iosa.specs.Automaton.{Stable, Conforming, Joinable}
 use Rattle.iosa.specs.Product.{product, stateOf, Within, Series}
 use Rattle.iosa.specs.Checks.{acceptOf, confluentOf}
 use Rattle.iosa.specs.Reading.{readOf}
-use Rattle.iosa.specs.Step.{urgentStep, inRange}
+use Rattle.iosa.specs.Step.{urgentStep, isStable}
 use Rattle.iosa.specs.Settle.{Settling, settle, play, settleOf}
-use Rattle.iosa.specs.Demand3.{Demand3, SettledAs, Same, Listed}
-use Rattle.iosa.specs.Examples.{M, bytesOf, reply}
+use Rattle.iosa.specs.Demand3.{Demand3, SettledAs, Same, Unsettled}
+use Rattle.iosa.specs.Examples.{M, loop, bytesOf, reply}
 use Rattle.iosa.proofs.Acceptance.Accepted.{accepted-exactly}
 use Rattle.iosa.proofs.Acceptance.ConfluentExactly.{confluent-accepted}
 use Rattle.iosa.proofs.Settling.Range.{range-exactly}
 use Rattle.iosa.proofs.Settling.WellFormedTest.{wellFormed, wellComp, wellRow, well-formed}
 use Rattle.iosa.proofs.Settling.Demand3.{demand-3}
+use Rattle.iosa.proofs.Settling.Descent.{Run}
+use Rattle.iosa.proofs.Settling.Steps.{stable-exactly}
+use Rattle.iosa.proofs.Settling.SeriesAndRuns.{series-is-a-run}
 use Rattle.iosa.proofs.Settling.Listed.{list-that-is-a-series}
 
 -- a row: from, guard, action, resets, target
@@ -156,3 +159,48 @@ pub orders-that-differ : (play (T₀ ∷ T₁ ∷ clashing ∷ []) 0 (0 ∷ 1 �
     × (play (T₀ ∷ T₁ ∷ clashing ∷ []) 0 (1 ∷ 0 ∷ []) (0 ∷ 0 ∷ 0 ∷ []) ≡ answered (ended 2 3 (1 ∷ 1 ∷ 2 ∷ [])))
 unfolding reply T₀ T₁ clashing
 orders-that-differ = (refl, refl)
+
+-- ---- where no series stops: the paper's loop, "One state, one `uout` loop"
+unfoldable pub looping : Comp
+looping = record { states = 1; start = 0; ins = 0; outs = 0; uins = 0; uouts = 1; clocks = 0; started = 0; rows = row 0 0 0 0 0 ∷ [] }
+
+pub loop-is-read : readOf (bytesOf loop) ≡ answered (looping ∷ [])
+unfolding reply looping
+loop-is-read = refl
+
+looping-well : WellFormed (looping ∷ [])
+unfolding reply looping wellFormed wellComp wellRow all allOf
+looping-well = well-formed (looping ∷ []) refl
+
+looping-confluent : confluentOf (looping ∷ []) ≡ none
+unfolding reply looping
+looping-confluent = refl
+
+only-state : (t : List ℕ) → Within (looping ∷ []) t → t ≡ 0 ∷ []
+unfolding looping
+only-state [] w = absurd w
+only-state (zero ∷ []) w = refl
+only-state (suc n ∷ []) w = absurd (omega (arith, w .0))
+only-state (n ∷ t ∷ ts) w = absurd (w .1)
+
+never-stable : isStable (looping ∷ []) (0 ∷ []) ≡ false
+unfolding reply looping
+never-stable = refl
+
+looping-starts : Within (looping ∷ []) (0 ∷ [])
+unfolding reply looping
+looping-starts = range-exactly (looping ∷ []) (0 ∷ []) .0 refl
+
+pub loop-never-settles : (budget : ℕ) → Unsettled budget (settle (urgentStep (looping ∷ [])) budget (0 ∷ []))
+loop-never-settles budget =
+    demand-3 looping [] looping-well looping-confluent (0 ∷ []) looping-starts .never
+    (λ l R y run st. stops (series-is-a-run looping [] looping-well (accepted .0) (accepted .1) (0 ∷ []) looping-starts refl run) st) budget
+  where
+    accepted : Conforming (looping ∷ []) × Joinable (looping ∷ [])
+    accepted = accepted-exactly (looping ∷ []) looping-well .0 (confluent-accepted (looping ∷ []) looping-confluent)
+
+    stops : {l : List ℕ} {R : ℕ} {y : product looping [] .State} → (t : List ℕ) × Run (urgentStep (looping ∷ [])) (0 ∷ []) l R t × (y ≡ stateOf looping [] t) × Within (looping ∷ []) t
+        → Stable (product looping []) y → ⊥
+    stops p st =
+        let e : stateOf looping [] (p .0) ≡ stateOf looping [] (0 ∷ []) = ap (stateOf looping []) (only-state (p .0) (p .3)) in
+        true≢false (sym (stable-exactly looping [] looping-well (accepted .0) (accepted .1) (0 ∷ []) looping-starts .1 (rw (p .2 ∙ e) at st)) ∙ never-stable)

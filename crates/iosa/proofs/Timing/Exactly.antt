@@ -1,67 +1,40 @@
 -- The timed step of an accepted model answers exactly what paper 01 says of the product and its clocks.
-use mathlib.Core.Path.{_≡_, refl, sym, _∙_, ap, ap₂}
-use mathlib.Core.Logic.{_↔_, _≢_, _⊎_, inl, inr, ⊎-elim}
+use mathlib.Core.Path.{_≡_, refl, sym, _∙_, ap}
+use mathlib.Core.Logic.{_↔_, _≢_, _⊎_, inl, inr}
 use mathlib.Core.Option.{Option, none, some}
-use mathlib.Core.Bool.{Bool, true, false, _&&_, _||_, not, true≢false, false≢true}
+use mathlib.Core.Bool.{true, false, not, true≢false}
 use mathlib.Core.List.{List, [], _∷_}
-use Prim.Native.Nat.{ℕ, zero, suc, _<_}
+use Prim.Native.Nat.{ℕ, zero}
 use native.Mathlib.Omega.{arith}
 use native.Mathlib.Decide.{ℕ-discrete}
-use lib.ListN.{length}
-use lib.Dec.{eqb}
-use lib.IntN.{ℤ, pos, negsuc}
-use lib.Signed.{ltZ, leZ}
-use borrow.Author.Tests.{not-true, not-false, eqb-true, eq-eqb, le-ltb}
-use Rattle.laws.specs.Sets.{has, _∈_, only}
-use Rattle.laws.specs.Search.{when, orElse, least, any}
-use Rattle.laws.proofs.SetLaws.{or-in-r, in-one}
-use Rattle.laws.proofs.SearchLaws.{any-true, any-false, true-any}
-use Rattle.laws.proofs.TestLaws.{and-true, and-false, and-not-both, not-so}
+use lib.IntN.{ℤ, pos}
+use lib.Signed.{ltZ}
+use borrow.Author.Tests.{le-ltb}
+use Rattle.laws.specs.Sets.{has, only}
+use Rattle.laws.specs.Search.{when, orElse, least}
+use Rattle.laws.proofs.SetLaws.{in-one}
+use Rattle.laws.proofs.SearchLaws.{when-fine, when-faulty}
+use Rattle.laws.proofs.TestLaws.{not-so, decided, not-exactly}
 use Rattle.laws.proofs.TickLaws.{less-irreflexive, less-transitive, count-of}
-use Rattle.answer.specs.Limits.{maxClocks, maxTicks}
-use Rattle.answer.specs.Told.{Told, tell, Answer, answered, refused, fired, quiet}
-use Rattle.iosa.specs.Model.{Row, Comp, Model, declared, inputs, outputs, acts}
-use Rattle.iosa.specs.WellFormed.{WellComp, WellFormed}
-use Rattle.iosa.specs.Automaton.{autoOf, alphabet, Conditions, Enabling, Stable, Conforming, Joinable}
+use Rattle.answer.specs.Limits.{maxClocks}
+use Rattle.answer.specs.Told.{Told, tell, Answer, answered, refused, fired}
+use Rattle.iosa.specs.Model.{Comp, Model, declared}
+use Rattle.iosa.specs.WellFormed.{WellFormed}
+use Rattle.iosa.specs.Automaton.{Stable, Conforming, Joinable}
 use Rattle.iosa.specs.Product.{product, stateOf, Within}
 use Rattle.iosa.specs.Checks.{acceptOf}
-use Rattle.iosa.specs.Step.{Gone, isStable, inRange, stateFault}
-use Rattle.iosa.specs.Timed.{floor, valueOf, enablingAll, unstableFault, valuesFault, belowZero, check29, isLeast, shares, check30, clockRowOf, fireAll, agedFrom, Timing, quietly, fire, timedFrom, timedOf}
-use Rattle.iosa.specs.TimedExactly.{Waits, InTicks, LeastOf, BelowZero, Shares, Lowest, Fires, Falls, Ready, TimedAnswer, is21, is27, is28, is29, is30, is-quiet, is-fired}
+use Rattle.iosa.specs.Step.{isStable, inRange, stateFault}
+use Rattle.iosa.specs.Timed.{valueOf, enablingAll, unstableFault, valuesFault, belowZero, check29, isLeast, shares, check30, agedFrom, Timing, quietly, fire, timedFrom, timedOf}
+use Rattle.iosa.specs.TimedExactly.{Waits, InTicks, LeastOf, BelowZero, Shares, Fires, Falls, Ready, TimedAnswer, is21, is27, is28, is29, is30, is-quiet, is-fired}
 use Rattle.iosa.proofs.Acceptance.Accepted.{accepted-exactly}
-use Rattle.iosa.proofs.Settling.Each.{All, Any, each-all, any-map}
-use Rattle.iosa.proofs.Settling.Parts.{parts-row, parts-action, within-length}
-use Rattle.iosa.proofs.Settling.ProductOfMany.{Pairwise, joinable-pairwise, wells, system-closed, system-is-an-automaton}
-use Rattle.iosa.proofs.Settling.Moves.{go-within}
+use Rattle.iosa.proofs.Settling.Parts.{within-length}
+use Rattle.iosa.proofs.Settling.ProductOfMany.{system-is-an-automaton}
 use Rattle.iosa.proofs.Settling.Range.{range-exactly}
 use Rattle.iosa.proofs.Settling.Steps.{stable-exactly, state-is-one-list}
-use Rattle.iosa.proofs.Timing.Enabling.{EnablesIn, enabling-enables, enables-enabling, enables-clock, clock-declared, declared-below, product-enables}
 use Rattle.iosa.proofs.Timing.Values.{aged-falls, falls-once}
-use Rattle.iosa.proofs.Timing.Least.{Clocks, Decides, lowest-found, found-lowest, none-found, found-none, negatives, leasts, sharers, none-least-none-waits, none-waits-none-least, alone-is-less, less-is-alone}
+use Rattle.iosa.proofs.Timing.Least.{Clocks, lowest-found, found-lowest, none-found, found-none, negatives, leasts, sharers, none-least-none-waits, none-waits-none-least, alone-is-less, less-is-alone}
 use Rattle.iosa.proofs.Timing.Ticks.{badValues, values-exactly}
-use Rattle.iosa.proofs.Timing.Shots.{each-well, waits-declared, waiting, FiredBy, fire-is-a-row}
-
--- ---- a refusal whose test decides the opposite of P
-module _ (P : Type 0) (bad : Bool) (d : (bad ≡ false) ↔ P) (t : Told) where
-  fine : P → when bad t ≡ none
-  fine p = rw (d .1 p)
-
-  faulty : (P → ⊥) → when bad t ≡ some t
-  faulty n = go bad refl
-    where
-      go : (b : Bool) → bad ≡ b → when b t ≡ some t
-      go true e = refl
-      go false e = absurd (n (d .0 e))
-
-  either : P ⊎ (P → ⊥)
-  either = go bad refl
-    where
-      go : (b : Bool) → bad ≡ b → P ⊎ (P → ⊥)
-      go true e = inr (λ p. true≢false (sym e ∙ d .1 p))
-      go false e = inl (d .0 e)
-
-not-exactly : {P : Type 0} (b : Bool) → (b ≡ true) ↔ P → (not b ≡ false) ↔ P
-not-exactly b d = (λ e. d .0 (not-false b e), λ p. ap not (d .1 p))
+use Rattle.iosa.proofs.Timing.Shots.{each-well, waiting, fire-is-a-row}
 
 -- ---- where an answer is found
 abbrev RefusedOr : Option Told → Answer Timing → Answer Timing
@@ -115,27 +88,27 @@ module _ (c : Comp) (cs : List Comp) (well : WellFormed (c ∷ cs)) (conf : Conf
 
   state-fine : Within (c ∷ cs) s → stateFault (c ∷ cs) s ≡ none
   unfolding stateFault
-  state-fine ok = fine (Within (c ∷ cs) s) (not (inRange (c ∷ cs) s)) range-decided (tell 21 (0 ∷ [])) ok
+  state-fine ok = when-fine (not (inRange (c ∷ cs) s)) range-decided (tell 21 (0 ∷ [])) ok
 
   state-faulty : (Within (c ∷ cs) s → ⊥) → stateFault (c ∷ cs) s ≡ some (tell 21 (0 ∷ []))
   unfolding stateFault
-  state-faulty n = faulty (Within (c ∷ cs) s) (not (inRange (c ∷ cs) s)) range-decided (tell 21 (0 ∷ [])) n
+  state-faulty n = when-faulty (not (inRange (c ∷ cs) s)) range-decided (tell 21 (0 ∷ [])) n
 
   stable-fine : Within (c ∷ cs) s → Stable (product c cs) (stateOf c cs s) → unstableFault (c ∷ cs) s ≡ none
   unfolding unstableFault
-  stable-fine ok st = fine (Stable (product c cs) (stateOf c cs s)) (not (isStable (c ∷ cs) s)) (stable-decided ok) (tell 27 (0 ∷ [])) st
+  stable-fine ok st = when-fine (not (isStable (c ∷ cs) s)) (stable-decided ok) (tell 27 (0 ∷ [])) st
 
   stable-faulty : Within (c ∷ cs) s → (Stable (product c cs) (stateOf c cs s) → ⊥) → unstableFault (c ∷ cs) s ≡ some (tell 27 (0 ∷ []))
   unfolding unstableFault
-  stable-faulty ok n = faulty (Stable (product c cs) (stateOf c cs s)) (not (isStable (c ∷ cs) s)) (stable-decided ok) (tell 27 (0 ∷ [])) n
+  stable-faulty ok n = when-faulty (not (isStable (c ∷ cs) s)) (stable-decided ok) (tell 27 (0 ∷ [])) n
 
   values-fine : InTicks (c ∷ cs) vs → valuesFault (c ∷ cs) vs ≡ none
   unfolding valuesFault
-  values-fine t = fine (InTicks (c ∷ cs) vs) (badValues (c ∷ cs) vs) values-decided (tell 28 (0 ∷ [])) t
+  values-fine t = when-fine (badValues (c ∷ cs) vs) values-decided (tell 28 (0 ∷ [])) t
 
   values-faulty : (InTicks (c ∷ cs) vs → ⊥) → valuesFault (c ∷ cs) vs ≡ some (tell 28 (0 ∷ []))
   unfolding valuesFault
-  values-faulty n = faulty (InTicks (c ∷ cs) vs) (badValues (c ∷ cs) vs) values-decided (tell 28 (0 ∷ [])) n
+  values-faulty n = when-faulty (badValues (c ∷ cs) vs) values-decided (tell 28 (0 ∷ [])) n
 
   module _ (acc : acceptOf (c ∷ cs) ≡ none) where
     when-ready : Ready c cs s vs → timedOf (c ∷ cs) s vs ≡ timedFrom (c ∷ cs) s vs (enablingAll (c ∷ cs) s)
@@ -185,18 +158,18 @@ module _ (c : Comp) (cs : List Comp) (well : WellFormed (c ∷ cs)) (conf : Conf
         go (some x) h = rw (at29 (c ∷ cs) s vs e x h) (is29 r (lowest-found (BelowZero W vs) (belowZero e vs) maxClocks (negatives W e vs k) x h))
 
     answers-so : TimedAnswer c cs s vs (timedOf (c ∷ cs) s vs)
-    answers-so = go (either (Within (c ∷ cs) s) (not (inRange (c ∷ cs) s)) range-decided (tell 21 (0 ∷ [])))
+    answers-so = go (decided (Within (c ∷ cs) s) (not (inRange (c ∷ cs) s)) range-decided)
       where
         ticks : Within (c ∷ cs) s → Stable (product c cs) (stateOf c cs s) → InTicks (c ∷ cs) vs ⊎ (InTicks (c ∷ cs) vs → ⊥) → TimedAnswer c cs s vs (timedOf (c ∷ cs) s vs)
         ticks ok st (inl t) = let r : Ready c cs s vs = record { within = ok; stable = st; ticks = t } in rw (when-ready r) (from-ready r)
         ticks ok st (inr n) = rw (at28 (c ∷ cs) s vs acc (tell 28 (0 ∷ [])) (state-fine ok) (stable-fine ok st) (values-faulty n)) (is28 ok st n)
 
         stable : Within (c ∷ cs) s → Stable (product c cs) (stateOf c cs s) ⊎ (Stable (product c cs) (stateOf c cs s) → ⊥) → TimedAnswer c cs s vs (timedOf (c ∷ cs) s vs)
-        stable ok (inl st) = ticks ok st (either (InTicks (c ∷ cs) vs) (badValues (c ∷ cs) vs) values-decided (tell 28 (0 ∷ [])))
+        stable ok (inl st) = ticks ok st (decided (InTicks (c ∷ cs) vs) (badValues (c ∷ cs) vs) values-decided)
         stable ok (inr n) = rw (at27 (c ∷ cs) s vs acc (tell 27 (0 ∷ [])) (state-fine ok) (stable-faulty ok n)) (is27 ok n)
 
         go : Within (c ∷ cs) s ⊎ (Within (c ∷ cs) s → ⊥) → TimedAnswer c cs s vs (timedOf (c ∷ cs) s vs)
-        go (inl ok) = stable ok (either (Stable (product c cs) (stateOf c cs s)) (not (isStable (c ∷ cs) s)) (stable-decided ok) (tell 27 (0 ∷ [])))
+        go (inl ok) = stable ok (decided (Stable (product c cs) (stateOf c cs s)) (not (isStable (c ∷ cs) s)) (stable-decided ok))
         go (inr n) = rw (at21 (c ∷ cs) s vs acc (tell 21 (0 ∷ [])) (state-faulty n)) (is21 n)
 
     -- ---- and what 01 says is what is answered
