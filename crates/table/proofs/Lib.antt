@@ -1,3 +1,4 @@
 pub mod RowTests
 pub mod ImageTests
 pub mod OnTableLaws
+pub mod RowFacts
