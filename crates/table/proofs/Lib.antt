@@ -2,3 +2,4 @@ pub mod RowTests
 pub mod ImageTests
 pub mod OnTableLaws
 pub mod RowFacts
+pub mod ImageOfTests
