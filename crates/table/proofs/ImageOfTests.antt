@@ -71,8 +71,8 @@ module _ (t : List ℕ) (p : Parts t) (w : Blocks t) (rs : AllRows t) where
         clocks = fits i 6 h (omega arith);
         started = a .started;
         rows = rows-well t i up (λ s r q b d. row-told t i s r q (rs .comps i h .each r
-        (omega (arith, firsts-climb t i (w .firsts i h) 0 s (omega arith) (omega arith)))
-        (omega (arith, firsts-climb t i (w .firsts i h) (suc s) (blockWord t i 0) q (omega arith)))));
+            (omega (arith, firsts-climb t i (w .firsts i h) 0 s (omega arith) (omega arith)))
+            (omega (arith, firsts-climb t i (w .firsts i h) (suc s) (blockWord t i 0) q (omega arith)))));
         ascend = rows-in-order t i up (rs .comps i h .climb);
       }
 

@@ -3,3 +3,5 @@ pub mod ImageTests
 pub mod OnTableLaws
 pub mod RowFacts
 pub mod ImageOfTests
+pub mod TestsOfImage
+pub mod ImageExactly
