@@ -5,3 +5,4 @@ pub mod RowFacts
 pub mod ImageOfTests
 pub mod TestsOfImage
 pub mod ImageExactly
+pub mod CheckedLaws
