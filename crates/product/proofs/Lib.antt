@@ -1,3 +1,4 @@
 pub mod WalkLaws
 pub mod Runs
 pub mod TurnsOfPair
+pub mod PairStep
