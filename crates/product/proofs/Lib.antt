@@ -2,3 +2,4 @@ pub mod WalkLaws
 pub mod Runs
 pub mod TurnsOfPair
 pub mod PairStep
+pub mod ByNumber
