@@ -4,6 +4,8 @@ pub mod Fields
 pub mod Lines
 pub mod Members
 pub mod Tests
+pub mod LowestFault
+pub mod LinesFrom
 pub mod Faults
 pub mod Kinds
 pub mod GrowActs

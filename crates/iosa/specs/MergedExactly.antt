@@ -1,9 +1,9 @@
 -- What it is for a merged component to be the product of two (01, "Composition").
 use mathlib.Core.Path.{_≡_}
 use mathlib.Core.Logic.{_↔_}
-use mathlib.Core.List.{List, [], _∷_}
+use mathlib.Core.List.{List, [], _∷_, _++_}
 use Prim.Native.Nat.{ℕ, suc, _*_, _≤_, _<_}
-use lib.ListN.{length}
+use lib.ListN.{length, getD, take, drop}
 use Rattle.answer.specs.Limits.{maxStates, maxRows, maxBytes}
 use Rattle.answer.specs.Told.{tell, Answer, answered, refused}
 use Rattle.iosa.specs.Model.{Comp, Model, compAt, inputs, outputs, urgents, rowCount}
@@ -62,3 +62,7 @@ pub data MergeAnswer (m : Model) (i : ℕ) : Answer Model → Type 0 where
   is25 : (suc i < length m → ⊥) → MergeAnswer m i (refused (tell 25 (0 ∷ [])))
   is26 : suc i < length m → (FitsIn m i → ⊥) → MergeAnswer m i (refused (tell 26 (0 ∷ [])))
   is-merged : suc i < length m → FitsIn m i → MergeAnswer m i (answered (mergedAt m i))
+
+-- a composed state of m as one of the merged model: the two numbers at i and i+1 as the number of their pair
+abbrev pub pairedAt : Model → ℕ → List ℕ → List ℕ
+pairedAt m i s = take i s ++ pairOf (compAt m (suc i)) (getD s i 0) (getD s (suc i) 0) ∷ drop (suc (suc i)) s

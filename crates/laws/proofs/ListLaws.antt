@@ -1,12 +1,11 @@
 -- Laws of lists: their members, lists in which every earlier member stands in a relation to every later one, and lists put together.
 use mathlib.Core.Path.{_≡_, refl, sym, _∙_, ap}
 use mathlib.Core.Logic.{_⊎_, inl, inr, ⊎-elim}
-use mathlib.Core.Bool.{Bool, true, false}
 use mathlib.Core.List.{List, [], _∷_, _++_, map, reverseAux, List·Memᴰ as In, List·Memᴰ·head as here, List·Memᴰ·tail as there, List·Memᴰ·not-nil as in-none, List·Memᴰ·append-cases as append-cases, Memᴰ·append-left as in-left, Memᴰ·append-right as in-right}
 use Prim.Native.Nat.{ℕ, zero, suc, _+_, _-_, _≤_, _<_}
 use native.Mathlib.Omega.{arith}
 use native.Mathlib.Decide.{ℕ-discrete}
-use lib.ListN.{length, getD, take, drop, length-append, length-take, length-drop, List·getD-append}
+use lib.ListN.{length, getD, take, drop, length-append, length-drop, List·getD-append}
 use lib.Seq.{getD-at, getD-append-add, getD-take, getD-drop, length-take-le}
 use Rattle.laws.specs.Fold.{spread}
 
@@ -121,6 +120,17 @@ module _ {A : Type 0} (d x : A) (l : List A) (i : ℕ) (h : suc i < length l) wh
       let e : j ≡ length (take i l) + suc (j - suc i) = omega (arith, front) in
       let f : suc (suc i) + (j - suc i) ≡ suc j = omega arith in
       ap (λ n. getD joinedAt n d) e ∙ getD-append-add (take i l) (x ∷ drop (suc (suc i)) l) (suc (j - suc i)) d ∙ getD-drop (suc (suc i)) l (j - suc i) d ∙ ap (λ n. getD l n d) f
+
+  -- a count over the list, of f for each element
+  pub joined-count : (f : A → ℕ) (count : List A → ℕ) → ((x : A) (xs : List A) → count (x ∷ xs) ≡ f x + count xs)
+      → count joinedAt + (f (getD l i d) + f (getD l (suc i) d)) ≡ count l + f x
+  joined-count f count step = go i l h
+    where
+      go : (i : ℕ) (l : List A) → suc i < length l → count (take i l ++ x ∷ drop (suc (suc i)) l) + (f (getD l i d) + f (getD l (suc i) d)) ≡ count l + f x
+      go i [] h = absurd (omega arith)
+      go i (y ∷ []) h = absurd (omega arith)
+      go zero (y ∷ z ∷ l) h = omega (arith, step x l, step y (z ∷ l), step z l)
+      go (suc i) (y ∷ z ∷ l) h = omega (arith, step y (take i (z ∷ l) ++ x ∷ drop (suc (suc i)) (z ∷ l)), step y (z ∷ l), go i (z ∷ l) (omega arith))
 
 -- ---- what holds of every member
 abbrev pub All : {A : Type 0} → (A → Type 0) → List A → Type 0

@@ -1,5 +1,7 @@
 pub mod StepsByOffers
 pub mod Along
+pub mod RangeAlong
+pub mod KeepsRange
 pub mod Ready
 pub mod OneRow
-pub mod Offered
+pub mod LowestOffer

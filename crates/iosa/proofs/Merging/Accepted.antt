@@ -1,25 +1,24 @@
 -- A model that merging answers is accepted again: none of 10 to 17.
-use mathlib.Core.Path.{_≡_, refl, sym, _∙_, ap, ap₂}
-use mathlib.Core.Option.{Option, none, some}
-use mathlib.Core.List.{List, [], _∷_}
-use Prim.Native.Nat.{ℕ, zero, suc, _<_}
+use mathlib.Core.Path.{_≡_, ap₂}
+use mathlib.Core.Option.{Option, none}
+use Prim.Native.Nat.{ℕ, suc, _<_}
 use native.Mathlib.Omega.{arith}
 use lib.ListN.{length}
-use Rattle.laws.specs.Sets.{_∪_, _∈_}
+use Rattle.laws.specs.Sets.{_∪_}
 use Rattle.laws.proofs.TestLaws.{apart-cases}
-use Rattle.answer.specs.Told.{Told, Answer, answered}
-use Rattle.iosa.specs.Model.{Comp, Model, compAt}
-use Rattle.iosa.specs.WellFormed.{WellComp, WellFormed}
-use Rattle.iosa.specs.Automaton.{Automaton, alphabet, autoOf, Conditions, Compatible, Conforming, Joinable}
+use Rattle.answer.specs.Told.{Told, answered}
+use Rattle.iosa.specs.Model.{Model, compAt}
+use Rattle.iosa.specs.WellFormed.{WellFormed}
+use Rattle.iosa.specs.Automaton.{Automaton, autoOf, Conditions, Compatible, Conforming, Joinable}
 use Rattle.iosa.specs.Product.{_⊗_}
 use Rattle.iosa.specs.Checks.{acceptOf}
 use Rattle.iosa.specs.Merge.{merged, mergeOf}
-use Rattle.iosa.specs.MergedExactly.{MergedExactly, MergedModel}
+use Rattle.iosa.specs.MergedExactly.{MergedModel}
 use Rattle.iosa.proofs.Acceptance.Accepted.{accepted-exactly}
 use Rattle.iosa.proofs.Settling.ProductConditions.{compatible-sym}
 use Rattle.iosa.proofs.Settling.ProductOfMany.{compatible-goes-on}
 use Rattle.iosa.proofs.Merging.Conforms.{merged-conforms}
-use Rattle.iosa.proofs.Merging.Models.{merge-accepted, merging-is-exact}
+use Rattle.iosa.proofs.Merging.Models.{merge-answered, merging-is-exact}
 
 -- compatibility is a matter of labels
 relabelled : (A B D : Automaton) → A .inputs ≡ B .inputs → A .outputs ≡ B .outputs → A .urgent ≡ B .urgent → A .clocks ≡ B .clocks → Compatible B D → Compatible A D
@@ -75,6 +74,6 @@ module _ (m : Model) (i : ℕ) (n : Model) (w : WellFormed m) (o : Conforming m)
 -- merging an accepted model gives one that is accepted
 pub merging-keeps-acceptance : (m : Model) (i : ℕ) (room : Option Told) (n : Model) → WellFormed m → mergeOf m i room ≡ answered n → acceptOf n ≡ none
 merging-keeps-acceptance m i room n w e =
+    let a = merge-answered m i room n w e in
     let r = merging-is-exact m i room n w e in
-    let a = accepted-exactly m w .0 (merge-accepted m i room n e .0) in
-    accepted-exactly n (r .well-formed) .1 (merged-model-conforms m i n w (a .0) (a .1) r)
+    accepted-exactly n (r .well-formed) .1 (merged-model-conforms m i n w (a .conforming) (a .joinable) r)

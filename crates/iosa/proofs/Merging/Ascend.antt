@@ -1,20 +1,20 @@
 -- The rows of the merged component "ascend strictly by from, action, guard, resets, target".
-use mathlib.Core.Path.{_≡_, refl, sym, _∙_, ap, ap₂}
+use mathlib.Core.Path.{_≡_, refl, sym, _∙_, ap}
 use mathlib.Core.Logic.{_⊎_, inl, inr, ⊎-elim}
 use mathlib.Core.Bool.{Bool, true, false, cond, true≢false, false≢true}
-use mathlib.Core.List.{List, [], _∷_, _++_, map, List·Memᴰ as In, List·Memᴰ·head as here, List·Memᴰ·tail as there}
-use Prim.Native.Nat.{ℕ, zero, suc, _+_, _*_, _≤_, _<_}
+use mathlib.Core.List.{List, [], _∷_, map, List·Memᴰ as In, List·Memᴰ·head as here, List·Memᴰ·tail as there}
+use Prim.Native.Nat.{ℕ, suc, _+_, _≤_, _<_}
 use native.Mathlib.Omega.{arith}
 use native.Mathlib.Nat.{mul-le-mul-right}
 use lib.Dec.{eqb, ltb}
 use borrow.Author.Tests.{eqb-true, eq-eqb, ne-eqb, ltb-true, lt-ltb}
-use Rattle.laws.specs.Sets.{has, _∪_, _∈_}
+use Rattle.laws.specs.Sets.{has, _∈_}
 use Rattle.laws.specs.Fold.{spread}
 use Rattle.laws.proofs.SetLaws.{in-or, or-in-l, or-in-r, in-one}
 use Rattle.laws.proofs.ListLaws.{map-in, spread-in, Pairwise, pairwise-append, pairwise-spread, pairwise-from, pairwise-map}
 use Rattle.laws.proofs.PairLaws.{pair-lt}
 use Rattle.answer.specs.Limits.{maxActions}
-use Rattle.iosa.specs.Model.{Row, Comp, noRow, rowAt, guardSet, inputs, outputs, urgents, acts}
+use Rattle.iosa.specs.Model.{Row, Comp, noRow, guardSet, inputs, outputs, urgents, acts}
 use Rattle.iosa.specs.WellFormed.{lower, before, WellComp}
 use Rattle.iosa.specs.Automaton.{Leads, autoOf, Conditions, Compatible}
 use Rattle.iosa.specs.Checks.{leaves, unclocked}
@@ -176,27 +176,21 @@ module _ (d : Comp) (s t : ℕ) where
       (λ x y m n. let u = map-in (bothMove d s t r) qs m in let v = each-with-in d s t rs qs n in
       rw (u .2, v .4) (g r (v .0) (u .0) (v .1) (here refl) (there (v .2)) (u .1) (v .3) (p .0 (v .0) (v .2))))
 
-  first-ascends : 1 ≤ d .states → (rs : List Row) (a : ℕ) → Ascending (rowsBy rs s a) → Ascending (map (firstMoves d s t) (rowsBy rs s a))
-  first-ascends some rs a p = pairwise-map Before Before (firstMoves d s t) (rowsBy rs s a) p go
-    where
-      go : (r q : Row) → In r (rowsBy rs s a) → In q (rowsBy rs s a) → Before r q → Before (firstMoves d s t r) (firstMoves d s t q)
-      go r q m n b =
-          let e = rows-by-in rs s a m in
-          let f = rows-by-in rs s a n in
-          by-tail (firstMoves d s t r) (firstMoves d s t q) refl (e .2 ∙ sym (f .2))
-          (retarget (r .guard) (q .guard) (r .resets) (q .resets) (r .target) (q .target) (pairOf d (r .target) t) (pairOf d (q .target) t)
-          (λ h. omega (arith, mul-le-mul-right (d .states) h, h)) (tail-of r q (e .1 ∙ sym (f .1)) (e .2 ∙ sym (f .2)) b))
+-- R1 and R2: from x, with other targets in the same order
+moved : ℕ → (ℕ → ℕ) → Row → Row
+moved x f r = record { from = x; guard = r .guard; action = r .action; resets = r .resets; target = f (r .target) }
 
-  second-ascends : (rs : List Row) (a : ℕ) → Ascending (rowsBy rs t a) → Ascending (map (secondMoves d s t) (rowsBy rs t a))
-  second-ascends rs a p = pairwise-map Before Before (secondMoves d s t) (rowsBy rs t a) p go
-    where
-      go : (r q : Row) → In r (rowsBy rs t a) → In q (rowsBy rs t a) → Before r q → Before (secondMoves d s t r) (secondMoves d s t q)
-      go r q m n b =
-          let e = rows-by-in rs t a m in
-          let f = rows-by-in rs t a n in
-          by-tail (secondMoves d s t r) (secondMoves d s t q) refl (e .2 ∙ sym (f .2))
-          (retarget (r .guard) (q .guard) (r .resets) (q .resets) (r .target) (q .target) (pairOf d s (r .target)) (pairOf d s (q .target))
-          (λ h. omega arith) (tail-of r q (e .1 ∙ sym (f .1)) (e .2 ∙ sym (f .2)) b))
+moved-ascend : (x : ℕ) (f : ℕ → ℕ) → ((u v : ℕ) → u < v → f u < f v) → (rs : List Row) (s a : ℕ) → Ascending rs → Ascending (map (moved x f) (rowsBy rs s a))
+unfolding moved
+moved-ascend x f mono rs s a p = pairwise-map Before Before (moved x f) (rowsBy rs s a) (rows-by-ascend rs s a p) go
+  where
+    go : (r q : Row) → In r (rowsBy rs s a) → In q (rowsBy rs s a) → Before r q → Before (moved x f r) (moved x f q)
+    go r q m n b =
+        let e = rows-by-in rs s a m in
+        let g = rows-by-in rs s a n in
+        by-tail (moved x f r) (moved x f q) refl (e .2 ∙ sym (g .2))
+        (retarget (r .guard) (q .guard) (r .resets) (q .resets) (r .target) (q .target) (f (r .target)) (f (q .target)) (mono (r .target) (q .target))
+        (tail-of r q (e .1 ∙ sym (g .1)) (e .2 ∙ sym (g .2)) b))
 
 clock-stands : (g h x : ℕ) → g ≡ suc x → joinGuards g h ≡ suc x
 clock-stands g h x e = rw e
@@ -231,14 +225,14 @@ module _ (c d : Comp) (wc : WellComp c) (wd : WellComp d) (oc : Conditions (auto
           by-guard (bothMove d s t r q) (bothMove d s t r′ q′) refl (rows-by-in (c .rows) s a m .2 ∙ sym (rows-by-in (c .rows) s a m′ .2)) (omega (arith, e, f, z .less))
 
   pair-rows-ascend : (s t a : ℕ) → Ascending (pairRows c d s t a)
-  unfolding pairRows
+  unfolding pairRows moved
   pair-rows-ascend s t a = go (has (acts c) a) (has (acts d) a) refl refl
     where
       go : (b e : Bool) → has (acts c) a ≡ b → has (acts d) a ≡ e
           → Ascending (cond b (cond e (eachWith d s t (rowsBy (c .rows) s a) (rowsBy (d .rows) t a)) (map (firstMoves d s t) (rowsBy (c .rows) s a))) (cond e (map (secondMoves d s t) (rowsBy (d .rows) t a)) []))
       go true true h k = both-ascend s t a h k
-      go true false h k = first-ascends d s t (wd .some) (c .rows) a (rows-by-ascend (c .rows) s a (rows-ascending c wc))
-      go false true h k = second-ascends d s t (d .rows) a (rows-by-ascend (d .rows) t a (rows-ascending d wd))
+      go true false h k = moved-ascend (pairOf d s t) (λ u. pairOf d u t) (λ u v n. omega (arith, mul-le-mul-right (d .states) n, wd .some)) (c .rows) s a (rows-ascending c wc)
+      go false true h k = moved-ascend (pairOf d s t) (λ u. pairOf d s u) (λ u v n. omega arith) (d .rows) t a (rows-ascending d wd)
       go false false h k = tt
 
   -- ---- all rows

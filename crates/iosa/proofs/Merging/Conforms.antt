@@ -1,16 +1,14 @@
 -- Proposition 4.1 for merging: the merged component meets the conditions (a) to (f) again.
 use mathlib.Core.Path.{_≡_, refl, sym, _∙_, ap, ap₂}
-use Prim.Native.Nat.{ℕ, zero, suc, _+_, _*_, _/_, _%_, _≤_, _<_}
-use native.Mathlib.Omega.{arith}
+use Prim.Native.Nat.{ℕ, _*_, _/_, _%_, _<_}
 use native.Mathlib.Nat.{mod-lt, div-add-mod', div-lt-iff-lt-mul}
-use Rattle.laws.specs.Sets.{_∪_, _∖_, _∈_, _⊆_}
+use Rattle.laws.specs.Sets.{_∪_}
 use Rattle.laws.proofs.PairLaws.{pair-parts}
-use Rattle.iosa.specs.Model.{Comp, inputs, outputs, urgents}
+use Rattle.iosa.specs.Model.{Comp, inputs, urgents}
 use Rattle.iosa.specs.WellFormed.{WellComp}
-use Rattle.iosa.specs.Automaton.{Automaton, Leads, autoOf, UrgentRow, Stable, Enabling, Active, Conditions, Compatible}
+use Rattle.iosa.specs.Automaton.{Automaton, Leads, autoOf, Stable, Enabling, Active, Conditions, Compatible}
 use Rattle.iosa.specs.Product.{_⊗_}
 use Rattle.iosa.specs.Merge.{pairOf, merged}
-use Rattle.iosa.specs.MergedExactly.{PairRow}
 use Rattle.iosa.proofs.Settling.Closed.{component-closed}
 use Rattle.iosa.proofs.Settling.ProductConditions.{product-is-an-automaton}
 use Rattle.iosa.proofs.Merging.Labels.{merged-inputs, merged-outputs, merged-urgent}

@@ -1,6 +1,6 @@
 -- The merged component's start, actions, urgency and clocks are the product's.
-use mathlib.Core.Path.{_≡_, refl, sym, _∙_, ap, ap₂}
-use mathlib.Core.Logic.{_⊎_, inl, inr, ⊎-elim}
+use mathlib.Core.Path.{_≡_, _∙_, ap₂}
+use mathlib.Core.Logic.{⊎-elim}
 use Prim.Native.Nat.{ℕ}
 use Rattle.laws.specs.Sets.{_∪_, _∖_, _∈_, Apart}
 use Rattle.laws.proofs.SetLaws.{in-or, or-in-l, or-in-r, or-regroup, without-or, without-regroup}

@@ -1,10 +1,10 @@
 -- What merging answers: the model with two neighbours replaced by their product, and nothing else changed.
-use mathlib.Core.Path.{_≡_, refl, sym, _∙_, ap, ap₂}
+use mathlib.Core.Path.{_≡_, refl, ap, ap₂}
 use mathlib.Core.Logic.{_↔_, _⊎_, inl, inr}
 use mathlib.Core.Option.{Option, none, some}
-use mathlib.Core.Bool.{Bool, true, false, _||_, not, true≢false, false≢true}
-use mathlib.Core.List.{List, [], _∷_}
-use Prim.Native.Nat.{ℕ, zero, suc, _*_, _≤_, _<_}
+use mathlib.Core.Bool.{Bool, false, _||_, not}
+use mathlib.Core.List.{[], _∷_}
+use Prim.Native.Nat.{ℕ, suc, _*_, _<_}
 use native.Mathlib.Omega.{arith}
 use lib.ListN.{length}
 use lib.Dec.{ltb}
@@ -15,13 +15,13 @@ use Rattle.laws.proofs.TestLaws.{apart-cases, or-false, decided, not-exactly}
 use Rattle.laws.proofs.ListLaws.{joined-length, joined-before, joined-here, joined-after}
 use Rattle.answer.specs.Limits.{maxStates, maxRows, maxBytes}
 use Rattle.answer.specs.Told.{Told, Answer, answered, refused, tell}
-use Rattle.iosa.specs.Model.{Comp, Model, noComp, compAt, rowCount}
+use Rattle.iosa.specs.Model.{Model, noComp, compAt, rowCount}
 use Rattle.iosa.specs.WellFormed.{WellComp, WellFormed}
 use Rattle.iosa.specs.Text.{textOf}
-use Rattle.iosa.specs.Automaton.{autoOf, Conforming, Joinable}
+use Rattle.iosa.specs.Automaton.{Conforming, Joinable}
 use Rattle.iosa.specs.Checks.{acceptOf}
 use Rattle.iosa.specs.Merge.{merged, mergedAt, neighbourFault, sizeFault, mergeOf}
-use Rattle.iosa.specs.MergedExactly.{MergedExactly, MergedModel, FitsIn, MergeAnswer, is25, is26, is-merged}
+use Rattle.iosa.specs.MergedExactly.{MergedModel, FitsIn, MergeAnswer, is25, is26, is-merged}
 use Rattle.iosa.proofs.Acceptance.Accepted.{accepted-exactly}
 use Rattle.iosa.proofs.Merging.Product.{merged-is-the-product}
 use Rattle.iosa.proofs.Merging.WellFormed.{merged-is-well-formed}
@@ -144,7 +144,7 @@ module _ (m : Model) (i : ℕ) (w : WellFormed m) (o : Conforming m) (j : Joinab
   }
 
 -- an answer stands behind no refusal of 10 to 17, and none of 24
-pub merge-accepted : (m : Model) (i : ℕ) (room : Option Told) (n : Model) → mergeOf m i room ≡ answered n → (acceptOf m ≡ none) × (room ≡ none)
+merge-accepted : (m : Model) (i : ℕ) (room : Option Told) (n : Model) → mergeOf m i room ≡ answered n → (acceptOf m ≡ none) × (room ≡ none)
 unfolding mergeOf
 merge-accepted m i room n e = go (acceptOf m) room e
   where
@@ -153,11 +153,26 @@ merge-accepted m i room n e = go (acceptOf m) room e
     go none (some t) e = absurd (let z : _≡_ {A = ℕ} 0 1 = cc in omega arith)
     go (some t) r e = absurd (let z : _≡_ {A = ℕ} 0 1 = cc in omega arith)
 
--- what merging answers is a model again, with the product in the place of the two
+-- what is answered, and why
+pub record Answered (m : Model) (i : ℕ) (n : Model) : Type 0 where
+  pub conforming : Conforming m
+  pub joinable : Joinable m
+  pub neighbour : suc i < length m
+  pub fits : FitsIn m i
+  pub model : mergedAt m i ≡ n
+
+pub merge-answered : (m : Model) (i : ℕ) (room : Option Told) (n : Model) → WellFormed m → mergeOf m i room ≡ answered n → Answered m i n
+merge-answered m i room n w e =
+    let p = merge-accepted m i room n e in
+    go (accepted-exactly m w .0 (p .0)) (merge-exactly m i (p .0) (answered n) .0 (rw (p .1) at e)) refl
+  where
+    go : Conforming m × Joinable m → {t : Answer Model} → MergeAnswer m i t → t ≡ answered n → Answered m i n
+    go a (is25 h) z = absurd (let y : _≡_ {A = ℕ} 0 1 = cc in omega arith)
+    go a (is26 h f) z = absurd (let y : _≡_ {A = ℕ} 0 1 = cc in omega arith)
+    go a (is-merged h f) z = record { conforming = a .0; joinable = a .1; neighbour = h; fits = f; model = cc }
+
+-- a model again, with the product in the place of the two
 pub merging-is-exact : (m : Model) (i : ℕ) (room : Option Told) (n : Model) → WellFormed m → mergeOf m i room ≡ answered n → MergedModel m i n
 merging-is-exact m i room n w e =
-    let p = merge-accepted m i room n e in
-    go (merge-exactly m i (p .0) (answered n) .0 (rw (p .1) at e)) (accepted-exactly m w .0 (p .0))
-  where
-    go : {n : Model} → MergeAnswer m i (answered n) → Conforming m × Joinable m → MergedModel m i n
-    go (is-merged h f) a = merged-model-is-exact m i w (a .0) (a .1) h f
+    let a = merge-answered m i room n w e in
+    rw (a .model) at (merged-model-is-exact m i w (a .conforming) (a .joinable) (a .neighbour) (a .fits))

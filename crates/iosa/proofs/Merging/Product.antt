@@ -1,15 +1,14 @@
 -- Merging two components gives their product.
-use mathlib.Core.Path.{_≡_, refl, sym, _∙_, ap, ap₂}
+use mathlib.Core.Path.{_≡_, refl, _∙_, ap}
 use mathlib.Core.Logic.{_↔_}
-use mathlib.Core.List.{List, [], _∷_, List·Memᴰ as In}
-use Prim.Native.Nat.{ℕ, zero, suc, _<_}
+use mathlib.Core.List.{List, List·Memᴰ as In}
+use Prim.Native.Nat.{ℕ, _<_}
 use native.Mathlib.Omega.{arith}
-use Rattle.laws.specs.Sets.{_∈_}
 use Rattle.laws.specs.Fold.{spread}
 use Rattle.laws.proofs.ListLaws.{in-at, at-in, in-spread, spread-in}
 use Rattle.laws.proofs.PairLaws.{pair-parts}
 use Rattle.answer.specs.Limits.{maxActions}
-use Rattle.iosa.specs.Model.{Row, Comp, noRow, rowAt, guardSet, acts}
+use Rattle.iosa.specs.Model.{Row, Comp, noRow, guardSet}
 use Rattle.iosa.specs.WellFormed.{WellComp}
 use Rattle.iosa.specs.Automaton.{Leads, autoOf, Conditions, Compatible}
 use Rattle.iosa.specs.Product.{Joint, R1, R2, R3}
@@ -17,7 +16,7 @@ use Rattle.iosa.specs.Merge.{pairOf, pairRows, productRows, merged}
 use Rattle.iosa.specs.MergedExactly.{PairRow, MergedExactly}
 use Rattle.iosa.proofs.Acceptance.Rows.{act-below, from-below, target-below}
 use Rattle.iosa.proofs.Merging.Labels.{merged-inputs, merged-outputs, merged-urgent}
-use Rattle.iosa.proofs.Merging.Rows.{PairStep, PairIn, pair-rows-in, in-pair-rows}
+use Rattle.iosa.proofs.Merging.Rows.{pair-rows-in, in-pair-rows}
 
 -- ---- the list of all rows
 -- x stands among the rows of pair (s, t) and action a

@@ -1,22 +1,20 @@
 -- The merged component is one that a text can state, within its limit of states.
-use mathlib.Core.Path.{_≡_, refl, sym, _∙_, ap, ap₂}
+use mathlib.Core.Path.{sym, _∙_, ap₂}
 use mathlib.Core.Bool.{true≢false}
-use mathlib.Core.List.{List, [], _∷_, List·Memᴰ as In}
-use Prim.Native.Nat.{ℕ, zero, suc, _*_, _≤_, _<_}
+use mathlib.Core.List.{List·Memᴰ as In}
+use Prim.Native.Nat.{ℕ, _*_, _≤_}
 use native.Mathlib.Omega.{arith}
 use native.Mathlib.Nat.{mul-le-mul-right}
 use lib.Bits.{or-lt}
-use Rattle.laws.specs.Sets.{_∪_, _∖_, _∈_, _⊆_, Apart}
-use Rattle.laws.proofs.SetLaws.{in-or, or-in-l, or-in-r, in-without, without-lt}
+use Rattle.laws.specs.Sets.{_∪_, _∖_, _∈_, Apart}
+use Rattle.laws.proofs.SetLaws.{or-in-l, or-in-r, in-without, without-lt}
 use Rattle.laws.proofs.ListLaws.{in-at, pairwise-next}
 use Rattle.laws.proofs.PairLaws.{pair-below}
 use Rattle.answer.specs.Limits.{maxStates, maxActions, maxClocks}
-use Rattle.iosa.specs.Model.{Row, Comp, noRow, rowAt, guardSet, inputs, outputs, acts, urgents}
+use Rattle.iosa.specs.Model.{Row, Comp, noRow}
 use Rattle.iosa.specs.WellFormed.{WellRow, WellComp}
-use Rattle.iosa.specs.Automaton.{autoOf, alphabet, Conditions, Compatible}
-use Rattle.iosa.specs.Product.{_⊗_}
-use Rattle.iosa.specs.Merge.{pairOf, productRows, merged}
-use Rattle.iosa.specs.MergedExactly.{PairRow}
+use Rattle.iosa.specs.Automaton.{autoOf, Conditions, Compatible}
+use Rattle.iosa.specs.Merge.{productRows, merged}
 use Rattle.iosa.proofs.Settling.Closed.{component-closed, product-closed, or-within}
 use Rattle.iosa.proofs.Merging.Labels.{kinds-apart, merged-inputs, merged-outputs}
 use Rattle.iosa.proofs.Merging.Product.{row-is-a-pair}

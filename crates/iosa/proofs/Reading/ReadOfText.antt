@@ -89,7 +89,7 @@ comp-read {t} {k} {p} c bs w l n r =
     let a = acts-read c (p .comps) (comp-entry (c .states) (c .start)) clks w tt (move none-yet refl start) in
     let x = clks-read c (p .comps) (a .0) (rowLines (c .rows) ++ bs) w (act-clk-last (a .0) (a .1)) (move (acts-all c w) refl (a .2)) in
     let each = at-all (WellRow c) noRow (c .rows) (w .rows) in
-    rows-read c (p .comps) w [] (c .rows) (x .0) bs each (rows-follow c w maxClocks (x .0) (x .1) (c .rows) each (w .ascend)) (omega arith) (move (clks-all c w) refl (x .2))
+    rows-read c (p .comps) w [] (c .rows) (x .0) bs each (rows-follow c w maxClocks (x .0) (x .1) (c .rows) each (w .ascend)) (omega arith) (move {d = x .0} (clks-all c w) refl (x .2))
 
 -- ---- the whole text
 comps-read : {t : List ℕ} {k : ℕ} (p : Progress) (cs : List Comp) → All WellComp cs → length (p .comps) + length cs ≤ maxComponents → rowCount (p .comps) + rowCount cs ≤ maxRows
@@ -118,5 +118,5 @@ pub read-exactly : (t : List ℕ) (m : Model) → (readOf t ≡ answered m) ↔ 
 read-exactly t m = (text-of-read t m, λ h. ap readOf (sym (h .1)) ∙ read-of-text m (h .0))
 
 -- "So one model has one text", and one text has one model
-pub one-model : (m n : Model) → WellFormed m → WellFormed n → textOf m ≡ textOf n → m ≡ n
-one-model m n v w e = let q : _≡_ {A = Answer Model} (answered m) (answered n) = sym (read-of-text m v) ∙ ap readOf e ∙ read-of-text n w in cc
+pub one-text-one-model : (m n : Model) → WellFormed m → WellFormed n → textOf m ≡ textOf n → m ≡ n
+one-text-one-model m n v w e = let q : _≡_ {A = Answer Model} (answered m) (answered n) = sym (read-of-text m v) ∙ ap readOf e ∙ read-of-text n w in cc

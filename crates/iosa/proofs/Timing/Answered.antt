@@ -1,28 +1,28 @@
 -- What follows where the timed step answers: quiet exactly when no clock waits, a row of the product else, and values that the next call takes.
 use mathlib.Core.Path.{_≡_, refl, sym, _∙_, ap}
-use mathlib.Core.Logic.{_↔_, _≢_}
+use mathlib.Core.Logic.{_↔_}
 use mathlib.Core.Option.{Option, none, some}
-use mathlib.Core.Bool.{true, false, true≢false}
-use mathlib.Core.List.{List, [], _∷_}
+use mathlib.Core.Bool.{false, true≢false}
+use mathlib.Core.List.{List, _∷_}
 use Prim.Native.Nat.{ℕ, _<_}
 use native.Mathlib.Omega.{arith}
 use native.Mathlib.Decide.{ℕ-discrete}
-use lib.ListN.{length}
 use lib.IntN.{ℤ, pos}
 use lib.Signed.{ltZ}
 use Rattle.laws.specs.Sets.{has, _∈_, only}
+use Rattle.laws.proofs.SetLaws.{same-members, none-in}
 use Rattle.laws.proofs.TestLaws.{not-so}
 use Rattle.laws.proofs.TickLaws.{less-irreflexive, less-transitive}
 use Rattle.answer.specs.Limits.{maxClocks}
 use Rattle.laws.specs.Search.{orElse}
-use Rattle.answer.specs.Told.{Told, Answer, answered, refused, Shot, fired, quiet}
+use Rattle.answer.specs.Told.{Told, Answer, answered, refused, fired, quiet}
 use Rattle.iosa.specs.Model.{Comp, Model, declared}
 use Rattle.iosa.specs.WellFormed.{WellFormed}
-use Rattle.iosa.specs.Product.{Within}
+use Rattle.iosa.specs.Product.{product, stateOf, Within}
 use Rattle.iosa.specs.Checks.{acceptOf}
 use Rattle.iosa.specs.Timed.{valueOf, enablingAll, unstableFault, valuesFault, Timing, quietly, timedFrom, timedOf}
 use Rattle.iosa.specs.Step.{stateFault}
-use Rattle.iosa.specs.TimedExactly.{Waits, InTicks, Fires, Falls, Ready, TimedAnswer, is21, is27, is28, is29, is30, is-quiet, is-fired}
+use Rattle.iosa.specs.TimedExactly.{Waits, InTicks, Fires, TimedAnswer, is-quiet, is-fired}
 use Rattle.iosa.proofs.Acceptance.Accepted.{accepted-exactly}
 use Rattle.iosa.proofs.Timing.Enabling.{declared-below}
 use Rattle.iosa.proofs.Timing.Values.{falls-in-ticks, falls-not-below}
@@ -84,6 +84,13 @@ module _ (c : Comp) (cs : List Comp) (well : WellFormed (c ∷ cs)) (s : List �
   -- "With no enabling clock the answer is quiet", and only then
   pub quiet-exactly : (τ .shot ≡ quiet) ↔ ((x : ℕ) → Waits c cs s x → ⊥)
   quiet-exactly = quiet-so c cs s vs answered-so
+
+  -- quiet exactly when no guarded row leaves the product's state
+  pub quiet-exactly-unguarded : (τ .shot ≡ quiet) ↔ ((C a R : ℕ) (y : product c cs .State) → product c cs .Row (stateOf c cs s) C a R y → C ≡ 0)
+  quiet-exactly-unguarded = (
+    λ q C a R y r. same-members C 0 (λ x h. absurd (quiet-exactly .0 q x (record { guard = C; action = a; resets = R; target = y; guards = h; row = r }))) (λ x h. absurd (none-in x h)),
+    λ n. quiet-exactly .1 (λ x k. none-in x (rw (n (k .guard) (k .action) (k .resets) (k .target) (k .row)) at (k .guards))),
+  )
 
   -- "and nothing changes"
   pub quiet-changes-nothing : τ .shot ≡ quiet → τ ≡ quietly s vs

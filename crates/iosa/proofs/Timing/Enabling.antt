@@ -1,16 +1,15 @@
 -- The enabling clocks of a composed state: computed, of some component, and of the product.
-use mathlib.Core.Path.{_≡_, refl, sym, _∙_, ap}
-use mathlib.Core.Logic.{_↔_, _⊎_, inl, inr, ⊎-elim, ⊎-map}
+use mathlib.Core.Logic.{_⊎_, inl, inr, ⊎-map}
 use mathlib.Core.List.{List, [], _∷_}
 use Prim.Native.Nat.{ℕ, _^_, _<_}
 use lib.Bits.{or-lt}
 use lib.Pow.{pow-pos}
-use Rattle.laws.specs.Sets.{_∪_, _∈_}
+use Rattle.laws.specs.Sets.{_∈_}
 use Rattle.laws.proofs.SetLaws.{in-or, or-in-l, or-in-r, none-in, in-below}
 use Rattle.answer.specs.Limits.{maxClocks}
 use Rattle.iosa.specs.Model.{Comp, Model, declared}
 use Rattle.iosa.specs.WellFormed.{WellComp}
-use Rattle.iosa.specs.Automaton.{Automaton, autoOf, Enabling}
+use Rattle.iosa.specs.Automaton.{autoOf, Enabling}
 use Rattle.iosa.specs.Product.{product, stateOf, Within}
 use Rattle.iosa.specs.Checks.{enablingOf}
 use Rattle.iosa.specs.Timed.{enablingAll}

@@ -1,45 +1,40 @@
 -- The timed step of an accepted model answers exactly what paper 01 says of the product and its clocks.
-use mathlib.Core.Path.{_≡_, refl, sym, _∙_, ap, ap₂}
-use mathlib.Core.Logic.{_↔_, _≢_, _⊎_, inl, inr, ⊎-elim}
+use mathlib.Core.Path.{_≡_, refl, sym, _∙_, ap}
+use mathlib.Core.Logic.{_↔_, _≢_, _⊎_, inl, inr}
 use mathlib.Core.Option.{Option, none, some}
-use mathlib.Core.Bool.{Bool, true, false, _&&_, _||_, not, true≢false, false≢true}
+use mathlib.Core.Bool.{true, false, not, true≢false}
 use mathlib.Core.List.{List, [], _∷_}
-use Prim.Native.Nat.{ℕ, zero, suc, _<_}
+use Prim.Native.Nat.{ℕ, zero}
 use native.Mathlib.Omega.{arith}
 use native.Mathlib.Decide.{ℕ-discrete}
-use lib.ListN.{length}
-use lib.Dec.{eqb}
-use lib.IntN.{ℤ, pos, negsuc}
-use lib.Signed.{ltZ, leZ}
-use borrow.Author.Tests.{not-true, not-false, eqb-true, eq-eqb, le-ltb}
-use Rattle.laws.specs.Sets.{has, _∈_, only}
-use Rattle.laws.specs.Search.{when, orElse, least, any}
-use Rattle.laws.proofs.SetLaws.{or-in-r, in-one}
+use lib.IntN.{ℤ, pos}
+use lib.Signed.{ltZ}
+use borrow.Author.Tests.{le-ltb}
+use Rattle.laws.specs.Sets.{has, only}
+use Rattle.laws.specs.Search.{when, orElse, least}
+use Rattle.laws.proofs.SetLaws.{in-one}
 use Rattle.laws.proofs.SearchLaws.{when-fine, when-faulty}
 use Rattle.laws.proofs.TestLaws.{not-so, decided, not-exactly}
 use Rattle.laws.proofs.TickLaws.{less-irreflexive, less-transitive, count-of}
-use Rattle.answer.specs.Limits.{maxClocks, maxTicks}
-use Rattle.answer.specs.Told.{Told, tell, Answer, answered, refused, fired, quiet}
-use Rattle.iosa.specs.Model.{Row, Comp, Model, declared, inputs, outputs, acts}
-use Rattle.iosa.specs.WellFormed.{WellComp, WellFormed}
-use Rattle.iosa.specs.Automaton.{autoOf, alphabet, Conditions, Enabling, Stable, Conforming, Joinable}
+use Rattle.answer.specs.Limits.{maxClocks}
+use Rattle.answer.specs.Told.{Told, tell, Answer, answered, refused, fired}
+use Rattle.iosa.specs.Model.{Comp, Model, declared}
+use Rattle.iosa.specs.WellFormed.{WellFormed}
+use Rattle.iosa.specs.Automaton.{Stable, Conforming, Joinable}
 use Rattle.iosa.specs.Product.{product, stateOf, Within}
 use Rattle.iosa.specs.Checks.{acceptOf}
-use Rattle.iosa.specs.Step.{Gone, isStable, inRange, stateFault}
-use Rattle.iosa.specs.Timed.{floor, valueOf, enablingAll, unstableFault, valuesFault, belowZero, check29, isLeast, shares, check30, clockRowOf, fireAll, agedFrom, Timing, quietly, fire, timedFrom, timedOf}
-use Rattle.iosa.specs.TimedExactly.{Waits, InTicks, LeastOf, BelowZero, Shares, Lowest, Fires, Falls, Ready, TimedAnswer, is21, is27, is28, is29, is30, is-quiet, is-fired}
+use Rattle.iosa.specs.Step.{isStable, inRange, stateFault}
+use Rattle.iosa.specs.Timed.{valueOf, enablingAll, unstableFault, valuesFault, belowZero, check29, isLeast, shares, check30, agedFrom, Timing, quietly, fire, timedFrom, timedOf}
+use Rattle.iosa.specs.TimedExactly.{Waits, InTicks, LeastOf, BelowZero, Shares, Fires, Falls, Ready, TimedAnswer, is21, is27, is28, is29, is30, is-quiet, is-fired}
 use Rattle.iosa.proofs.Acceptance.Accepted.{accepted-exactly}
-use Rattle.iosa.proofs.Settling.Each.{All, Any, each-all, any-map}
-use Rattle.iosa.proofs.Settling.Parts.{parts-row, parts-action, within-length}
-use Rattle.iosa.proofs.Settling.ProductOfMany.{Pairwise, joinable-pairwise, wells, system-closed, system-is-an-automaton}
-use Rattle.iosa.proofs.Settling.Moves.{go-within}
+use Rattle.iosa.proofs.Settling.Parts.{within-length}
+use Rattle.iosa.proofs.Settling.ProductOfMany.{system-is-an-automaton}
 use Rattle.iosa.proofs.Settling.Range.{range-exactly}
 use Rattle.iosa.proofs.Settling.Steps.{stable-exactly, state-is-one-list}
-use Rattle.iosa.proofs.Timing.Enabling.{EnablesIn, enabling-enables, enables-enabling, enables-clock, clock-declared, declared-below, product-enables}
 use Rattle.iosa.proofs.Timing.Values.{aged-falls, falls-once}
-use Rattle.iosa.proofs.Timing.Least.{Clocks, Decides, lowest-found, found-lowest, none-found, found-none, negatives, leasts, sharers, none-least-none-waits, none-waits-none-least, alone-is-less, less-is-alone}
+use Rattle.iosa.proofs.Timing.Least.{Clocks, lowest-found, found-lowest, none-found, found-none, negatives, leasts, sharers, none-least-none-waits, none-waits-none-least, alone-is-less, less-is-alone}
 use Rattle.iosa.proofs.Timing.Ticks.{badValues, values-exactly}
-use Rattle.iosa.proofs.Timing.Shots.{each-well, waits-declared, waiting, FiredBy, fire-is-a-row}
+use Rattle.iosa.proofs.Timing.Shots.{each-well, waiting, fire-is-a-row}
 
 -- ---- where an answer is found
 abbrev RefusedOr : Option Told → Answer Timing → Answer Timing

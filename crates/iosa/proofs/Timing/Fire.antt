@@ -1,30 +1,28 @@
 -- "The row of that clock is taken": an enabling clock has its row, the others have theirs, and together they are a row of the product.
 use mathlib.Core.Path.{_≡_, refl, sym, _∙_, ap, ap₂}
-use mathlib.Core.Logic.{_⊎_, inl, inr, ⊎-elim}
-use mathlib.Core.Option.{Option, none, some, Option·some-inj}
+use mathlib.Core.Logic.{inl, inr, ⊎-elim}
+use mathlib.Core.Option.{Option, none, some}
 use mathlib.Core.Bool.{Bool, true, false, _&&_, true≢false}
 use mathlib.Core.List.{List, [], _∷_}
-use Prim.Native.Nat.{ℕ, zero, suc, _<_}
+use Prim.Native.Nat.{ℕ, suc, _<_}
 use native.Mathlib.Omega.{arith}
 use lib.ListN.{length}
 use lib.Dec.{eqb}
 use lib.Bits.{or-zero-r}
 use borrow.Author.Tests.{eqb-true, eq-eqb}
 use Rattle.laws.specs.Sets.{has, _∪_, _∈_, only}
-use Rattle.laws.specs.Search.{seek, when, orElse}
+use Rattle.laws.specs.Search.{when, orElse}
 use Rattle.laws.proofs.SetLaws.{in-or, or-in-l, in-one}
-use Rattle.laws.proofs.SearchLaws.{seek-some, seek-none, when-some, when-none, no-some}
+use Rattle.laws.proofs.SearchLaws.{seek-some, seek-none, when-some, when-none}
 use Rattle.laws.proofs.TestLaws.{and-true, not-so}
 use Rattle.iosa.specs.Model.{Row, Comp, Model, rowAt, guardSet, inputs, outputs, urgents, acts}
 use Rattle.iosa.specs.WellFormed.{WellComp}
-use Rattle.iosa.specs.Automaton.{Leads, autoOf, alphabet, Enabling, Conditions, Compatible}
-use Rattle.iosa.specs.Product.{product, stateOf, Within}
-use Rattle.iosa.specs.Checks.{unclocked}
-use Rattle.iosa.specs.Step.{Gone, goneBy, move, together}
+use Rattle.iosa.specs.Automaton.{Leads, autoOf, Enabling, Conditions}
+use Rattle.iosa.specs.Product.{product, Within}
+use Rattle.iosa.specs.Step.{Gone, goneBy, together}
 use Rattle.iosa.specs.Timed.{clockRow, clockRowOf, fireOne, fireAll}
 use Rattle.iosa.proofs.Acceptance.Guards.{only-some, guard-in}
-use Rattle.iosa.proofs.Acceptance.Rows.{Single}
-use Rattle.iosa.proofs.Settling.Each.{All, Any, all-map, any-map, any-zip}
+use Rattle.iosa.proofs.Settling.Each.{All, Any, all-map}
 use Rattle.iosa.proofs.Settling.Parts.{Go, goes, rests, GoAll, end, and}
 use Rattle.iosa.proofs.Settling.Closed.{component-closed}
 use Rattle.iosa.proofs.Settling.ProductOfMany.{Fits, Pairwise}

@@ -1,23 +1,23 @@
 -- The tests of 29 and 30 and of the least value, for a set e of clocks that are the clocks W.
 use mathlib.Core.Path.{_≡_, refl, sym, _∙_, ap, ap₂}
-use mathlib.Core.Logic.{_↔_, _≢_, _⊎_, inl, inr}
-use mathlib.Core.Option.{Option, none, some}
-use mathlib.Core.Bool.{Bool, true, false, _&&_, not, true≢false, false≢true}
-use mathlib.Core.List.{List, [], _∷_}
-use Prim.Native.Nat.{ℕ, zero, suc, _<_}
+use mathlib.Core.Logic.{_≢_}
+use mathlib.Core.Option.{none, some}
+use mathlib.Core.Bool.{Bool, true, false, _&&_, not, true≢false}
+use mathlib.Core.List.{List}
+use Prim.Native.Nat.{ℕ, _<_}
 use lib.Dec.{eqb}
 use lib.IntN.{ℤ, pos}
 use lib.Signed.{ltZ}
 use native.Mathlib.Decide.{ℕ-discrete}
-use borrow.Author.Tests.{not-true, not-false, eqb-true, eqb-false, ne-eqb}
+use borrow.Author.Tests.{not-true, eqb-false, ne-eqb}
 use Rattle.laws.specs.Sets.{has, _∈_}
-use Rattle.laws.specs.Search.{least, any, isSome, Least}
+use Rattle.laws.specs.Search.{least, any}
 use Rattle.laws.proofs.SearchLaws.{any-true, any-false, true-any, least-some, some-least, least-none, none-least}
-use Rattle.laws.proofs.TestLaws.{and-true, and-false, and-not-both, not-so}
+use Rattle.laws.proofs.TestLaws.{and-true, and-false, not-so}
 use Rattle.laws.proofs.TickLaws.{less-irreflexive, less-transitive, less-total}
-use Rattle.laws.proofs.MinimalLaws.{Minimal, has-minimal}
+use Rattle.laws.proofs.MinimalLaws.{has-minimal}
 use Rattle.answer.specs.Limits.{maxClocks}
-use Rattle.iosa.specs.Timed.{valueOf, belowZero, check29, isLeast, shares, check30}
+use Rattle.iosa.specs.Timed.{valueOf, belowZero, isLeast, shares}
 use Rattle.iosa.specs.TimedExactly.{LeastOf, BelowZero, Shares, Lowest}
 
 -- ---- the search for the lowest number below n with a test

@@ -1,26 +1,24 @@
 -- The enabling clocks that are computed are the product's, and the one that fires takes a row of the product.
-use mathlib.Core.Path.{_≡_, refl, sym, _∙_, ap, ap₂}
-use mathlib.Core.Option.{Option, none, some}
-use mathlib.Core.List.{List, [], _∷_}
-use Prim.Native.Nat.{ℕ, _<_}
+use mathlib.Core.Path.{_≡_, _∙_}
+use mathlib.Core.List.{List, _∷_}
+use Prim.Native.Nat.{ℕ}
 use lib.IntN.{ℤ, pos}
 use Rattle.laws.specs.Sets.{_∈_, only}
 use Rattle.laws.proofs.SetLaws.{or-in-r, in-one}
-use Rattle.answer.specs.Limits.{maxClocks}
 use Rattle.answer.specs.Told.{fired}
-use Rattle.iosa.specs.Model.{Row, Comp, Model, declared, inputs, outputs}
+use Rattle.iosa.specs.Model.{Row, Comp, declared, inputs, outputs}
 use Rattle.iosa.specs.WellFormed.{WellComp, WellFormed}
-use Rattle.iosa.specs.Automaton.{autoOf, Conditions, Enabling, Conforming, Joinable}
+use Rattle.iosa.specs.Automaton.{autoOf, Conditions, Conforming, Joinable}
 use Rattle.iosa.specs.Product.{product, stateOf, Within}
-use Rattle.iosa.specs.Timed.{valueOf, enablingAll, clockRowOf, fireAll, agedFrom, Timing, firedBy, fire}
+use Rattle.iosa.specs.Timed.{valueOf, enablingAll, agedFrom, firedBy, fire}
 use Rattle.iosa.specs.TimedExactly.{Waits}
-use Rattle.iosa.proofs.Settling.Each.{All, Any, each-all, any-map}
+use Rattle.iosa.proofs.Settling.Each.{All, each-all, any-map}
 use Rattle.iosa.proofs.Settling.Parts.{parts-row, parts-action}
 use Rattle.iosa.proofs.Settling.ProductOfMany.{joinable-pairwise, wells, system-closed}
 use Rattle.iosa.proofs.Settling.Moves.{go-within}
 use Rattle.iosa.proofs.Timing.Enabling.{EnablesIn, enabling-enables, enables-enabling, enables-clock, clock-declared, declared-below, product-enables}
 use Rattle.iosa.proofs.Timing.Least.{Clocks}
-use Rattle.iosa.proofs.Timing.Fire.{FiresAll, Shoots, enabling-shoots}
+use Rattle.iosa.proofs.Timing.Fire.{Shoots, enabling-shoots}
 
 module _ (c : Comp) (cs : List Comp) (well : WellFormed (c ∷ cs)) (conf : Conforming (c ∷ cs)) (join : Joinable (c ∷ cs)) where
   pub each-well : All WellComp (c ∷ cs)

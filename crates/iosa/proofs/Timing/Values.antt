@@ -6,12 +6,12 @@ use Prim.Native.Nat.{ℕ, zero, suc, _+_, _≤_, _<_}
 use native.Mathlib.Omega.{arith}
 use native.Mathlib.Decide.{decLt}
 use mathlib.Core.Logic.{by-cases}
-use lib.ListN.{length, getD, List·getD-eq-default}
+use lib.ListN.{length, List·getD-eq-default}
 use lib.Seq.{ext-getD}
 use lib.IntN.{ℤ, pos, negsuc, _-ℤ_}
 use lib.Signed.{ltZ, leZ}
 use Rattle.laws.specs.Sets.{has, _∈_}
-use Rattle.laws.proofs.TickLaws.{less-irreflexive, at-most, not-less, at-most-transitive, less-count-at-most, less-count-not-below}
+use Rattle.laws.proofs.TickLaws.{less-irreflexive, at-most, at-most-transitive, less-count-at-most, less-count-not-below}
 use Rattle.answer.specs.Limits.{maxClocks, maxTicks}
 use Rattle.iosa.specs.Model.{Model, declared}
 use Rattle.iosa.specs.Timed.{floor, valueOf, fallen, agedFrom}

@@ -1,0 +1,72 @@
+-- `settling::named_step` meets its contract.
+use mathlib.Core.Path.{_≡_, refl, sym, ap, _∙_, subst}
+use mathlib.Core.Option.{some}
+use borrow.Author.Needs.{needs}
+use denote.Ref.{now}
+use Rattle.answer.specs.Told.{Answer, answered, refused, moved, told, saysOutcome}
+use Rattle.answer.specs.declared.Outcome.the-variants as Outcome
+use Rattle.answer.specs.State.{partsOf, withParts}
+use Rattle.iosa.specs.Step.{Stepping, takenBy, named}
+use Rattle.layout.specs.Image.{modelOf}
+use Rattle.moves.proofs.StepsByOffers.{offered-step, no-offer-no-step}
+use Rattle.settling.specs.Gives.{StepAnswers}
+use Rattle.settling.proofs.named_step.Statement.{statement}
+use Rattle.settling.proofs.named_step.Tie as tie
+use Rattle.settling.proofs.named_step.Reads as reads
+use Rattle.settling.proofs.named_step.Lts as lts
+use Rattle.answer.proofs.no_state.Reads as no-state-reads
+use Rattle.moves.proofs.move_all.Reads as move-all-reads
+use Rattle.moves.proofs.offered.Reads as offered-reads
+use Rattle.settling.proofs.not_enabled.Reads as not-enabled-reads
+
+-- src/lib.rt:56:8
+offered-requires : tie.Need-offered-requires
+offered-requires c κs = search needs
+
+-- src/lib.rt:57:13
+move-all-requires : tie.Need-move-all-requires
+move-all-requires c κs = search needs
+
+-- src/lib.rt:68:39
+not-enabled-requires : tie.Need-not-enabled-requires
+not-enabled-requires c κs = search needs
+
+-- src/lib.rt:69:20
+no-state-requires : tie.Need-no-state-requires
+no-state-requires c κs = search needs
+
+-- src/lib.rt:52:1
+returns : tie.Need-returns
+unfolding saysOutcome
+returns c =
+    let s0 = c .before .before .before .before .before in
+    let r = s0 .pre in
+    let m = c .before .move-all in
+    let a = s0 .args .a in
+    let e = offered-step (modelOf (now (s0 .args .t))) (r .conforming) (r .joinable) (partsOf (s0 .args .x)) (r .standing .within) a
+    (sym (c .before .before .before .offered .ensures) ∙ c .before .before .if1 .taken) in
+    subst (λ (v : Answer Stepping). StepAnswers v (s0 .args .x) (record { outcome = Outcome.Moved a (m .result .resets); state = m .result .state })) (sym (ap (λ g. takenBy (named a g)) e))
+    (record { outcome = ap (λ n. some (answered (moved a n))) (m .ensures .0); state = m .ensures .1 })
+
+-- src/lib.rt:52:1
+returns-2 : tie.Need-returns-2
+unfolding saysOutcome told
+returns-2 c =
+    let s0 = c .before .before .before .before .before in
+    let r = s0 .pre in
+    let a = s0 .args .a in
+    let e = no-offer-no-step (modelOf (now (s0 .args .t))) (r .conforming) (r .joinable) (partsOf (s0 .args .x)) (r .standing .within) a
+    (sym (c .before .before .before .offered .ensures) ∙ c .before .before .if1 .left) in
+    subst (λ (v : Answer Stepping). StepAnswers v (s0 .args .x) (record { outcome = Outcome.Refused (c .before .not-enabled .result); state = c .no-state .result })) (sym (ap (λ g. takenBy (named a g)) e))
+    (ap (λ q. saysOutcome (Outcome.Refused q)) (c .before .not-enabled .ensures), c .no-state .ensures)
+
+pub named-step-spec : {M : Type 1} → statement M
+named-step-spec =
+    tie.close
+    (tie.spec
+    offered-requires
+    move-all-requires
+    not-enabled-requires
+    no-state-requires
+    returns
+    returns-2)

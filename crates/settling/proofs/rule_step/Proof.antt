@@ -1,0 +1,64 @@
+-- `settling::rule_step` meets its contract.
+use mathlib.Core.Path.{_≡_, refl, sym, ap, _∙_}
+use mathlib.Core.Option.{some}
+use Prim.Native.Nat.{ℕ, _≤_, _<_}
+use native.Mathlib.Omega.{arith}
+use borrow.Author.Needs.{needs}
+use lib.ListN.{length}
+use denote.Ref.{now}
+use Rattle.answer.specs.Limits.{maxActions}
+use Rattle.answer.specs.Told.{answered, Step, moved, saysOutcome}
+use Rattle.answer.specs.State.{partsOf, withParts}
+use Rattle.answer.proofs.StateLaws.{with-own-parts}
+use Rattle.iosa.specs.Step.{taken, Stepping}
+use Rattle.layout.specs.Image.{modelOf}
+use Rattle.moves.proofs.Ready.{count-few}
+use Rattle.settling.specs.Gives.{byRuleOf}
+use Rattle.settling.proofs.Lowest.{lowest-here, lowest-nowhere}
+use Rattle.settling.proofs.rule_step.Statement.{statement}
+use Rattle.settling.proofs.rule_step.Tie as tie
+use Rattle.settling.proofs.rule_step.Reads as reads
+use Rattle.settling.proofs.rule_step.Lts as lts
+use Rattle.moves.proofs.lowest_all.Reads as lowest-all-reads
+use Rattle.moves.proofs.move_all.Reads as move-all-reads
+
+-- src/lib.rt:22:9
+lowest-all-requires : tie.Need-lowest-all-requires
+lowest-all-requires c κs = search needs
+
+-- src/lib.rt:24:13
+move-all-requires : tie.Need-move-all-requires
+move-all-requires c κs = search needs
+
+-- src/lib.rt:18:1
+returns : tie.Need-returns
+unfolding saysOutcome
+returns c =
+    let s0 = c .before .before .before .before .before in
+    let t = now (s0 .args .t) in
+    let x = s0 .args .x in
+    let a = c .before .before .before .lowest-all .result in
+    let r = s0 .pre in
+    let e = ap (taken (partsOf x)) (lowest-here (modelOf t) (r .conforming) (r .joinable) (partsOf x) (r .standing .within) a (c .before .before .before .lowest-all .ensures) (c .before .before .if1 .taken)) in
+    record {
+      outcome = ap (λ n. some (answered (moved a n))) (c .before .move-all .ensures .0) ∙ ap (λ v. some (answered (v .step))) (sym e);
+      state = c .before .move-all .ensures .1 ∙ ap (λ v. withParts x (v .state)) (sym e);
+    }
+
+-- src/lib.rt:18:1
+returns-2 : tie.Need-returns-2
+unfolding saysOutcome
+returns-2 c =
+    let s0 = c .before .before .before in
+    let t = now (s0 .args .t) in
+    let x = s0 .args .x in
+    let r = s0 .pre in
+    let e = ap (taken (partsOf x)) (lowest-nowhere (modelOf t) (r .conforming) (r .joinable) (partsOf x) (r .standing .within) _ (c .before .lowest-all .ensures) (c .if1 .left)) in
+    let len : length (x .parts) ≡ 16 = search needs in
+    record {
+      outcome = ap (λ v. some (answered (v .step))) (sym e);
+      state = sym (with-own-parts x (omega (arith, len, count-few t x (r .standing)))) ∙ ap (λ v. withParts x (v .state)) (sym e);
+    }
+
+pub rule-step-spec : {M : Type 1} → statement M
+rule-step-spec = tie.close (tie.spec lowest-all-requires move-all-requires returns returns-2)

@@ -1,0 +1,4 @@
+pub mod RowTests
+pub mod ImageTests
+pub mod OnTableLaws
+pub mod CheckedLaws
