@@ -53,8 +53,8 @@ pub left-all : (old : List ℕ) (at : ℕ) (whole : List ℕ) → Room old at wh
 left-all old at whole h = record { room = h; same = refl; end = refl; long = refl }
 
 -- in whatever way the rest is written
-pub left-as : {old : List ℕ} {at : ℕ} {whole now : List ℕ} {here : ℕ} {rest : List ℕ} → Left old at whole now here rest → (as : List ℕ) → rest ≡ as → Left old at whole now here as
-left-as {old} {at} {whole} {now} {here} l as e = rw e at l
+pub left-as : {old : List ℕ} {at : ℕ} {whole now : List ℕ} {here : ℕ} {rest : List ℕ} → Left old at whole now here rest → (other : List ℕ) → rest ≡ other → Left old at whole now here other
+left-as {old} {at} {whole} {now} {here} l other e = rw e at l
 
 module _ {old : List ℕ} {at : ℕ} {whole now : List ℕ} {here : ℕ} (a b : List ℕ) (l : Left old at whole now here (a ++ b)) where
   pub left-room : Room now here a

@@ -1,0 +1,37 @@
+-- What a line's answer says: the line of an entry, and the bytes behind it.
+use mathlib.Core.Option.{Option, none, some}
+use mathlib.Core.List.{List}
+use Prim.Native.Nat.{ℕ}
+use lib.ListN.{drop}
+use Rattle.iosa.specs.Text.{Kind as TheKind, in-kind, out-kind, uin-kind, uout-kind}
+use Rattle.iosa.specs.Reading.{Got, got, Entry, comp-entry, act-entry, clk-entry, row-entry}
+use Rattle.fields.specs.declared.Guard.{Guard}
+use Rattle.fields.specs.declared.Guard.the-variants as OfGuard
+use Rattle.fields.specs.declared.Kind.{Kind}
+use Rattle.fields.specs.declared.Kind.the-variants as OfKind
+use Rattle.fields.specs.Resets.{summary}
+use Rattle.lines.specs.declared.Line.{Line}
+use Rattle.lines.specs.declared.Line.the-variants.{Comp, Act, Clk, Row}
+use Rattle.lines.specs.declared.LineScan.{LineScan}
+use Rattle.lines.specs.declared.LineScan.the-variants as OfScan
+
+abbrev pub guardIs : Option ℕ → Guard
+guardIs none = OfGuard.Dash
+guardIs (some x) = OfGuard.Clock x
+
+abbrev pub kindIs : TheKind → Kind
+kindIs in-kind = OfKind.In
+kindIs out-kind = OfKind.Out
+kindIs uin-kind = OfKind.Uin
+kindIs uout-kind = OfKind.Uout
+
+-- an entry as the code has it: the numbers of a resets field only by their sum
+abbrev pub lineOf : Entry → Line
+lineOf (comp-entry n s) = Comp n s
+lineOf (act-entry a k) = Act a (kindIs k)
+lineOf (clk-entry x b) = Clk x b
+lineOf (row-entry s g a r t) = Row s (guardIs g) a (summary r) t
+
+abbrev pub gotLine : List ℕ → LineScan → Option (Got Line)
+gotLine t (OfScan.Is l c) = got l (drop (c .at) t)
+gotLine t OfScan.Missing = none

@@ -1,0 +1,3 @@
+pub mod RowTests
+pub mod ImageTests
+pub mod OnTableLaws

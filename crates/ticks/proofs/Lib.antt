@@ -1,0 +1,5 @@
+pub mod Falling
+pub mod InPlace
+pub mod Singles
+pub mod ByValue
+pub mod Chosen
