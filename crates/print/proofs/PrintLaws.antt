@@ -2,10 +2,11 @@
 use mathlib.Core.Path.{_≡_, refl, sym, _∙_, ap, ap₂}
 use mathlib.Core.Logic.{by-cases}
 use mathlib.Core.Option.{Option, none, some}
-use mathlib.Core.Bool.{Bool, true, false, cond, true≢false}
+use mathlib.Core.Bool.{Bool, true, false, cond, _&&_, true≢false}
 use mathlib.Core.List.{List, [], _∷_, _++_, append-nil}
 use Prim.Native.Nat.{ℕ, zero, suc, _+_, _-_, _/_, _%_, _^_, _≤_, _<_}
 use native.Mathlib.Omega.{arith}
+use native.Mathlib.Numerals.{add-one}
 use native.Mathlib.Decide.{decLt, ℕ-discrete}
 use lib.ListN.{length, getD, drop}
 use lib.Dec.{ltb}
@@ -16,9 +17,11 @@ use Rattle.laws.proofs.SetLaws.{has-ext, has-without, in-one, one-in, none-in, 
 use Rattle.laws.proofs.SearchLaws.{least-none, least-some}
 use Rattle.laws.proofs.TestLaws.{not-so}
 use Rattle.answer.specs.Limits.{maxClocks}
+use Rattle.answer.specs.declared.State.{State}
+use Rattle.answer.specs.State.{numbersFrom, partsOf}
 use Rattle.sets.specs.Members.{wordBits, orEnd, lowestOf}
 use Rattle.iosa.specs.Text.{byte0, comma, dash, digitsOf, decimal, joined, members, guardField, setField}
-use Rattle.iosa.proofs.Reading.Members.{members-same}
+use Rattle.iosa.proofs.Reading.Members.{members-same, members-none}
 use Rattle.print.specs.Put.{leading}
 
 -- ---- a number
@@ -149,7 +152,7 @@ first-out s t x (suc n) k p q a b f g e = by-cases (decLt k x)
     (λ r. rw (f k r, g k r) (first-out s t x n (suc k) r (omega arith) a b f g e))
     (λ r. let z : k ≡ x = omega arith in rw (z, a, b) (ap (λ l. x ∷ l) (members-same s t n (suc x) (λ j h. e j h))))
 
-module _ (s : ℕ) (some : s ≡ 0 → ⊥) (fits : s < 2 ^ wordBits) where
+module _ (s : ℕ) (inhabited : s ≡ 0 → ⊥) (fits : s < 2 ^ wordBits) where
   lowest-least : Least (has s) wordBits (lowestOf s)
   unfolding lowestOf
   lowest-least = go (least (has s) wordBits) refl
@@ -158,7 +161,7 @@ module _ (s : ℕ) (some : s ≡ 0 → ⊥) (fits : s < 2 ^ wordBits) where
       outside e x h = absurd (true≢false (sym h ∙ least-none (has s) wordBits e x (in-below wordBits s x fits h)))
 
       go : (o : Option ℕ) → least (has s) wordBits ≡ o → Least (has s) wordBits (orEnd o wordBits)
-      go none e = absurd (some (has-ext s 0 (λ x. not-so (has s x) (λ h. none-in x (outside e x h)) ∙ sym (not-so (has 0 x) (none-in x)))))
+      go none e = absurd (inhabited (has-ext s 0 (λ x. not-so (has s x) (λ h. none-in x (outside e x h)) ∙ sym (not-so (has 0 x) (none-in x)))))
       go (some x) e = least-some (has s) wordBits x e
 
   pub lowest-below : lowestOf s < wordBits
@@ -182,7 +185,7 @@ module _ (s : ℕ) (some : s ≡ 0 → ⊥) (fits : s < 2 ^ wordBits) where
       (λ j h. sym (without-lowest j (λ e. omega arith)))
 
   pub set-parts : setField s ≡ decimal (lowestOf s) ++ each (clocksIn (s ∖ only (lowestOf s)))
-  set-parts = some-set s some ∙ ap joined lowest-first ∙ joined-each (lowestOf s) (clocksIn (s ∖ only (lowestOf s)))
+  set-parts = some-set s inhabited ∙ ap joined lowest-first ∙ joined-each (lowestOf s) (clocksIn (s ∖ only (lowestOf s)))
 
   pub each-parts : each (clocksIn s) ≡ (comma ∷ decimal (lowestOf s)) ++ each (clocksIn (s ∖ only (lowestOf s)))
   unfolding each
@@ -194,6 +197,26 @@ module _ (s : ℕ) (some : s ≡ 0 → ⊥) (fits : s < 2 ^ wordBits) where
       let e : s ∖ only (lowestOf s) ≡ s = omega arith in
       absurd (true≢false (sym (lowest-least .here) ∙ ap (λ w. has w (lowestOf s)) (sym e) ∙ lowest-gone)))
 
+no-members : each (clocksIn 0) ≡ []
+unfolding each
+no-members = ap each (members-none maxClocks 0)
+
 pub none-left : (s : ℕ) → s ≡ 0 → each (clocksIn s) ≡ []
-unfolding each members
-none-left s e = rw e
+none-left s e = ap (λ w. each (clocksIn w)) e ∙ no-members
+
+-- ---- a composed state
+pub numbers-done : (ps : List ℕ) (i n : ℕ) → n ≤ i → each (numbersFrom ps i (n - i)) ≡ []
+unfolding numbersFrom each
+numbers-done ps i n h = let e : n - i ≡ 0 = omega arith in rw e
+
+pub numbers-next : (ps : List ℕ) (i n : ℕ) → i < n → each (numbersFrom ps i (n - i)) ≡ (comma ∷ decimal (getD ps i 0)) ++ each (numbersFrom ps (i + 1) (n - (i + 1)))
+unfolding numbersFrom each
+numbers-next ps i n h = let e : n - i ≡ suc (n - (i + 1)) = omega arith in rw e (ap (λ k. (comma ∷ decimal (getD ps i 0)) ++ each (numbersFrom ps k (n - (i + 1)))) (sym (add-one i)))
+
+pub no-parts : (x : State) → x .count ≡ 0 → joined (partsOf x) ≡ []
+unfolding partsOf numbersFrom
+no-parts x e = rw e joined-none
+
+pub joined-parts : (x : State) → (x .count ≡ 0 → ⊥) → joined (partsOf x) ≡ decimal (getD (x .parts) 0 0) ++ each (numbersFrom (x .parts) 1 (x .count - 1))
+unfolding partsOf numbersFrom
+joined-parts x h = let e : x .count ≡ suc (x .count - 1) = omega arith in ap (λ n. joined (numbersFrom (x .parts) 0 n)) e ∙ joined-each (getD (x .parts) 0 0) (numbersFrom (x .parts) 1 (x .count - 1))

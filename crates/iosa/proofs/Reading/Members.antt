@@ -80,7 +80,7 @@ unfolding members
 members-same s t zero k h = refl
 members-same s t (suc n) k h = rw (h k (omega arith), members-same s t n (suc k) (λ x p. h x (omega arith)))
 
-members-none : (n k : ℕ) → members 0 n k ≡ []
+pub members-none : (n k : ℕ) → members 0 n k ≡ []
 unfolding members
 members-none zero k = refl
 members-none (suc n) k = rw (not-so (has 0 k) (none-in k)) (members-none n (suc k))

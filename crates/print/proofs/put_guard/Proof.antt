@@ -1,38 +1,33 @@
+-- `print::put_guard` meets its contract.
+use mathlib.Core.Path.{sym, ap}
+use native.Mathlib.Omega.{arith}
+use lib.ListN.{length}
+use Rattle.print.proofs.LaidLaws.{put-as}
+use Rattle.print.proofs.PrintLaws.{no-guard, some-guard}
 use borrow.Author.Needs.{needs}
 use Rattle.print.proofs.put_guard.Statement.{statement}
 use Rattle.print.proofs.put_guard.Tie as tie
-use Rattle.print.proofs.put_guard.Reads as reads
-use Rattle.print.proofs.put_guard.Lts as lts
-use Rattle.print.proofs.put_byte.Reads as put-byte-reads
-use Rattle.print.proofs.put_decimal.Reads as put-decimal-reads
 
--- src/lib.rt:71:9
 put-byte-requires : tie.Need-put-byte-requires
-put-byte-requires c κs = ?
+put-byte-requires c κs = omega (arith, c .before .before .before .pre, ap length (no-guard (c .before .before .before .args .g) (c .before .if1 .taken)))
 
--- src/lib.rt:71:9
+returns : tie.Need-returns
+returns c = put-as (c .before .before .put-byte .ensures) _ (sym (no-guard (c .before .before .before .before .before .before .args .g) (c .before .before .before .before .if1 .taken)))
+
+put-decimal-requires : tie.Need-put-decimal-requires
+put-decimal-requires c κs = omega (arith, c .before .before .before .pre, ap length (some-guard (c .before .before .before .args .g) (c .before .if1 .left)))
+
+returns-2 : tie.Need-returns-2
+returns-2 c = put-as (c .before .before .put-decimal .ensures) _ (sym (some-guard (c .before .before .before .before .before .before .args .g) (c .before .before .before .before .if1 .left)))
+
 same-length : tie.Need-same-length
 same-length c = search needs
 
--- src/lib.rt:71:9
-returns : tie.Need-returns
-returns c = ?
-
--- src/lib.rt:73:26
 sub-put-decimal : tie.Need-sub-put-decimal
 sub-put-decimal c = search needs
 
--- src/lib.rt:73:5
-put-decimal-requires : tie.Need-put-decimal-requires
-put-decimal-requires c κs = ?
-
--- src/lib.rt:66:1
 same-length-2 : tie.Need-same-length-2
 same-length-2 c = search needs
-
--- src/lib.rt:66:1
-returns-2 : tie.Need-returns-2
-returns-2 c = ?
 
 pub put-guard-spec : {M : Type 1} → statement M
 put-guard-spec =

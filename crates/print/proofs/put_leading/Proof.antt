@@ -1,37 +1,35 @@
+-- `print::put_leading` meets its contract.
+use mathlib.Core.Path.{refl, sym, ap}
+use Prim.Native.Nat.{_/_, _%_}
+use native.Mathlib.Omega.{arith}
+use lib.ListN.{length}
+use denote.Ref.{now}
+use Rattle.print.proofs.LaidLaws.{nothing-put, put-as}
+use Rattle.print.proofs.PrintLaws.{below, reaches}
 use borrow.Author.Needs.{needs}
 use Rattle.print.proofs.put_leading.Statement.{statement}
 use Rattle.print.proofs.put_leading.Tie as tie
-use Rattle.print.proofs.put_leading.Reads as reads
-use Rattle.print.proofs.put_leading.Lts as lts
-use Rattle.print.proofs.put_byte.Reads as put-byte-reads
 
--- src/lib.rt:40:9
 returns : tie.Need-returns
-returns c = ?
+returns c = put-as (nothing-put _ _) _ (sym (below _ _ (c .if1 .taken)))
 
--- src/lib.rt:42:37
+put-byte-requires : tie.Need-put-byte-requires
+put-byte-requires c κs = omega (arith, c .before .before .before .pre .1, ap length (reaches (c .before .before .before .args .n) (c .before .before .before .args .scale) _ (c .before .if1 .left) refl))
+
+returns-2 : tie.Need-returns-2
+returns-2 c = put-as (c .before .before .put-byte .ensures) _ (sym (reaches (c .before .before .before .before .before .before .args .n) (c .before .before .before .before .before .before .args .scale) _ (c .before .before .before .before .if1 .left) refl))
+
 div-put-byte : tie.Need-div-put-byte
 div-put-byte c = search needs
 
--- src/lib.rt:42:36
 cast-put-byte : tie.Need-cast-put-byte
 cast-put-byte c = search needs
 
--- src/lib.rt:42:23
 add-put-byte : tie.Need-add-put-byte
 add-put-byte c = search needs
 
--- src/lib.rt:42:5
-put-byte-requires : tie.Need-put-byte-requires
-put-byte-requires c κs = ?
-
--- src/lib.rt:35:1
 same-length : tie.Need-same-length
 same-length c = search needs
-
--- src/lib.rt:35:1
-returns-2 : tie.Need-returns-2
-returns-2 c = ?
 
 pub put-leading-spec : {M : Type 1} → statement M
 put-leading-spec =
