@@ -1,0 +1,4 @@
+pub mod GuardRow
+pub mod FiredAlong
+pub mod Choosing
+pub mod Shoots
