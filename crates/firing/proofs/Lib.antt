@@ -2,3 +2,5 @@ pub mod GuardRow
 pub mod FiredAlong
 pub mod Choosing
 pub mod Shoots
+pub mod Gives
+pub mod Judging

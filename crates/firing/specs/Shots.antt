@@ -11,6 +11,8 @@ use Rattle.answer.specs.Told.{Told, Answer, answered, refused, saysFiring}
 use Rattle.answer.specs.State.{withParts}
 use Rattle.answer.specs.declared.State.{State}
 use Rattle.answer.specs.declared.Timed.{Timed}
+use Rattle.answer.specs.declared.Place.the-variants.{Whole}
+use Rattle.answer.specs.declared.Firing.the-variants.{Refused}
 use Rattle.laws.specs.Sets.{_∈_}
 use Rattle.iosa.specs.Automaton.{Conforming, Joinable}
 use Rattle.iosa.specs.Model.{Model, declared}
@@ -47,3 +49,7 @@ pub record Fireable (m : Model) (s : List ℕ) (vs : List ℤ) (x : ℕ) : Type 
   pub below : x < maxClocks
   pub enables : x ∈ enablingAll m s
   pub from-zero : ltZ (valueOf vs x) (pos 0) ≡ false
+
+-- a refusal of the whole, beside which all else is zero
+abbrev pub refusedWith : ℕ → Timed
+refusedWith n = record { firing = Refused (record { number = n; place = Whole }); state = noState }

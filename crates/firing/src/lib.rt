@@ -15,13 +15,15 @@ ghost use Rattle.answer.specs.Limits.{maxClocks};
 ghost use Rattle.answer.specs.State.{partsOf, withParts};
 ghost use Rattle.layout.specs.Layout.{countOf, blockWord};
 ghost use Rattle.layout.specs.Image.{Image, compOf, modelOf};
+ghost use mathlib.Core.Option.{none};
+ghost use Rattle.iosa.specs.Checks.{acceptOf};
 ghost use Rattle.rows.specs.Ranges.{foundOf};
-ghost use Rattle.iosa.specs.Timed.{clockRow, clockRowOf, fire, timedFrom};
+ghost use Rattle.iosa.specs.Timed.{clockRow, clockRowOf, fire, timedFrom, timedOf, enablingAll};
 ghost use Rattle.moves.specs.Moves.{GoneTo, resetBy, afterBy};
 ghost use Rattle.moves.specs.Standing.{Standing};
 ghost use Rattle.firing.specs.Fired.{byClock, actionOr, guardedOne, firedOne};
 ghost use Rattle.firing.specs.Choices.{choiceOf};
-ghost use Rattle.firing.specs.Shots.{TimingGives, TimingAnswers, Armed, Fireable};
+ghost use Rattle.firing.specs.Shots.{TimingGives, TimingAnswers, Armed, Fireable, refusedWith};
 
 // The row that a clock guards in one component's state.
 pub fn clock_row(t: &[u64], i: usize, s: u8, c: u64) -> Found
@@ -154,4 +156,67 @@ pub fn fire(t: &[u64], x: State, values: &mut [i64], c: u64) -> Timed
         },
         state: next,
     }
+}
+
+// 29 or 30, quiet, or the least clock fires.
+pub fn shoot(t: &[u64], x: State, values: &mut [i64]) -> Timed
+    requires { ⌜ Armed (now t) x (now values) ⌝ }
+    ensures { λ r. ⌜ TimingAnswers (timedFrom (modelOf (now (t .entry))) (partsOf x) (now (values .entry)) (enablingAll (modelOf (now (t .entry))) (partsOf x))) x (now (values .entry)) r (now (values .exit)) ⌝ }
+{
+    let e = enabling::enabling_all(t, x);
+    let d = choose(values, e);
+    match d {
+        Choice::Negative(c) => Timed {
+            firing: Firing::Refused(Refusal {
+                number: 29,
+                place: Place::Clock(c),
+            }),
+            state: answer::no_state(),
+        },
+        Choice::Shared(c) => Timed {
+            firing: Firing::Refused(Refusal {
+                number: 30,
+                place: Place::Clock(c),
+            }),
+            state: answer::no_state(),
+        },
+        Choice::Quiet => Timed {
+            firing: Firing::Quiet,
+            state: x,
+        },
+        Choice::Fires(c) => fire(t, x, values, c),
+    }
+}
+
+// A refusal of the whole, with no state beside it.
+pub fn refused(number: u8) -> Timed
+    ensures { λ r. ⌜ r ≡ refusedWith number ⌝ }
+{
+    Timed {
+        firing: Firing::Refused(Refusal {
+            number,
+            place: Place::Whole,
+        }),
+        state: answer::no_state(),
+    }
+}
+
+// The call on an accepted model: 21, 27, 28, then the clocks decide.
+pub fn judged(t: &[u64], x: State, values: &mut [i64]) -> Timed
+    requires { ⌜ Image (now t) × (acceptOf (modelOf (now t)) ≡ none) ⌝ }
+    ensures { λ r. ⌜ TimingAnswers (timedOf (modelOf (now (t .entry))) (partsOf x) (now (values .entry))) x (now (values .entry)) r (now (values .exit)) ⌝ }
+{
+    if !moves::in_range(t, x) {
+        return refused(21);
+    }
+    if moves::lowest_all(t, x) < Model::ACTIONS as u64 {
+        return refused(27);
+    }
+    if values.len() != Model::CLOCKS {
+        return refused(28);
+    }
+    if ticks::any_outside(values, enabling::declared(t)) {
+        return refused(28);
+    }
+    shoot(t, x, values)
 }

@@ -1,48 +1,68 @@
+-- `firing::fire` meets its contract.
+use mathlib.Core.Path.{_≡_, refl, sym, ap, ap₂, _∙_}
 use borrow.Author.Needs.{needs}
+use denote.Ref.{now}
+use lib.IntN.{ℤ}
+use Rattle.answer.specs.State.{partsOf}
+use Rattle.iosa.specs.Model.{declared}
+use Rattle.iosa.specs.Timed.{valueOf, agedFrom}
+use Rattle.layout.specs.Image.{modelOf}
+use Rattle.layout.proofs.RowsOfRange.{well-formed}
+use Rattle.ticks.specs.Ticks.{Tick, Ticking}
+use Rattle.ticks.proofs.Falling.{tick-back, tick-through}
+use Rattle.firing.proofs.Gives.{cast-fine, ticks-back, enabling-tick, fire-gives}
 use Rattle.firing.proofs.fire.Statement.{statement}
 use Rattle.firing.proofs.fire.Tie as tie
-use Rattle.firing.proofs.fire.Reads as reads
-use Rattle.firing.proofs.fire.Lts as lts
-use Rattle.enabling.proofs.declared.Reads as declared-reads
-use Rattle.firing.proofs.action_of.Reads as action-of-reads
-use Rattle.firing.proofs.fire_all.Reads as fire-all-reads
-use Rattle.ticks.proofs.age.Reads as age-reads
 
--- src/lib.rt:144:13
 mul-v : tie.Need-mul-v
 mul-v c = search needs
 
--- src/lib.rt:144:13
 slice-copy-out-v : tie.Need-slice-copy-out-v
 slice-copy-out-v c = search needs
 
--- src/lib.rt:145:9
 action-of-requires : tie.Need-action-of-requires
 action-of-requires c κs = search needs
 
--- src/lib.rt:146:9
 fire-all-requires : tie.Need-fire-all-requires
 fire-all-requires c κs = search needs
 
--- src/lib.rt:148:24
 declared-requires : tie.Need-declared-requires
 declared-requires c κs = search needs
 
--- src/lib.rt:148:5
 age-requires : tie.Need-age-requires
-age-requires c κs = ?
+age-requires c κs =
+    let s0 = c .before .before .before .before .before .before .before in
+    let p = s0 .pre in
+    let m = modelOf (now (s0 .args .t)) in
+    let z = enabling-tick m (well-formed _ (p .0 .standing .image)) (partsOf (s0 .args .x)) (s0 .args .c) (p .1 .enables) (now (s0 .args .values)) (p .0 .ticking) in
+    (rw (c .declared .ensures) (p .0 .ticking), tick-through _ z)
 
--- src/lib.rt:151:20
 cast-t16 : tie.Need-cast-t16
-cast-t16 c = ?
+cast-t16 c =
+    let s0 = c .before .before .before .before .before .before .before .before .before in
+    let p = s0 .pre in
+    let m = modelOf (now (s0 .args .t)) in
+    let z = enabling-tick m (well-formed _ (p .0 .standing .image)) (partsOf (s0 .args .x)) (s0 .args .c) (p .1 .enables) (now (s0 .args .values)) (p .0 .ticking) in
+    cast-fine _ z (p .1 .from-zero)
 
--- src/lib.rt:140:1
 same-length : tie.Need-same-length
 same-length c = search needs
 
--- src/lib.rt:140:1
 returns : tie.Need-returns
-returns c = ?
+returns c =
+    let s0 = c .before .before .before .before .before .before .before .before .before in
+    let p = s0 .pre in
+    let m = modelOf (now (s0 .args .t)) in
+    let vs = now (s0 .args .values) in
+    let well = well-formed _ (p .0 .standing .image) in
+    let z = enabling-tick m well (partsOf (s0 .args .x)) (s0 .args .c) (p .1 .enables) vs (p .0 .ticking) in
+    let f = c .before .before .before .before .before .fire-all in
+    fire-gives m well (partsOf (s0 .args .x)) (s0 .args .c) (p .1 .enables) (p .0 .conforming) (p .0 .joinable) (p .0 .standing .within) vs (s0 .args .x) _ _ _ _ _
+    (ticks-back _ z (p .1 .from-zero))
+    (c .before .before .before .before .before .before .action-of .ensures)
+    (f .ensures .0)
+    (f .ensures .1)
+    (c .before .age .ensures ∙ ap₂ (λ d v. agedFrom d v 0 vs) (c .before .before .declared .ensures) (tick-back _ z))
 
 pub fire-spec : {M : Type 1} → statement M
 fire-spec =
