@@ -202,7 +202,7 @@ pub fn refused(number: u8) -> Timed
 }
 
 // The call on an accepted model: 21, 27, 28, then the clocks decide.
-pub fn judged(t: &[u64], x: State, values: &mut [i64]) -> Timed
+pub fn accepted_step(t: &[u64], x: State, values: &mut [i64]) -> Timed
     requires { ⌜ Image (now t) × (acceptOf (modelOf (now t)) ≡ none) ⌝ }
     ensures { λ r. ⌜ TimingAnswers (timedOf (modelOf (now (t .entry))) (partsOf x) (now (values .entry))) x (now (values .entry)) r (now (values .exit)) ⌝ }
 {
