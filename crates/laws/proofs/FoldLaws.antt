@@ -68,3 +68,14 @@ pub sum-set : (A : List ℕ) (i v : ℕ) → i < length A → sum (set A i v) + 
 sum-set [] i v h = absurd (omega arith)
 sum-set (x ∷ xs) zero v h = omega arith
 sum-set (x ∷ xs) (suc i) v h = omega (arith, sum-set xs i v (omega arith))
+
+-- ---- a loop that tests every place, where what is left comes to x
+module _ (f : ℕ → Bool) {x : Bool} (k hi : ℕ) (inv : all f k hi ≡ x) where
+  pub all-fails : k < hi → f k ≡ false → false ≡ x
+  all-fails h e = sym (all-here f k hi h e) ∙ inv
+
+  pub all-goes-on : k < hi → f k ≡ true → all f (k + 1) hi ≡ x
+  all-goes-on h e = sym (all-next f k hi h e) ∙ inv
+
+  pub all-passed : hi ≤ k → true ≡ x
+  all-passed h = sym (all-end f k hi h) ∙ inv

@@ -1,0 +1,61 @@
+-- `table::comp_rows_right`: each row, then their order.
+use mathlib.Core.Path.{_≡_, sym, _∙_}
+use mathlib.Core.List.{List}
+use Prim.Native.Nat.{ℕ}
+use native.Mathlib.Omega.{arith}
+use Rattle.laws.specs.Fold.{all}
+use Rattle.laws.proofs.TestLaws.{both-no, both-go}
+use Rattle.iosa.specs.Model.{acts}
+use Rattle.layout.specs.Layout.{blockWord, firstOf}
+use Rattle.layout.specs.Image.{compOf}
+use Rattle.table.specs.Rows.{rowRight, compRowsRight}
+use borrow.Author.Needs.{needs}
+use Rattle.table.proofs.comp_rows_right.Statement.{statement}
+use Rattle.table.proofs.comp_rows_right.Tie as tie
+
+rows-are : (t : List ℕ) (i a x n lo hi : ℕ) → a ≡ acts (compOf t i) → x ≡ blockWord t i 6 → n ≡ blockWord t i 0 → lo ≡ firstOf t i 0 → hi ≡ firstOf t i n
+    → all (rowRight t a x n) lo hi ≡ all (rowRight t (acts (compOf t i)) (blockWord t i 6) (blockWord t i 0)) (firstOf t i 0) (firstOf t i (blockWord t i 0))
+rows-are t i a x n lo hi p q r u v = rw (p, q, u, v, r)
+
+block-word-requires : tie.Need-block-word-requires
+block-word-requires c κs = search needs
+
+block-word-requires-2 : tie.Need-block-word-requires-2
+block-word-requires-2 c κs = search needs
+
+acts-of-requires : tie.Need-acts-of-requires
+acts-of-requires c κs = search needs
+
+first-of-requires : tie.Need-first-of-requires
+first-of-requires c κs = search needs
+
+first-of-requires-2 : tie.Need-first-of-requires-2
+first-of-requires-2 c κs = (c .before .before .before .before .before .pre .0 .long, c .before .before .before .before .before .pre .1, omega (arith, c .before .before .before .before .before .pre .0 .states (c .before .before .before .before .before .args .i) (c .before .before .before .before .before .pre .1)))
+
+range-right-requires : tie.Need-range-right-requires
+range-right-requires c κs = (c .before .before .before .before .before .before .pre .0 .long, omega (arith, c .before .before .before .before .before .before .pre .0 .firsts (c .before .before .before .before .before .before .args .i) (c .before .before .before .before .block-word .result) (c .before .before .before .before .before .before .pre .1) (omega (arith, c .before .before .before .before .before .before .pre .0 .states (c .before .before .before .before .before .before .args .i) (c .before .before .before .before .before .before .pre .1)))))
+
+states-climb-requires : tie.Need-states-climb-requires
+states-climb-requires c κs = search needs
+
+returns : tie.Need-returns
+unfolding compRowsRight
+returns c = c .states-climb .ensures ∙ sym (both-go _ _ (sym (rows-are (c .before .before .before .before .before .before .before .before .before .args .t .now) (c .before .before .before .before .before .before .before .before .before .args .i) (c .before .before .before .before .before .acts-of .result) (c .before .before .before .before .before .before .block-word2 .result) (c .before .before .before .before .before .before .before .block-word .result) (c .before .before .before .before .first-of .result) (c .before .before .before .first-of2 .result) (c .before .before .before .before .before .acts-of .ensures) (c .before .before .before .before .before .before .block-word2 .ensures) (c .before .before .before .before .before .before .before .block-word .ensures) (c .before .before .before .before .first-of .ensures) (c .before .before .before .first-of2 .ensures)) ∙ sym (c .before .before .range-right .ensures) ∙ c .before .if1 .taken))
+
+returns-2 : tie.Need-returns-2
+unfolding compRowsRight
+returns-2 c = sym (both-no _ _ (sym (rows-are (c .before .before .before .before .before .before .before .before .args .t .now) (c .before .before .before .before .before .before .before .before .args .i) (c .before .before .before .before .acts-of .result) (c .before .before .before .before .before .block-word2 .result) (c .before .before .before .before .before .before .block-word .result) (c .before .before .before .first-of .result) (c .before .before .first-of2 .result) (c .before .before .before .before .acts-of .ensures) (c .before .before .before .before .before .block-word2 .ensures) (c .before .before .before .before .before .before .block-word .ensures) (c .before .before .before .first-of .ensures) (c .before .before .first-of2 .ensures)) ∙ sym (c .before .range-right .ensures) ∙ c .if1 .left))
+
+pub comp-rows-right-spec : {M : Type 1} → statement M
+comp-rows-right-spec =
+    tie.close
+    (tie.spec
+    block-word-requires
+    block-word-requires-2
+    acts-of-requires
+    first-of-requires
+    first-of-requires-2
+    range-right-requires
+    states-climb-requires
+    returns
+    returns-2)
