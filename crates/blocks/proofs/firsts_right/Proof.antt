@@ -55,7 +55,8 @@ returns-2 c =
     let the-in-order = c .before .in-order in
     let i = args .i in
     let t = args .t .now in
-    sym (begins t i (args .end) (the-pre .3) (sym (first-of .ensures) ∙ if1 .left) ∙ both-no _ _ (ordered t i (block-word .result) (block-word .ensures) (sym (the-in-order .ensures) ∙ not-true (the-in-order .result) (c .if2 .taken))))
+    sym (begins t i (args .end) (the-pre .3) (sym (first-of .ensures) ∙ if1 .left)
+    ∙ both-no _ _ (ordered t i (block-word .result) (block-word .ensures) (sym (the-in-order .ensures) ∙ not-true (the-in-order .result) (c .if2 .taken))))
 
 first-of-requires-2 : tie.Need-first-of-requires-2
 first-of-requires-2 c κs = search needs
@@ -72,7 +73,9 @@ returns-3 c =
     let if2 = c .before .before .if2 in
     let i = args .i in
     let t = args .t .now in
-    sym (begins t i (args .end) (the-pre .3) (sym (first-of .ensures) ∙ if1 .left) ∙ both-go _ _ (ordered t i (block-word .result) (block-word .ensures) (sym (the-in-order .ensures) ∙ not-false (the-in-order .result) (if2 .left))) ∙ both-no _ _ (lt-leb (firstOf t i (blockWord t i 0)) maxRows (omega (arith, last t i (block-word .result) (block-word .ensures)))))
+    sym (begins t i (args .end) (the-pre .3) (sym (first-of .ensures) ∙ if1 .left)
+    ∙ both-go _ _ (ordered t i (block-word .result) (block-word .ensures) (sym (the-in-order .ensures) ∙ not-false (the-in-order .result) (if2 .left)))
+    ∙ both-no _ _ (lt-leb (firstOf t i (blockWord t i 0)) maxRows (omega (arith, last t i (block-word .result) (block-word .ensures)))))
 
 mul-block : tie.Need-mul-block
 mul-block c = search needs
@@ -109,7 +112,9 @@ returns-4 c =
     let t = args .t .now in
     c .zero-words .ensures
     ∙ ap₂ (zeroWords t) (omega arith) (omega arith)
-    ∙ sym (begins t i (args .end) (the-pre .3) (sym (first-of .ensures) ∙ if1 .left) ∙ both-go _ _ (ordered t i (block-word .result) (block-word .ensures) (sym (the-in-order .ensures) ∙ not-false (the-in-order .result) (if2 .left))) ∙ both-go _ _ (le-leb (firstOf t i (blockWord t i 0)) maxRows (omega (arith, last t i (block-word .result) (block-word .ensures)))))
+    ∙ sym (begins t i (args .end) (the-pre .3) (sym (first-of .ensures) ∙ if1 .left)
+    ∙ both-go _ _ (ordered t i (block-word .result) (block-word .ensures) (sym (the-in-order .ensures) ∙ not-false (the-in-order .result) (if2 .left)))
+    ∙ both-go _ _ (le-leb (firstOf t i (blockWord t i 0)) maxRows (omega (arith, last t i (block-word .result) (block-word .ensures)))))
 
 pub firsts-right-spec : {M : Type 1} → statement M
 firsts-right-spec =

@@ -2,14 +2,14 @@
 use mathlib.Core.Path.{sym, _∙_, ap}
 use native.Mathlib.Omega.{arith}
 use lib.Dec.{ltb}
-use borrow.Author.Tests.{not-true, not-false}
 use Rattle.laws.specs.Sets.{has, within}
-use Rattle.laws.proofs.TestLaws.{both-no, both-go}
+use Rattle.laws.proofs.TestLaws.{both-no}
 use Rattle.iosa.specs.Model.{guardSet}
 use Rattle.layout.specs.Layout.{actionAt}
 use Rattle.table.specs.Rows.{rowRight}
 use Rattle.table.proofs.RowTests.{has-beyond}
 use borrow.Author.Needs.{needs}
+use Rattle.blocks.proofs.CodeTests.{passed, failed}
 use Rattle.table.proofs.row_right.Statement.{statement}
 use Rattle.table.proofs.row_right.Tie as tie
 
@@ -32,7 +32,7 @@ returns-2 c =
     let args = c .before .before .before .before .before .args in
     let action-at = c .before .before .before .action-at in
     let the-has = c .before .has in
-    sym (both-no _ _ (ap (has (args .acts)) (sym (action-at .ensures)) ∙ sym (the-has .ensures) ∙ not-true (the-has .result) (c .if2 .taken)))
+    sym (failed (the-has .result) _ (the-has .ensures ∙ ap (has (args .acts)) (action-at .ensures)) (c .if2 .taken))
 
 guard-at-requires : tie.Need-guard-at-requires
 guard-at-requires c κs = search needs
@@ -49,7 +49,8 @@ returns-3 c =
     let if2 = c .before .before .before .if2 in
     let guard-at = c .before .before .guard-at in
     let guard-right = c .before .guard-right in
-    sym (both-go _ _ (ap (has (args .acts)) (sym (action-at .ensures)) ∙ sym (the-has .ensures) ∙ not-false (the-has .result) (if2 .left)) ∙ both-no _ _ (ap (λ g. within (guardSet g) (args .clocks)) (sym (guard-at .ensures)) ∙ sym (guard-right .ensures) ∙ not-true (guard-right .result) (c .if3 .taken)))
+    sym (passed (the-has .result) (the-has .ensures ∙ ap (has (args .acts)) (action-at .ensures)) (if2 .left)
+    ∙ failed (guard-right .result) _ (guard-right .ensures ∙ ap (λ g. within (guardSet g) (args .clocks)) (guard-at .ensures)) (c .if3 .taken))
 
 resets-at-requires : tie.Need-resets-at-requires
 resets-at-requires c κs = search needs
@@ -70,7 +71,9 @@ returns-4 c =
     let resets-at = c .before .before .resets-at in
     let lies-in = c .before .lies-in in
     let clocks = args .clocks in
-    sym (both-go _ _ (ap (has (args .acts)) (sym (action-at .ensures)) ∙ sym (the-has .ensures) ∙ not-false (the-has .result) (if2 .left)) ∙ both-go _ _ (ap (λ g. within (guardSet g) clocks) (sym (guard-at .ensures)) ∙ sym (guard-right .ensures) ∙ not-false (guard-right .result) (if3 .left)) ∙ both-no _ _ (ap (λ x. within x clocks) (sym (resets-at .ensures)) ∙ sym (lies-in .ensures) ∙ not-true (lies-in .result) (c .if4 .taken)))
+    sym (passed (the-has .result) (the-has .ensures ∙ ap (has (args .acts)) (action-at .ensures)) (if2 .left)
+    ∙ passed (guard-right .result) (guard-right .ensures ∙ ap (λ g. within (guardSet g) clocks) (guard-at .ensures)) (if3 .left)
+    ∙ failed (lies-in .result) _ (lies-in .ensures ∙ ap (λ x. within x clocks) (resets-at .ensures)) (c .if4 .taken))
 
 target-at-requires : tie.Need-target-at-requires
 target-at-requires c κs = search needs
@@ -89,7 +92,9 @@ returns-5 c =
     let lies-in = c .before .before .lies-in in
     let clocks = args .clocks in
     ap (λ n. ltb n (args .states)) (c .target-at .ensures)
-    ∙ sym (both-go _ _ (ap (has (args .acts)) (sym (action-at .ensures)) ∙ sym (the-has .ensures) ∙ not-false (the-has .result) (if2 .left)) ∙ both-go _ _ (ap (λ g. within (guardSet g) clocks) (sym (guard-at .ensures)) ∙ sym (guard-right .ensures) ∙ not-false (guard-right .result) (if3 .left)) ∙ both-go _ _ (ap (λ x. within x clocks) (sym (resets-at .ensures)) ∙ sym (lies-in .ensures) ∙ not-false (lies-in .result) (c .before .if4 .left)))
+    ∙ sym (passed (the-has .result) (the-has .ensures ∙ ap (has (args .acts)) (action-at .ensures)) (if2 .left)
+    ∙ passed (guard-right .result) (guard-right .ensures ∙ ap (λ g. within (guardSet g) clocks) (guard-at .ensures)) (if3 .left)
+    ∙ passed (lies-in .result) (lies-in .ensures ∙ ap (λ x. within x clocks) (resets-at .ensures)) (c .before .if4 .left))
 
 pub row-right-spec : {M : Type 1} → statement M
 row-right-spec =

@@ -2,14 +2,13 @@
 use mathlib.Core.Path.{sym, _∙_, ap}
 use Prim.Native.Nat.{_+_, _*_}
 use native.Mathlib.Omega.{arith}
-use borrow.Author.Tests.{not-true, not-false}
 use Rattle.laws.specs.Fold.{all}
-use Rattle.laws.proofs.TestLaws.{both-no, both-go}
 use Rattle.layout.specs.Layout.{rowWords, rowsAt, imageWords, countOf}
 use Rattle.blocks.specs.Blocks.{zeroWords, endBefore}
 use Rattle.blocks.proofs.BlockFacts.{end-few}
 use Rattle.table.specs.Rows.{compRowsRight, rowsRight}
 use borrow.Author.Needs.{needs}
+use Rattle.blocks.proofs.CodeTests.{passed, failed}
 use Rattle.table.proofs.rows_right.Statement.{statement}
 use Rattle.table.proofs.rows_right.Tie as tie
 
@@ -25,7 +24,7 @@ returns c =
     let args = c .before .before .before .before .args in
     let count-of = c .before .before .count-of in
     let comps-rows-right = c .before .comps-rows-right in
-    sym (both-no _ _ (ap (all (compRowsRight (args .t .now)) 0) (sym (count-of .ensures)) ∙ sym (comps-rows-right .ensures) ∙ not-true (comps-rows-right .result) (c .if1 .taken)))
+    sym (failed (comps-rows-right .result) _ (comps-rows-right .ensures ∙ ap (all (compRowsRight (args .t .now)) 0) (count-of .ensures)) (c .if1 .taken))
 
 end-before-requires : tie.Need-end-before-requires
 end-before-requires c κs = search needs
@@ -59,7 +58,7 @@ returns-2 c =
     let t = args .t .now in
     c .zero-words .ensures
     ∙ ap (λ n. zeroWords t (rowsAt + rowWords * n) imageWords) (c .before .end-before .ensures ∙ ap (endBefore t) (count-of .ensures))
-    ∙ sym (both-go _ _ (ap (all (compRowsRight t) 0) (sym (count-of .ensures)) ∙ sym (comps-rows-right .ensures) ∙ not-false (comps-rows-right .result) (if1 .left)))
+    ∙ sym (passed (comps-rows-right .result) (comps-rows-right .ensures ∙ ap (all (compRowsRight t) 0) (count-of .ensures)) (if1 .left))
 
 pub rows-right-spec : {M : Type 1} → statement M
 rows-right-spec =
