@@ -1,0 +1,22 @@
+-- Bytes put into a buffer: they stand from a place on, and everything else is as it was.
+use mathlib.Core.Path.{_≡_}
+use mathlib.Core.Bool.{Bool, cond}
+use mathlib.Core.List.{List, [], _∷_}
+use Prim.Native.Nat.{ℕ, _+_}
+use lib.ListN.{length}
+use lib.Seq.{sets}
+use Rattle.laws.specs.Sets.{has}
+use Rattle.iosa.specs.Text.{comma, decimal}
+
+-- d′ is d with bs from at on, and r the place behind them
+pub record Put (d : List ℕ) (at : ℕ) (bs d′ : List ℕ) (r : ℕ) : Type 0 where
+  pub text : d′ ≡ sets d at bs
+  pub place : r ≡ at + length bs
+
+-- every number of a model's text has one digit or two
+abbrev pub twoDigits : ℕ
+twoDigits = 100
+
+-- what clock x adds to a resets field, behind other clocks or as the first
+abbrev pub memberBytes : ℕ → ℕ → Bool → List ℕ
+memberBytes s x more = cond (has s x) (cond more (comma ∷ decimal x) (decimal x)) []
