@@ -6,7 +6,7 @@ use Prim.Native.Nat.{ℕ, _+_}
 use lib.ListN.{length}
 use lib.Seq.{sets}
 use Rattle.laws.specs.Sets.{has}
-use Rattle.iosa.specs.Text.{comma, decimal}
+use Rattle.iosa.specs.Text.{comma, decimal, rowLine}
 
 -- d′ is d with bs from at on, and r the place behind them
 pub record Put (d : List ℕ) (at : ℕ) (bs d′ : List ℕ) (r : ℕ) : Type 0 where
@@ -20,3 +20,7 @@ twoDigits = 100
 -- what clock x adds to a resets field, behind other clocks or as the first
 abbrev pub memberBytes : ℕ → ℕ → Bool → List ℕ
 memberBytes s x more = cond (has s x) (cond more (comma ∷ decimal x) (decimal x)) []
+
+-- the line of a row, by its numbers
+abbrev pub rowBytes : ℕ → ℕ → ℕ → ℕ → ℕ → List ℕ
+rowBytes s g a r t = rowLine (record { from = s; guard = g; action = a; resets = r; target = t })

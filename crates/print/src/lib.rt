@@ -4,8 +4,8 @@ ghost use mathlib.Core.List.{_∷_, [], _++_};
 ghost use Prim.Native.Nat.{ℕ, _+_, _≤_, _<_, _^_};
 ghost use lib.ListN.{length};
 ghost use Rattle.answer.specs.Limits.{maxClocks};
-ghost use Rattle.iosa.specs.Text.{tab, decimal, guardField, setField, joined, members, actWord, rowWord, fieldsAfter, rowLine};
-ghost use Rattle.print.specs.Put.{Put, twoDigits, memberBytes};
+ghost use Rattle.iosa.specs.Text.{tab, decimal, guardField, setField, joined, members, actWord, fieldsAfter};
+ghost use Rattle.print.specs.Put.{Put, twoDigits, memberBytes, rowBytes};
 use answer::Model;
 use fields::Sign;
 
@@ -113,4 +113,45 @@ pub fn put_act_line(buf: &mut [u8], at: usize, n: u64, kind: &[u8]) -> usize
     let c = put_word(buf, b, b"\t");
     let d = put_word(buf, c, kind);
     put_word(buf, d, b"\n")
+}
+
+fn put_guard_field(buf: &mut [u8], at: usize, g: u64) -> usize
+    requires { ⌜ (g < twoDigits) × (at + 1 + length (guardField g) ≤ length (now buf)) ⌝ }
+    ensures { λ r. ⌜ Put (now (buf .entry)) at (tab ∷ guardField g) (now (buf .exit)) r ⌝ }
+{
+    let next = put_word(buf, at, b"\t");
+    put_guard(buf, next, g)
+}
+
+fn put_set_field(buf: &mut [u8], at: usize, s: u64) -> usize
+    requires { ⌜ at + 1 + length (setField s) ≤ length (now buf) ⌝ }
+    ensures { λ r. ⌜ Put (now (buf .entry)) at (tab ∷ setField s) (now (buf .exit)) r ⌝ }
+{
+    let next = put_word(buf, at, b"\t");
+    put_set(buf, next, s)
+}
+
+pub fn put_row_line(
+    buf: &mut [u8],
+    at: usize,
+    from: u64,
+    guard: u64,
+    action: u64,
+    resets: u64,
+    target: u64,
+) -> usize
+    requires { ⌜ (from < twoDigits)
+        × (guard < twoDigits)
+        × (action < twoDigits)
+        × (target < twoDigits)
+        × (at + length (rowBytes from guard action resets target) ≤ length (now buf)) ⌝ }
+    ensures { λ r. ⌜ Put (now (buf .entry)) at (rowBytes from guard action resets target) (now (buf .exit)) r ⌝ }
+{
+    let a = put_word(buf, at, b"row");
+    let b = put_number_field(buf, a, from);
+    let c = put_guard_field(buf, b, guard);
+    let d = put_number_field(buf, c, action);
+    let e = put_set_field(buf, d, resets);
+    let f = put_number_field(buf, e, target);
+    put_word(buf, f, b"\n")
 }

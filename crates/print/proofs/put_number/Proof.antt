@@ -1,72 +1,60 @@
+-- `print::put_number` meets its contract.
+use mathlib.Core.Path.{_≡_, refl, sym, ap}
+use native.Mathlib.Numerals.{add-one}
+use native.Mathlib.Omega.{arith}
+use lib.ListN.{length, length-set}
+use Rattle.print.proofs.PutLaws.{put-as, one-digit, two-digits}
 use borrow.Author.Needs.{needs}
 use Rattle.print.proofs.put_number.Statement.{statement}
 use Rattle.print.proofs.put_number.Tie as tie
-use Rattle.print.proofs.put_number.Reads as reads
-use Rattle.print.proofs.put_number.Lts as lts
 
--- src/lib.rt:29:32
 cast-buf : tie.Need-cast-buf
 cast-buf c = search needs
 
--- src/lib.rt:29:19
 add-buf : tie.Need-add-buf
 add-buf c = search needs
 
--- src/lib.rt:29:9
 slice-write-buf : tie.Need-slice-write-buf
-slice-write-buf c = ?
+slice-write-buf c = let a = c .before .args in omega (arith, ap length (one-digit (a .n) (c .if1 .taken)))
 
--- src/lib.rt:30:16
 add-result : tie.Need-add-result
 add-result c = search needs
 
--- src/lib.rt:30:9
 same-length : tie.Need-same-length
 same-length c = search needs
 
--- src/lib.rt:30:9
 returns : tie.Need-returns
-returns c = ?
+returns c = let a = c .before .args in put-as (sym (one-digit (a .n) (c .if1 .taken))) (record { text = refl; place = refl })
 
--- src/lib.rt:32:28
 cast-buf-2 : tie.Need-cast-buf-2
 cast-buf-2 c = search needs
 
--- src/lib.rt:32:15
 add-buf-2 : tie.Need-add-buf-2
 add-buf-2 c = search needs
 
--- src/lib.rt:32:5
 slice-write-buf-2 : tie.Need-slice-write-buf-2
-slice-write-buf-2 c = ?
+slice-write-buf-2 c = let a = c .before .args in omega (arith, ap length (two-digits (a .n) (c .if1 .left) (c .before .pre .0)))
 
--- src/lib.rt:33:32
 cast-buf-3 : tie.Need-cast-buf-3
 cast-buf-3 c = search needs
 
--- src/lib.rt:33:19
 add-buf-3 : tie.Need-add-buf-3
 add-buf-3 c = search needs
 
--- src/lib.rt:33:9
 add-buf-4 : tie.Need-add-buf-4
 add-buf-4 c = search needs
 
--- src/lib.rt:33:5
 slice-write-buf-3 : tie.Need-slice-write-buf-3
-slice-write-buf-3 c = ?
+slice-write-buf-3 c = let a = c .before .args in simp length-set (omega (arith, ap length (two-digits (a .n) (c .if1 .left) (c .before .pre .0))))
 
--- src/lib.rt:34:5
 add-result-2 : tie.Need-add-result-2
 add-result-2 c = search needs
 
--- src/lib.rt:24:1
 same-length-2 : tie.Need-same-length-2
 same-length-2 c = search needs
 
--- src/lib.rt:24:1
 returns-2 : tie.Need-returns-2
-returns-2 c = ?
+returns-2 c = let a = c .before .args in put-as (sym (two-digits (a .n) (c .if1 .left) (c .before .pre .0))) (record { text = rw (add-one (a .at)); place = refl })
 
 pub put-number-spec : {M : Type 1} → statement M
 put-number-spec =

@@ -1,53 +1,54 @@
+-- `print::put_word` meets its contract. The loop's invariant: the first i bytes of the word stand there.
+use mathlib.Core.Path.{_≡_, refl, sym, _∙_, ap}
+use Prim.Native.Nat.{ℕ, _+_, _-_, _≤_}
+use native.Mathlib.Nat.{add-zero, add-assoc}
+use native.Mathlib.Omega.{arith}
+use lib.ListN.{length, take}
+use lib.Seq.{take-all}
+use denote.Ref.{now}
+use Rattle.print.specs.Put.{Put}
+use Rattle.print.proofs.PutLaws.{put-next, put-as, put-at, put-length}
 use Rattle.print.proofs.put_word.Statement.{statement}
 use Rattle.print.proofs.put_word.Tie as tie
-use Rattle.print.proofs.put_word.Reads as reads
-use Rattle.print.proofs.put_word.Lts as lts
 
 abbrev Inv-loop : tie.InvT-loop
-Inv-loop buf₀ at w i₀ buf i = ?
+Inv-loop buf₀ at w i₀ buf i = (i ≤ length w) × Put buf₀ at (take i w) buf (at + i)
 
 abbrev μ-loop : tie.MeasureT-loop
-μ-loop buf₀ at w i₀ buf i = ?
+μ-loop buf₀ at w i₀ buf i = length w - i
 
--- src/lib.rt:17:5
 loop-holds : tie.Need-loop-holds Inv-loop μ-loop
-loop-holds c = ?
+loop-holds c = (omega arith, record { text = refl; place = refl })
 
--- src/lib.rt:18:23
 shared-slice-read-buf : tie.Need-shared-slice-read-buf Inv-loop μ-loop
-shared-slice-read-buf c = ?
+shared-slice-read-buf c = omega arith
 
--- src/lib.rt:18:13
 add-buf : tie.Need-add-buf Inv-loop μ-loop
-add-buf c = ?
+add-buf c = omega arith
 
--- src/lib.rt:18:9
 slice-write-buf : tie.Need-slice-write-buf Inv-loop μ-loop
-slice-write-buf c = ?
+slice-write-buf c = omega (arith, put-length (c .before .before .loop .inv .1))
 
--- src/lib.rt:19:9
 add-i : tie.Need-add-i Inv-loop μ-loop
-add-i c = ?
+add-i c = omega arith
 
--- src/lib.rt:17:5
 loop-less : tie.Need-loop-less Inv-loop μ-loop
-loop-less c = ?
+loop-less c = omega arith
 
--- src/lib.rt:17:5
 loop-again : tie.Need-loop-again Inv-loop μ-loop
-loop-again c = ?
+loop-again c =
+    let l = c .before .before .loop in
+    let e : c .before .before .before .args .at + (l .i + 1) ≡ c .before .before .before .args .at + l .i + 1 = omega arith in
+    (omega arith, put-at (sym e) (put-next (now (c .before .before .before .args .w)) (l .i) (c .before .loop-test .taken) (l .inv .1)))
 
--- src/lib.rt:21:5
 add-result : tie.Need-add-result Inv-loop μ-loop
-add-result c = ?
+add-result c = omega arith
 
--- src/lib.rt:12:1
 same-length : tie.Need-same-length Inv-loop μ-loop
-same-length c = ?
+same-length c = put-length (c .before .loop .inv .1)
 
--- src/lib.rt:12:1
 returns : tie.Need-returns Inv-loop μ-loop
-returns c = ?
+returns c = put-as (take-all (c .before .loop .i) (now (c .before .before .args .w)) (c .loop-test .left)) (c .before .loop .inv .1)
 
 pub put-word-spec : {M : Type 1} → statement M
 put-word-spec =
