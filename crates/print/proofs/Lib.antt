@@ -1,1 +1,6 @@
+<<<<<<< HEAD
 pub mod PutLaws
+=======
+pub mod LaidLaws
+pub mod PrintLaws
+>>>>>>> main
