@@ -1,6 +1,2 @@
-<<<<<<< HEAD
-pub mod PutLaws
-=======
 pub mod LaidLaws
 pub mod PrintLaws
->>>>>>> main

@@ -1,31 +1,3 @@
-<<<<<<< HEAD
--- Bytes put into a buffer: they stand from a place on, and everything else is as it was.
-use mathlib.Core.Path.{_≡_}
-use mathlib.Core.Bool.{Bool, cond}
-use mathlib.Core.List.{List, [], _∷_}
-use Prim.Native.Nat.{ℕ, _+_}
-use lib.ListN.{length}
-use lib.Seq.{sets}
-use Rattle.laws.specs.Sets.{has}
-use Rattle.iosa.specs.Text.{comma, decimal, rowLine}
-
--- d′ is d with bs from at on, and r the place behind them
-pub record Put (d : List ℕ) (at : ℕ) (bs d′ : List ℕ) (r : ℕ) : Type 0 where
-  pub text : d′ ≡ sets d at bs
-  pub place : r ≡ at + length bs
-
--- every number of a model's text has one digit or two
-abbrev pub twoDigits : ℕ
-twoDigits = 100
-
--- what clock x adds to a resets field, behind other clocks or as the first
-abbrev pub memberBytes : ℕ → ℕ → Bool → List ℕ
-memberBytes s x more = cond (has s x) (cond more (comma ∷ decimal x) (decimal x)) []
-
--- the line of a row, by its numbers
-abbrev pub rowBytes : ℕ → ℕ → ℕ → ℕ → ℕ → List ℕ
-rowBytes s g a r t = rowLine (record { from = s; guard = g; action = a; resets = r; target = t })
-=======
 -- Bytes put into a lent buffer: they stand from a place on, and the rest is as it was.
 use mathlib.Core.Path.{_≡_}
 use mathlib.Core.Bool.{cond}
@@ -51,4 +23,3 @@ pub record Put (old : List ℕ) (at : ℕ) (bytes new : List ℕ) (next : ℕ) :
 -- "no needless zero in front": the digit of a scale, where the number reaches it
 unfoldable pub leading : ℕ → ℕ → List ℕ
 leading n scale = cond (ltb n scale) [] ((byte0 + n / scale % 10) ∷ [])
->>>>>>> main

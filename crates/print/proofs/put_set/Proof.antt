@@ -1,11 +1,3 @@
-<<<<<<< HEAD
--- `print::put_set` meets its contract.
-use mathlib.Core.Path.{_≡_, refl, sym, _∙_, ap}
-use native.Mathlib.Omega.{arith}
-use lib.ListN.{length}
-use denote.Ref.{now}
-use Rattle.print.proofs.PutLaws.{put-as, set-dash, set-clocks}
-=======
 -- `print::put_set` meets its contract: what is put, and the members that are left, make the whole.
 use mathlib.Core.Path.{_≡_, refl, sym, _∙_, ap, ap₂}
 use mathlib.Core.List.{List, [], _∷_, _++_}
@@ -19,33 +11,10 @@ use Rattle.iosa.specs.Text.{comma, decimal, setField}
 use Rattle.print.specs.Put.{Room, Put}
 use Rattle.print.proofs.LaidLaws.{Left, Next, left-all, left-as, left-room, left-next, left-none, left-last, last-room, put-as}
 use Rattle.print.proofs.PrintLaws.{no-set, clocksIn, each, lowest-below, set-parts, each-parts, fewer, none-left}
->>>>>>> main
 use borrow.Author.Needs.{needs}
 use Rattle.print.proofs.put_set.Statement.{statement}
 use Rattle.print.proofs.put_set.Tie as tie
 
-<<<<<<< HEAD
-slice-aggregate-put-word : tie.Need-slice-aggregate-put-word
-slice-aggregate-put-word c = search needs
-
-put-word-requires : tie.Need-put-word-requires
-put-word-requires c κs = omega (arith, ap length (set-dash (c .before .before .before .before .args .s) (c .before .before .if1 .taken)))
-
-same-length : tie.Need-same-length
-same-length c = search needs
-
-returns : tie.Need-returns
-returns c = put-as (sym (set-dash (c .before .before .before .before .before .before .before .args .s) (c .before .before .before .before .before .if1 .taken))) (c .before .before .put-word .ensures)
-
-put-members-requires : tie.Need-put-members-requires
-put-members-requires c κs = omega (arith, ap length (set-clocks (c .before .before .before .args .s) (c .before .if1 .left)))
-
-same-length-2 : tie.Need-same-length-2
-same-length-2 c = search needs
-
-returns-2 : tie.Need-returns-2
-returns-2 c = put-as (sym (set-clocks (c .before .before .before .before .before .before .args .s) (c .before .before .before .before .if1 .left))) (c .before .before .put-members .ensures)
-=======
 abbrev Inv-loop : tie.InvT-loop
 Inv-loop out₀ at s first next₀ left₀ out next left = (left < 2 ^ wordBits) × Left out₀ next₀ (each (clocksIn left₀)) out next (each (clocksIn left))
 
@@ -119,19 +88,11 @@ lowest-requires-2 c κs = search needs
 
 minus-requires-2 : tie.Need-minus-requires-2 Inv-loop μ-loop
 minus-requires-2 c κs = search needs
->>>>>>> main
 
 pub put-set-spec : {M : Type 1} → statement M
 put-set-spec =
     tie.close
     (tie.spec
-<<<<<<< HEAD
-    slice-aggregate-put-word
-    put-word-requires
-    same-length
-    returns
-    put-members-requires
-=======
     Inv-loop
     μ-loop
     put-byte-requires
@@ -148,6 +109,5 @@ put-set-spec =
     minus-requires-2
     loop-less
     loop-again
->>>>>>> main
     same-length-2
     returns-2)
