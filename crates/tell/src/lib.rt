@@ -49,7 +49,14 @@ fn put_verdict(out: &mut [u8], at: usize, stable: bool) -> usize
 }
 
 // "Last line: `stable` or `unsettled`, steps, clocks reset, state".
-pub fn put_last(out: &mut [u8], at: usize, stable: bool, steps: usize, resets: u64, x: State) -> usize
+pub fn put_last(
+    out: &mut [u8],
+    at: usize,
+    stable: bool,
+    steps: usize,
+    resets: u64,
+    x: State,
+) -> usize
     requires { ⌜ (x .count ≤ maxComponents) × Room (now out) at (lastLine (endsWith stable steps resets x)) ⌝ }
     ensures { λ r. ⌜ Put (now (out .entry)) at (lastLine (endsWith stable steps resets x)) (now (out .exit)) r ⌝ }
 {
@@ -97,12 +104,27 @@ fn put_place(out: &mut [u8], at: usize, p: Place) -> usize
         Place::Index(n) => put_one(out, at, n as u64),
         Place::Clock(x) => put_one(out, at, x),
         Place::Component(i) => put_one(out, at, i as u64),
-        Place::Cell { component, state, action } => put_three(out, at, component as u64, state as u64, action),
-        Place::Clash { component, state, lower, higher } => {
-            put_four(out, at, component as u64, state as u64, lower, higher)
-        },
-        Place::SharedAction { action, first, second } => put_three(out, at, action, first as u64, second as u64),
-        Place::SharedClock { clock, first, second } => put_three(out, at, clock, first as u64, second as u64),
+        Place::Cell {
+            component,
+            state,
+            action,
+        } => put_three(out, at, component as u64, state as u64, action),
+        Place::Clash {
+            component,
+            state,
+            lower,
+            higher,
+        } => { put_four(out, at, component as u64, state as u64, lower, higher) },
+        Place::SharedAction {
+            action,
+            first,
+            second,
+        } => put_three(out, at, action, first as u64, second as u64),
+        Place::SharedClock {
+            clock,
+            first,
+            second,
+        } => put_three(out, at, clock, first as u64, second as u64),
     }
 }
 

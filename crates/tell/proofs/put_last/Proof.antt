@@ -1,31 +1,46 @@
+-- `tell::put_last` meets its contract.
+use mathlib.Core.List.{_∷_, _++_}
+use denote.Ref.{now}
+use Rattle.answer.specs.State.{partsOf}
+use Rattle.iosa.specs.Text.{tab, decimal}
+use Rattle.tell.specs.Tell.{tailOf, verdictWord, endsWith}
+use Rattle.print.proofs.LaidLaws.{left-last, last-room}
+use Rattle.tell.proofs.TellLaws.{last-parts, left-parts, part-room, part-put}
 use borrow.Author.Needs.{needs}
 use Rattle.tell.proofs.put_last.Statement.{statement}
 use Rattle.tell.proofs.put_last.Tie as tie
-use Rattle.tell.proofs.put_last.Reads as reads
-use Rattle.tell.proofs.put_last.Lts as lts
-use Rattle.print.proofs.put_behind.Reads as put-behind-reads
-use Rattle.tell.proofs.put_tail.Reads as put-tail-reads
-use Rattle.tell.proofs.put_verdict.Reads as put-verdict-reads
 
--- src/lib.rt:56:9
 put-verdict-requires : tie.Need-put-verdict-requires
-put-verdict-requires c κs = ?
+put-verdict-requires c κs =
+    let a = c .before .before .args in
+    let l0 = left-parts (now (a .out)) (a .at) ((verdictWord (a .stable)) ++ ((tab ∷ decimal (a .steps)) ++ (tailOf (a .resets) (partsOf (a .x))))) (last-parts (endsWith (a .stable) (a .steps) (a .resets) (a .x))) (c .before .before .pre .1) in
+    part-room (verdictWord (a .stable)) ((tab ∷ decimal (a .steps)) ++ (tailOf (a .resets) (partsOf (a .x)))) l0
 
--- src/lib.rt:57:9
 put-behind-requires : tie.Need-put-behind-requires
-put-behind-requires c κs = ?
+put-behind-requires c κs =
+    let a = c .before .before .before .before .before .before .args in
+    let l0 = left-parts (now (a .out)) (a .at) ((verdictWord (a .stable)) ++ ((tab ∷ decimal (a .steps)) ++ (tailOf (a .resets) (partsOf (a .x))))) (last-parts (endsWith (a .stable) (a .steps) (a .resets) (a .x))) (c .before .before .before .before .before .before .pre .1) in
+    let l1 = part-put (verdictWord (a .stable)) ((tab ∷ decimal (a .steps)) ++ (tailOf (a .resets) (partsOf (a .x)))) l0 (c .before .before .before .put-verdict .ensures) in
+    part-room (tab ∷ decimal (a .steps)) (tailOf (a .resets) (partsOf (a .x))) l1
 
--- src/lib.rt:58:5
 put-tail-requires : tie.Need-put-tail-requires
-put-tail-requires c κs = ?
+put-tail-requires c κs =
+    let a = c .before .before .before .before .before .before .before .before .before .before .args in
+    let l0 = left-parts (now (a .out)) (a .at) ((verdictWord (a .stable)) ++ ((tab ∷ decimal (a .steps)) ++ (tailOf (a .resets) (partsOf (a .x))))) (last-parts (endsWith (a .stable) (a .steps) (a .resets) (a .x))) (c .before .before .before .before .before .before .before .before .before .before .pre .1) in
+    let l1 = part-put (verdictWord (a .stable)) ((tab ∷ decimal (a .steps)) ++ (tailOf (a .resets) (partsOf (a .x)))) l0 (c .before .before .before .before .before .before .before .put-verdict .ensures) in
+    let l2 = part-put (tab ∷ decimal (a .steps)) (tailOf (a .resets) (partsOf (a .x))) l1 (c .before .before .before .put-behind .ensures) in
+    (c .before .before .before .before .before .before .before .before .before .before .pre .0, last-room l2)
 
--- src/lib.rt:52:1
 same-length : tie.Need-same-length
 same-length c = search needs
 
--- src/lib.rt:52:1
 returns : tie.Need-returns
-returns c = ?
+returns c =
+    let a = c .before .before .before .before .before .before .before .before .before .before .before .before .before .args in
+    let l0 = left-parts (now (a .out)) (a .at) ((verdictWord (a .stable)) ++ ((tab ∷ decimal (a .steps)) ++ (tailOf (a .resets) (partsOf (a .x))))) (last-parts (endsWith (a .stable) (a .steps) (a .resets) (a .x))) (c .before .before .before .before .before .before .before .before .before .before .before .before .before .pre .1) in
+    let l1 = part-put (verdictWord (a .stable)) ((tab ∷ decimal (a .steps)) ++ (tailOf (a .resets) (partsOf (a .x)))) l0 (c .before .before .before .before .before .before .before .before .before .before .put-verdict .ensures) in
+    let l2 = part-put (tab ∷ decimal (a .steps)) (tailOf (a .resets) (partsOf (a .x))) l1 (c .before .before .before .before .before .before .put-behind .ensures) in
+    left-last l2 (c .before .before .put-tail .ensures)
 
 pub put-last-spec : {M : Type 1} → statement M
 put-last-spec =

@@ -1,48 +1,74 @@
+-- `tell::put_refused` meets its contract.
+use mathlib.Core.List.{_∷_, _++_}
+use native.Mathlib.Omega.{arith}
+use denote.Ref.{now}
+use Rattle.answer.specs.Told.{valuesAt}
+use Rattle.iosa.specs.Text.{tab, lf, decimal, joined}
+use Rattle.iosa.specs.Report.{refusedWord}
+use Rattle.print.proofs.LaidLaws.{left-last, last-room}
+use Rattle.tell.proofs.TellLaws.{refused-parts, left-parts, part-room, part-put}
 use borrow.Author.Needs.{needs}
 use Rattle.tell.proofs.put_refused.Statement.{statement}
 use Rattle.tell.proofs.put_refused.Tie as tie
-use Rattle.tell.proofs.put_refused.Reads as reads
-use Rattle.tell.proofs.put_refused.Lts as lts
-use Rattle.print.proofs.put_behind.Reads as put-behind-reads
-use Rattle.print.proofs.put_byte.Reads as put-byte-reads
-use Rattle.print.proofs.put_word.Reads as put-word-reads
-use Rattle.tell.proofs.put_place.Reads as put-place-reads
 
--- src/lib.rt:114:43
 slice-aggregate-put-word : tie.Need-slice-aggregate-put-word
 slice-aggregate-put-word c = search needs
 
--- src/lib.rt:114:9
 put-word-requires : tie.Need-put-word-requires
-put-word-requires c κs = ?
+put-word-requires c κs =
+    let a = c .before .before .before .args in
+    let l0 = left-parts (now (a .out)) (a .at) ((refusedWord) ++ ((tab ∷ decimal (a .r .number)) ++ ((tab ∷ []) ++ ((joined (valuesAt (a .r .place))) ++ (lf ∷ []))))) (refused-parts (a .r)) (c .before .before .before .pre) in
+    part-room (refusedWord) ((tab ∷ decimal (a .r .number)) ++ ((tab ∷ []) ++ ((joined (valuesAt (a .r .place))) ++ (lf ∷ [])))) l0
 
--- src/lib.rt:115:57
 cast-put-behind : tie.Need-cast-put-behind
 cast-put-behind c = search needs
 
--- src/lib.rt:115:9
 put-behind-requires : tie.Need-put-behind-requires
-put-behind-requires c κs = ?
+put-behind-requires c κs =
+    let a = c .before .before .before .before .before .before .before .before .args in
+    let l0 = left-parts (now (a .out)) (a .at) ((refusedWord) ++ ((tab ∷ decimal (a .r .number)) ++ ((tab ∷ []) ++ ((joined (valuesAt (a .r .place))) ++ (lf ∷ []))))) (refused-parts (a .r)) (c .before .before .before .before .before .before .before .before .pre) in
+    let l1 = part-put (refusedWord) ((tab ∷ decimal (a .r .number)) ++ ((tab ∷ []) ++ ((joined (valuesAt (a .r .place))) ++ (lf ∷ [])))) l0 (c .before .before .before .before .put-word .ensures) in
+    part-room (tab ∷ decimal (a .r .number)) ((tab ∷ []) ++ ((joined (valuesAt (a .r .place))) ++ (lf ∷ []))) l1
 
--- src/lib.rt:116:9
 put-byte-requires : tie.Need-put-byte-requires
-put-byte-requires c κs = ?
+put-byte-requires c κs =
+    let a = c .before .before .before .before .before .before .before .before .before .before .before .before .args in
+    let l0 = left-parts (now (a .out)) (a .at) ((refusedWord) ++ ((tab ∷ decimal (a .r .number)) ++ ((tab ∷ []) ++ ((joined (valuesAt (a .r .place))) ++ (lf ∷ []))))) (refused-parts (a .r)) (c .before .before .before .before .before .before .before .before .before .before .before .before .pre) in
+    let l1 = part-put (refusedWord) ((tab ∷ decimal (a .r .number)) ++ ((tab ∷ []) ++ ((joined (valuesAt (a .r .place))) ++ (lf ∷ [])))) l0 (c .before .before .before .before .before .before .before .before .put-word .ensures) in
+    let l2 = part-put (tab ∷ decimal (a .r .number)) ((tab ∷ []) ++ ((joined (valuesAt (a .r .place))) ++ (lf ∷ []))) l1 (c .before .before .before .put-behind .ensures) in
+    omega (arith, part-room (tab ∷ []) ((joined (valuesAt (a .r .place))) ++ (lf ∷ [])) l2)
 
--- src/lib.rt:118:9
 put-place-requires : tie.Need-put-place-requires
-put-place-requires c κs = ?
+put-place-requires c κs =
+    let a = c .before .before .before .before .before .before .before .before .before .before .before .before .before .before .before .before .args in
+    let l0 = left-parts (now (a .out)) (a .at) ((refusedWord) ++ ((tab ∷ decimal (a .r .number)) ++ ((tab ∷ []) ++ ((joined (valuesAt (a .r .place))) ++ (lf ∷ []))))) (refused-parts (a .r)) (c .before .before .before .before .before .before .before .before .before .before .before .before .before .before .before .before .pre) in
+    let l1 = part-put (refusedWord) ((tab ∷ decimal (a .r .number)) ++ ((tab ∷ []) ++ ((joined (valuesAt (a .r .place))) ++ (lf ∷ [])))) l0 (c .before .before .before .before .before .before .before .before .before .before .before .before .put-word .ensures) in
+    let l2 = part-put (tab ∷ decimal (a .r .number)) ((tab ∷ []) ++ ((joined (valuesAt (a .r .place))) ++ (lf ∷ []))) l1 (c .before .before .before .before .before .before .before .put-behind .ensures) in
+    let l3 = part-put (tab ∷ []) ((joined (valuesAt (a .r .place))) ++ (lf ∷ [])) l2 (c .before .before .before .put-byte .ensures) in
+    part-room (joined (valuesAt (a .r .place))) (lf ∷ []) l3
 
--- src/lib.rt:119:5
 put-byte-requires-2 : tie.Need-put-byte-requires-2
-put-byte-requires-2 c κs = ?
+put-byte-requires-2 c κs =
+    let a = c .before .before .before .before .before .before .before .before .before .before .before .before .before .before .before .before .before .before .before .before .args in
+    let l0 = left-parts (now (a .out)) (a .at) ((refusedWord) ++ ((tab ∷ decimal (a .r .number)) ++ ((tab ∷ []) ++ ((joined (valuesAt (a .r .place))) ++ (lf ∷ []))))) (refused-parts (a .r)) (c .before .before .before .before .before .before .before .before .before .before .before .before .before .before .before .before .before .before .before .before .pre) in
+    let l1 = part-put (refusedWord) ((tab ∷ decimal (a .r .number)) ++ ((tab ∷ []) ++ ((joined (valuesAt (a .r .place))) ++ (lf ∷ [])))) l0 (c .before .before .before .before .before .before .before .before .before .before .before .before .before .before .before .before .put-word .ensures) in
+    let l2 = part-put (tab ∷ decimal (a .r .number)) ((tab ∷ []) ++ ((joined (valuesAt (a .r .place))) ++ (lf ∷ []))) l1 (c .before .before .before .before .before .before .before .before .before .before .before .put-behind .ensures) in
+    let l3 = part-put (tab ∷ []) ((joined (valuesAt (a .r .place))) ++ (lf ∷ [])) l2 (c .before .before .before .before .before .before .before .put-byte .ensures) in
+    let l4 = part-put (joined (valuesAt (a .r .place))) (lf ∷ []) l3 (c .before .before .before .put-place .ensures) in
+    omega (arith, last-room l4)
 
--- src/lib.rt:110:1
 same-length : tie.Need-same-length
 same-length c = search needs
 
--- src/lib.rt:110:1
 returns : tie.Need-returns
-returns c = ?
+returns c =
+    let a = c .before .before .before .before .before .before .before .before .before .before .before .before .before .before .before .before .before .before .before .before .before .before .before .args in
+    let l0 = left-parts (now (a .out)) (a .at) ((refusedWord) ++ ((tab ∷ decimal (a .r .number)) ++ ((tab ∷ []) ++ ((joined (valuesAt (a .r .place))) ++ (lf ∷ []))))) (refused-parts (a .r)) (c .before .before .before .before .before .before .before .before .before .before .before .before .before .before .before .before .before .before .before .before .before .before .before .pre) in
+    let l1 = part-put (refusedWord) ((tab ∷ decimal (a .r .number)) ++ ((tab ∷ []) ++ ((joined (valuesAt (a .r .place))) ++ (lf ∷ [])))) l0 (c .before .before .before .before .before .before .before .before .before .before .before .before .before .before .before .before .before .before .before .put-word .ensures) in
+    let l2 = part-put (tab ∷ decimal (a .r .number)) ((tab ∷ []) ++ ((joined (valuesAt (a .r .place))) ++ (lf ∷ []))) l1 (c .before .before .before .before .before .before .before .before .before .before .before .before .before .before .put-behind .ensures) in
+    let l3 = part-put (tab ∷ []) ((joined (valuesAt (a .r .place))) ++ (lf ∷ [])) l2 (c .before .before .before .before .before .before .before .before .before .before .put-byte .ensures) in
+    let l4 = part-put (joined (valuesAt (a .r .place))) (lf ∷ []) l3 (c .before .before .before .before .before .before .put-place .ensures) in
+    left-last l4 (c .before .before .put-byte2 .ensures)
 
 pub put-refused-spec : {M : Type 1} → statement M
 put-refused-spec =

@@ -1,39 +1,60 @@
+-- `tell::put_step` meets its contract.
+use mathlib.Core.List.{_∷_, _++_}
+use denote.Ref.{now}
+use Rattle.answer.specs.State.{partsOf}
+use Rattle.iosa.specs.Text.{tab, decimal}
+use Rattle.iosa.specs.Report.{stepWord}
+use Rattle.tell.specs.Tell.{tailOf, goneWith}
+use Rattle.print.proofs.LaidLaws.{left-last, last-room}
+use Rattle.tell.proofs.TellLaws.{step-parts, left-parts, part-room, part-put}
 use borrow.Author.Needs.{needs}
 use Rattle.tell.proofs.put_step.Statement.{statement}
 use Rattle.tell.proofs.put_step.Tie as tie
-use Rattle.tell.proofs.put_step.Reads as reads
-use Rattle.tell.proofs.put_step.Lts as lts
-use Rattle.print.proofs.put_behind.Reads as put-behind-reads
-use Rattle.print.proofs.put_word.Reads as put-word-reads
-use Rattle.tell.proofs.put_tail.Reads as put-tail-reads
 
--- src/lib.rt:34:42
 slice-aggregate-put-word : tie.Need-slice-aggregate-put-word
 slice-aggregate-put-word c = search needs
 
--- src/lib.rt:34:9
 put-word-requires : tie.Need-put-word-requires
-put-word-requires c κs = ?
+put-word-requires c κs =
+    let a = c .before .before .before .args in
+    let l0 = left-parts (now (a .out)) (a .at) ((stepWord) ++ ((tab ∷ decimal (a .n)) ++ ((tab ∷ decimal (a .action)) ++ (tailOf (a .resets) (partsOf (a .x)))))) (step-parts (a .n) (a .action) (goneWith (a .resets) (a .x))) (c .before .before .before .pre .1) in
+    part-room (stepWord) ((tab ∷ decimal (a .n)) ++ ((tab ∷ decimal (a .action)) ++ (tailOf (a .resets) (partsOf (a .x))))) l0
 
--- src/lib.rt:35:9
 put-behind-requires : tie.Need-put-behind-requires
-put-behind-requires c κs = ?
+put-behind-requires c κs =
+    let a = c .before .before .before .before .before .before .before .args in
+    let l0 = left-parts (now (a .out)) (a .at) ((stepWord) ++ ((tab ∷ decimal (a .n)) ++ ((tab ∷ decimal (a .action)) ++ (tailOf (a .resets) (partsOf (a .x)))))) (step-parts (a .n) (a .action) (goneWith (a .resets) (a .x))) (c .before .before .before .before .before .before .before .pre .1) in
+    let l1 = part-put (stepWord) ((tab ∷ decimal (a .n)) ++ ((tab ∷ decimal (a .action)) ++ (tailOf (a .resets) (partsOf (a .x))))) l0 (c .before .before .before .put-word .ensures) in
+    part-room (tab ∷ decimal (a .n)) ((tab ∷ decimal (a .action)) ++ (tailOf (a .resets) (partsOf (a .x)))) l1
 
--- src/lib.rt:36:9
 put-behind-requires-2 : tie.Need-put-behind-requires-2
-put-behind-requires-2 c κs = ?
+put-behind-requires-2 c κs =
+    let a = c .before .before .before .before .before .before .before .before .before .before .before .args in
+    let l0 = left-parts (now (a .out)) (a .at) ((stepWord) ++ ((tab ∷ decimal (a .n)) ++ ((tab ∷ decimal (a .action)) ++ (tailOf (a .resets) (partsOf (a .x)))))) (step-parts (a .n) (a .action) (goneWith (a .resets) (a .x))) (c .before .before .before .before .before .before .before .before .before .before .before .pre .1) in
+    let l1 = part-put (stepWord) ((tab ∷ decimal (a .n)) ++ ((tab ∷ decimal (a .action)) ++ (tailOf (a .resets) (partsOf (a .x))))) l0 (c .before .before .before .before .before .before .before .put-word .ensures) in
+    let l2 = part-put (tab ∷ decimal (a .n)) ((tab ∷ decimal (a .action)) ++ (tailOf (a .resets) (partsOf (a .x)))) l1 (c .before .before .before .put-behind .ensures) in
+    part-room (tab ∷ decimal (a .action)) (tailOf (a .resets) (partsOf (a .x))) l2
 
--- src/lib.rt:37:5
 put-tail-requires : tie.Need-put-tail-requires
-put-tail-requires c κs = ?
+put-tail-requires c κs =
+    let a = c .before .before .before .before .before .before .before .before .before .before .before .before .before .before .before .args in
+    let l0 = left-parts (now (a .out)) (a .at) ((stepWord) ++ ((tab ∷ decimal (a .n)) ++ ((tab ∷ decimal (a .action)) ++ (tailOf (a .resets) (partsOf (a .x)))))) (step-parts (a .n) (a .action) (goneWith (a .resets) (a .x))) (c .before .before .before .before .before .before .before .before .before .before .before .before .before .before .before .pre .1) in
+    let l1 = part-put (stepWord) ((tab ∷ decimal (a .n)) ++ ((tab ∷ decimal (a .action)) ++ (tailOf (a .resets) (partsOf (a .x))))) l0 (c .before .before .before .before .before .before .before .before .before .before .before .put-word .ensures) in
+    let l2 = part-put (tab ∷ decimal (a .n)) ((tab ∷ decimal (a .action)) ++ (tailOf (a .resets) (partsOf (a .x)))) l1 (c .before .before .before .before .before .before .before .put-behind .ensures) in
+    let l3 = part-put (tab ∷ decimal (a .action)) (tailOf (a .resets) (partsOf (a .x))) l2 (c .before .before .before .put-behind2 .ensures) in
+    (c .before .before .before .before .before .before .before .before .before .before .before .before .before .before .before .pre .0, last-room l3)
 
--- src/lib.rt:30:1
 same-length : tie.Need-same-length
 same-length c = search needs
 
--- src/lib.rt:30:1
 returns : tie.Need-returns
-returns c = ?
+returns c =
+    let a = c .before .before .before .before .before .before .before .before .before .before .before .before .before .before .before .before .before .before .args in
+    let l0 = left-parts (now (a .out)) (a .at) ((stepWord) ++ ((tab ∷ decimal (a .n)) ++ ((tab ∷ decimal (a .action)) ++ (tailOf (a .resets) (partsOf (a .x)))))) (step-parts (a .n) (a .action) (goneWith (a .resets) (a .x))) (c .before .before .before .before .before .before .before .before .before .before .before .before .before .before .before .before .before .before .pre .1) in
+    let l1 = part-put (stepWord) ((tab ∷ decimal (a .n)) ++ ((tab ∷ decimal (a .action)) ++ (tailOf (a .resets) (partsOf (a .x))))) l0 (c .before .before .before .before .before .before .before .before .before .before .before .before .before .before .put-word .ensures) in
+    let l2 = part-put (tab ∷ decimal (a .n)) ((tab ∷ decimal (a .action)) ++ (tailOf (a .resets) (partsOf (a .x)))) l1 (c .before .before .before .before .before .before .before .before .before .before .put-behind .ensures) in
+    let l3 = part-put (tab ∷ decimal (a .action)) (tailOf (a .resets) (partsOf (a .x))) l2 (c .before .before .before .before .before .before .put-behind2 .ensures) in
+    left-last l3 (c .before .before .put-tail .ensures)
 
 pub put-step-spec : {M : Type 1} → statement M
 put-step-spec =

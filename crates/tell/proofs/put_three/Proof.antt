@@ -1,30 +1,45 @@
+-- `tell::put_three` meets its contract.
+use mathlib.Core.Path.{refl}
+use mathlib.Core.List.{_∷_, _++_}
+use denote.Ref.{now}
+use Rattle.iosa.specs.Text.{comma, decimal}
+use Rattle.print.proofs.LaidLaws.{left-none}
+use Rattle.tell.proofs.TellLaws.{three-parts, left-parts, part-room, part-put}
 use borrow.Author.Needs.{needs}
 use Rattle.tell.proofs.put_three.Statement.{statement}
 use Rattle.tell.proofs.put_three.Tie as tie
-use Rattle.tell.proofs.put_three.Reads as reads
-use Rattle.tell.proofs.put_three.Lts as lts
-use Rattle.print.proofs.put_behind.Reads as put-behind-reads
-use Rattle.print.proofs.put_decimal.Reads as put-decimal-reads
 
--- src/lib.rt:72:9
 put-decimal-requires : tie.Need-put-decimal-requires
-put-decimal-requires c κs = ?
+put-decimal-requires c κs =
+    let a = c .before .before .args in
+    let l0 = left-parts (now (a .out)) (a .at) ((decimal (a .i)) ++ ((comma ∷ decimal (a .j)) ++ ((comma ∷ decimal (a .k)) ++ ([])))) (three-parts (a .i) (a .j) (a .k)) (c .before .before .pre) in
+    part-room (decimal (a .i)) ((comma ∷ decimal (a .j)) ++ ((comma ∷ decimal (a .k)) ++ ([]))) l0
 
--- src/lib.rt:73:9
 put-behind-requires : tie.Need-put-behind-requires
-put-behind-requires c κs = ?
+put-behind-requires c κs =
+    let a = c .before .before .before .before .before .before .args in
+    let l0 = left-parts (now (a .out)) (a .at) ((decimal (a .i)) ++ ((comma ∷ decimal (a .j)) ++ ((comma ∷ decimal (a .k)) ++ ([])))) (three-parts (a .i) (a .j) (a .k)) (c .before .before .before .before .before .before .pre) in
+    let l1 = part-put (decimal (a .i)) ((comma ∷ decimal (a .j)) ++ ((comma ∷ decimal (a .k)) ++ ([]))) l0 (c .before .before .before .put-decimal .ensures) in
+    part-room (comma ∷ decimal (a .j)) ((comma ∷ decimal (a .k)) ++ ([])) l1
 
--- src/lib.rt:74:5
 put-behind-requires-2 : tie.Need-put-behind-requires-2
-put-behind-requires-2 c κs = ?
+put-behind-requires-2 c κs =
+    let a = c .before .before .before .before .before .before .before .before .before .before .args in
+    let l0 = left-parts (now (a .out)) (a .at) ((decimal (a .i)) ++ ((comma ∷ decimal (a .j)) ++ ((comma ∷ decimal (a .k)) ++ ([])))) (three-parts (a .i) (a .j) (a .k)) (c .before .before .before .before .before .before .before .before .before .before .pre) in
+    let l1 = part-put (decimal (a .i)) ((comma ∷ decimal (a .j)) ++ ((comma ∷ decimal (a .k)) ++ ([]))) l0 (c .before .before .before .before .before .before .before .put-decimal .ensures) in
+    let l2 = part-put (comma ∷ decimal (a .j)) ((comma ∷ decimal (a .k)) ++ ([])) l1 (c .before .before .before .put-behind .ensures) in
+    part-room (comma ∷ decimal (a .k)) ([]) l2
 
--- src/lib.rt:68:1
 same-length : tie.Need-same-length
 same-length c = search needs
 
--- src/lib.rt:68:1
 returns : tie.Need-returns
-returns c = ?
+returns c =
+    let a = c .before .before .before .before .before .before .before .before .before .before .before .before .before .args in
+    let l0 = left-parts (now (a .out)) (a .at) ((decimal (a .i)) ++ ((comma ∷ decimal (a .j)) ++ ((comma ∷ decimal (a .k)) ++ ([])))) (three-parts (a .i) (a .j) (a .k)) (c .before .before .before .before .before .before .before .before .before .before .before .before .before .pre) in
+    let l1 = part-put (decimal (a .i)) ((comma ∷ decimal (a .j)) ++ ((comma ∷ decimal (a .k)) ++ ([]))) l0 (c .before .before .before .before .before .before .before .before .before .before .put-decimal .ensures) in
+    let l2 = part-put (comma ∷ decimal (a .j)) ((comma ∷ decimal (a .k)) ++ ([])) l1 (c .before .before .before .before .before .before .put-behind .ensures) in
+    left-none (part-put (comma ∷ decimal (a .k)) [] l2 (c .before .before .put-behind2 .ensures)) refl
 
 pub put-three-spec : {M : Type 1} → statement M
 put-three-spec =

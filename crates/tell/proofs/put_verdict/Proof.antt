@@ -1,41 +1,34 @@
+-- `tell::put_verdict` meets its contract.
+use mathlib.Core.Path.{sym}
+use denote.Ref.{now}
+use Rattle.tell.proofs.TellLaws.{room-as, put-as, verdict-stable, verdict-unsettled}
 use borrow.Author.Needs.{needs}
 use Rattle.tell.proofs.put_verdict.Statement.{statement}
 use Rattle.tell.proofs.put_verdict.Tie as tie
-use Rattle.tell.proofs.put_verdict.Reads as reads
-use Rattle.tell.proofs.put_verdict.Lts as lts
-use Rattle.print.proofs.put_word.Reads as put-word-reads
 
--- src/lib.rt:46:41
 slice-aggregate-put-word : tie.Need-slice-aggregate-put-word
 slice-aggregate-put-word c = search needs
 
--- src/lib.rt:46:9
 put-word-requires : tie.Need-put-word-requires
-put-word-requires c κs = ?
+put-word-requires c κs = room-as (now (c .before .before .before .before .args .out)) (c .before .before .before .before .args .at) (verdict-stable (c .before .before .before .before .args .stable) (c .before .before .if1 .taken)) (c .before .before .before .before .pre)
 
--- src/lib.rt:46:9
 same-length : tie.Need-same-length
 same-length c = search needs
 
--- src/lib.rt:46:9
 returns : tie.Need-returns
-returns c = ?
+returns c = put-as (sym (verdict-stable (c .before .before .before .before .before .before .before .args .stable) (c .before .before .before .before .before .if1 .taken))) (c .before .before .put-word .ensures)
 
--- src/lib.rt:48:30
 slice-aggregate-put-word-2 : tie.Need-slice-aggregate-put-word-2
 slice-aggregate-put-word-2 c = search needs
 
--- src/lib.rt:48:5
 put-word-requires-2 : tie.Need-put-word-requires-2
-put-word-requires-2 c κs = ?
+put-word-requires-2 c κs = room-as (now (c .before .before .before .before .args .out)) (c .before .before .before .before .args .at) (verdict-unsettled (c .before .before .before .before .args .stable) (c .before .before .if1 .left)) (c .before .before .before .before .pre)
 
--- src/lib.rt:41:1
 same-length-2 : tie.Need-same-length-2
 same-length-2 c = search needs
 
--- src/lib.rt:41:1
 returns-2 : tie.Need-returns-2
-returns-2 c = ?
+returns-2 c = put-as (sym (verdict-unsettled (c .before .before .before .before .before .before .before .args .stable) (c .before .before .before .before .before .if1 .left))) (c .before .before .put-word2 .ensures)
 
 pub put-verdict-spec : {M : Type 1} → statement M
 put-verdict-spec =
