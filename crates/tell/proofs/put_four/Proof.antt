@@ -1,6 +1,6 @@
 -- `tell::put_four` meets its contract.
 use mathlib.Core.Path.{refl}
-use mathlib.Core.List.{_∷_, _++_}
+use mathlib.Core.List.{[], _∷_, _++_}
 use denote.Ref.{now}
 use Rattle.iosa.specs.Text.{comma, decimal}
 use Rattle.print.proofs.LaidLaws.{left-none}

@@ -1,6 +1,6 @@
 -- `tell::put_one` meets its contract.
 use mathlib.Core.Path.{refl}
-use mathlib.Core.List.{_++_}
+use mathlib.Core.List.{[], _++_}
 use denote.Ref.{now}
 use Rattle.iosa.specs.Text.{decimal}
 use Rattle.print.proofs.LaidLaws.{left-none}
