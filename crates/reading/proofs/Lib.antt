@@ -1,0 +1,7 @@
+pub mod CheckedFixes
+pub mod ReadDetermined
+pub mod Raise
+pub mod LaidHolds
+pub mod LaidWord
+pub mod SetsLaws
+pub mod LaidRow
