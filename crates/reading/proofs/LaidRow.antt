@@ -114,3 +114,41 @@ module _
             ∙ sym (ap (λ j. getD (blockOf (rowCount cs) (withRow c r)) j 0) e ∙ first-at (rowCount cs) (withRow c r) (k - headWords) (omega arith))
       ];
     }
+
+    own-rows : RowsAre t′ (rowCount cs) (withRow c r .rows)
+    unfolding rowCount
+    own-rows = record {
+      words = λ k v h q. elim (decLt k (length (c .rows))) [
+        | yes p ↦
+            sets-before t₁ at (wordsOf r) (rowsAt + rowWords * (rowCount cs + k) + v) (omega arith)
+            ∙ in-rows (rowsAt + rowWords * (rowCount cs + k) + v) (omega arith)
+            ∙ a .parts .1 .words k v p q
+            ∙ sym (ap (λ x. getD (wordsOf x) v 0) (List·getD-append (c .rows) (r ∷ []) noRow k p))
+        | no p ↦
+            let e : k ≡ length (c .rows) = omega (arith, length-append (c .rows) (r ∷ [])) in
+            let z : rowsAt + rowWords * (rowCount cs + k) + v ≡ at + v = omega arith in
+            ap (λ j. getD t′ j 0) z
+            ∙ sets-inside t₁ at (wordsOf r) v q (omega (arith, a .long, u .long))
+            ∙ sym (ap (λ j. getD (wordsOf (getD (c .rows ++ r ∷ []) j noRow)) v 0) e ∙ ap (λ x. getD (wordsOf x) v 0) (getD-append-seam (c .rows) r [] noRow))
+      ];
+    }
+
+    older : Parts t′ cs
+    unfolding blockWord rowCount
+    older =
+        parts-kept t t′ cs (λ j k h q. in-block (blockAt j k) (omega arith) ∙ u .before (blockAt j k) (omega arith))
+        (λ x v h q. sets-before t₁ at (wordsOf r) (rowsAt + rowWords * x + v) (omega arith) ∙ in-rows (rowsAt + rowWords * x + v) (omega arith))
+        (a .parts .2)
+
+    pub laid-row : Laid t′ (withRow c r ∷ cs)
+    unfolding blockWord rowCount countOf
+    laid-row = record {
+      long = omega (arith, length-sets t₁ at (wordsOf r), u .long, a .long);
+      count = in-block 0 (omega arith) ∙ u .before 0 (omega arith) ∙ a .count;
+      parts = (own-block, own-rows, older);
+      no-block = λ j k h q d. in-block (blockAt j k) (omega arith) ∙ u .behind (blockAt j k) (omega arith) ∙ a .no-block j k h q d;
+      no-row = λ x v h q d.
+          sets-behind t₁ at (wordsOf r) (rowsAt + rowWords * x + v) (omega (arith, length-append (c .rows) (r ∷ [])))
+          ∙ in-rows (rowsAt + rowWords * x + v) (omega arith)
+          ∙ a .no-row x v (omega (arith, length-append (c .rows) (r ∷ []))) q d;
+    }

@@ -5,3 +5,4 @@ pub mod LaidHolds
 pub mod LaidWord
 pub mod SetsLaws
 pub mod LaidRow
+pub mod LaidComp

@@ -15,3 +15,10 @@ pub record Raised (d : List ℕ) (lo hi : ℕ) (d′ : List ℕ) : Type 0 where
   pub inside : (j : ℕ) → lo ≤ j → j < hi → getD d′ j 0 ≡ getD d j 0 + 1
   pub before : (j : ℕ) → j < lo → getD d′ j 0 ≡ getD d j 0
   pub behind : (j : ℕ) → hi ≤ j → getD d′ j 0 ≡ getD d j 0
+
+-- the words from lo on, below hi, are v, and every other word is as it was
+pub record Filled (d : List ℕ) (lo hi v : ℕ) (d′ : List ℕ) : Type 0 where
+  pub long : length d′ ≡ length d
+  pub inside : (j : ℕ) → lo ≤ j → j < hi → getD d′ j 0 ≡ v
+  pub before : (j : ℕ) → j < lo → getD d′ j 0 ≡ getD d j 0
+  pub behind : (j : ℕ) → hi ≤ j → getD d′ j 0 ≡ getD d j 0
