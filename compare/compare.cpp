@@ -82,7 +82,8 @@ void try_recognise(const Table& table) {
   Said ours;
   if (floodneedle_recognise(front(lent_table), lent_table.size())) ours.answer.kind = FLOODNEEDLE_DONE;
   else ours = said(second::Answer{second::refuse(20, {0})});
-  judge("recognise", ours, said(second::recognise(lent(table))), lent_table == table);
+  const Said theirs = said(second::recognise(lent(table)));
+  judge("recognise", ours, theirs, lent_table == table);
 #endif
 }
 
@@ -94,7 +95,8 @@ void try_read(const Bytes& text, const Table& into) {
     Said ours = unanswered();
     floodneedle_check_text(front(lent_text), lent_text.size(), &ours.answer);
     Table room(second::image_words);
-    judge("check_text", ours, said(second::read(lent(text), {front(room), room.size()})), lent_text == text);
+    const Said theirs = said(second::read(lent(text), {front(room), room.size()}));
+    judge("check_text", ours, theirs, lent_text == text);
   }
 #endif
 #ifdef HAVE_READ
@@ -102,7 +104,8 @@ void try_read(const Bytes& text, const Table& into) {
   Table mine = into, other = into;
   Said ours = unanswered();
   floodneedle_read(front(lent_text), lent_text.size(), front(mine), mine.size(), &ours.answer);
-  judge("read", ours, said(second::read(lent(text), {front(other), other.size()})), lent_text == text && mine == other);
+  const Said theirs = said(second::read(lent(text), {front(other), other.size()}));
+  judge("read", ours, theirs, lent_text == text && mine == other);
 #endif
 }
 
@@ -113,7 +116,8 @@ void try_write(const Table& table, const Bytes& into) {
   Bytes mine = into, other = into;
   Said ours = unanswered();
   floodneedle_write(front(lent_table), lent_table.size(), front(mine), mine.size(), &ours.answer);
-  judge("write", ours, said(second::write(lent(table), {front(other), other.size()})), lent_table == table && mine == other);
+  const Said theirs = said(second::write(lent(table), {front(other), other.size()}));
+  judge("write", ours, theirs, lent_table == table && mine == other);
 #endif
 }
 
@@ -123,7 +127,8 @@ void try_accept(const Table& table) {
   Table lent_table = table;
   Said ours = unanswered();
   floodneedle_accept(front(lent_table), lent_table.size(), &ours.answer);
-  judge("accept", ours, said(second::accept(lent(table))), lent_table == table);
+  const Said theirs = said(second::accept(lent(table)));
+  judge("accept", ours, theirs, lent_table == table);
 #endif
 }
 
@@ -133,7 +138,8 @@ void try_confluent(const Table& table) {
   Table lent_table = table;
   Said ours = unanswered();
   floodneedle_confluent(front(lent_table), lent_table.size(), &ours.answer);
-  judge("confluent", ours, said(second::confluent(lent(table))), lent_table == table);
+  const Said theirs = said(second::confluent(lent(table)));
+  judge("confluent", ours, theirs, lent_table == table);
 #endif
 }
 
@@ -144,7 +150,8 @@ void try_step(const Table& table, const Bytes& state) {
   Bytes lent_state = state;
   Said ours = unanswered_state();
   floodneedle_step(front(lent_table), lent_table.size(), front(lent_state), lent_state.size(), ours.after.data(), &ours.answer);
-  judge("step", ours, said(second::step(lent(table), lent(state))), lent_table == table && lent_state == state);
+  const Said theirs = said(second::step(lent(table), lent(state)));
+  judge("step", ours, theirs, lent_table == table && lent_state == state);
 #endif
 }
 
@@ -170,7 +177,8 @@ void try_step_by(const Table& table, const Bytes& state, std::uint64_t action) {
   Said ours = unanswered_state();
   floodneedle_step_by(front(lent_table), lent_table.size(), front(lent_state), lent_state.size(), action, ours.after.data(),
                       &ours.answer);
-  judge("step_by", ours, said(second::step_by(lent(table), lent(state), action)), lent_table == table && lent_state == state);
+  const Said theirs = said(second::step_by(lent(table), lent(state), action));
+  judge("step_by", ours, theirs, lent_table == table && lent_state == state);
 #endif
 }
 
@@ -182,8 +190,8 @@ void try_settle(const Table& table, const Bytes& state, std::uint64_t budget, co
   Said ours = unanswered_state();
   floodneedle_settle(front(lent_table), lent_table.size(), front(lent_state), lent_state.size(), budget, front(mine), mine.size(),
                      ours.after.data(), &ours.answer);
-  judge("settle", ours, said(second::settle(lent(table), lent(state), budget, {front(other), other.size()})),
-        lent_table == table && lent_state == state && mine == other);
+  const Said theirs = said(second::settle(lent(table), lent(state), budget, {front(other), other.size()}));
+  judge("settle", ours, theirs, lent_table == table && lent_state == state && mine == other);
 #endif
 }
 
@@ -195,8 +203,8 @@ void try_settle_list(const Table& table, const Bytes& state, const Bytes& list) 
   Said ours = unanswered_state();
   floodneedle_settle_list(front(lent_table), lent_table.size(), front(lent_state), lent_state.size(), front(lent_list),
                           lent_list.size(), ours.after.data(), &ours.answer);
-  judge("settle_list", ours, said(second::settle_list(lent(table), lent(state), lent(list))),
-        lent_table == table && lent_state == state && lent_list == list);
+  const Said theirs = said(second::settle_list(lent(table), lent(state), lent(list)));
+  judge("settle_list", ours, theirs, lent_table == table && lent_state == state && lent_list == list);
 #endif
 }
 
@@ -209,8 +217,8 @@ void try_timed_step(const Table& table, const Bytes& state, const Clocks& clocks
   Said ours = unanswered_state();
   floodneedle_timed_step(front(lent_table), lent_table.size(), front(lent_state), lent_state.size(), front(mine), mine.size(),
                          ours.after.data(), &ours.answer);
-  judge("timed_step", ours, said(second::timed_step(lent(table), lent(state), {front(other), other.size()})),
-        lent_table == table && lent_state == state && mine == other);
+  const Said theirs = said(second::timed_step(lent(table), lent(state), {front(other), other.size()}));
+  judge("timed_step", ours, theirs, lent_table == table && lent_state == state && mine == other);
 #endif
 }
 
@@ -220,7 +228,8 @@ void try_merge(const Table& table, std::uint64_t i, const Table& into) {
   Table lent_table = table, mine = into, other = into;
   Said ours = unanswered();
   floodneedle_merge(front(lent_table), lent_table.size(), i, front(mine), mine.size(), &ours.answer);
-  judge("merge", ours, said(second::merge(lent(table), i, {front(other), other.size()})), lent_table == table && mine == other);
+  const Said theirs = said(second::merge(lent(table), i, {front(other), other.size()}));
+  judge("merge", ours, theirs, lent_table == table && mine == other);
 #endif
 }
 

@@ -55,6 +55,10 @@ bool floodneedle_recognise(const uint64_t *table, size_t table_words);
 /* Done exactly where the bytes are the text of a model; else 1, or 2 to 7 at the first faulty line, or 8. */
 void floodneedle_check_text(const uint8_t *text, size_t text_bytes, struct floodneedle_answer *answer);
 
+/* Writes the one text of the table's model to the buffer's front; `count` is its length. Reading it again gives the same image.
+ * Refuses: 20, 24 (bytes needed). */
+void floodneedle_write(const uint64_t *table, size_t table_words, uint8_t *text, size_t text_bytes, struct floodneedle_answer *answer);
+
 #ifdef __cplusplus
 }
 #endif

@@ -2,7 +2,8 @@
 // An answer comes back as words, always written; a refusal leaves every other buffer as it was.
 use words::Words;
 ghost use mathlib.Core.Path.{_≡_};
-ghost use Rattle.words.specs.Words.{checkedWords};
+ghost use Rattle.words.specs.Words.{checkedWords, writtenWords};
+ghost use Rattle.text.specs.Write.{writeOn, textAfter};
 ghost use Rattle.iosa.specs.Reading.{readOf};
 ghost use Rattle.survey.specs.Survey.{checkedOf};
 ghost use Rattle.table.specs.IsImage.{isImage};
@@ -22,4 +23,18 @@ pub extern "C" fn floodneedle_check_text(text: &[u8], answer: &mut [u64; Words::
 {
     let checked = survey::check_text(text);
     *answer = words::checked_words(checked);
+}
+
+// Writes the one text of the table's model.
+#[no_mangle]
+pub extern "C" fn floodneedle_write(
+    table: &[u64],
+    text: &mut [u8],
+    answer: &mut [u64; Words::COUNT],
+)
+    ensures answer { λ _. ⌜ now (answer .exit) ≡ writtenWords (writeOn (now (table .entry)) (now (text .entry))) ⌝ }
+    ensures buffer { λ _. ⌜ now (text .exit) ≡ textAfter (writeOn (now (table .entry)) (now (text .entry))) (now (table .entry)) (now (text .entry)) ⌝ }
+{
+    let written = text::write(table, text);
+    *answer = words::written_words(written);
 }
