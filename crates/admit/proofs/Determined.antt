@@ -33,7 +33,7 @@ says-fixes (Refused r) Fine x e f = let p = refused-told r x e in let w : x ≡ 
 says-fixes (Refused r) (Refused q) x e f =
     let p = refused-told r x e in
     let k = refused-told q x f in
-    let same : refused {A = Unit {0}} (k .0) ≡ refused (p .0) = sym (k .2) ∙ p .2 in
+    let same : _≡_ {A = Answer (Unit {0})} (refused (k .0)) (refused (p .0)) = sym (k .2) ∙ p .2 in
     let t : k .0 ≡ p .0 = cc in
     ap Refused (told-fixes r q (p .0) (p .1) (k .1 ∙ ap some t))
 

@@ -28,32 +28,32 @@ drop-out [] (suc i) h = refl
 drop-out (x ∷ xs) zero h = absurd (omega arith)
 drop-out (x ∷ xs) (suc i) h = drop-out xs i (omega arith)
 
+-- 10 to 14 and 18 of the components from i on
+unfoldable pub faultsLeft : List ℕ → ℕ → Option Told
+faultsLeft t i = faultFrom i (rowCount (take i (modelOf t))) (drop i (modelOf t))
+
+unfoldable pub clashesLeft : List ℕ → ℕ → Option Told
+clashesLeft t i = clashAmong i (drop i (modelOf t))
+
+pub all-left : (t : List ℕ) → faultsLeft t 0 ≡ faultFrom 0 0 (modelOf t)
+unfolding faultsLeft rowCount
+all-left t = refl
+
+pub all-clashes : (t : List ℕ) → clashesLeft t 0 ≡ clashAmong 0 (modelOf t)
+unfolding clashesLeft
+all-clashes t = refl
+
+pub none-left : (t : List ℕ) (i : ℕ) → countOf t ≤ i → faultsLeft t i ≡ none
+unfolding faultsLeft faultFrom
+none-left t i h = ap (faultFrom i (rowCount (take i (modelOf t)))) (drop-out (modelOf t) i (omega (arith, model-length t)))
+
+pub no-clash-left : (t : List ℕ) (i : ℕ) → countOf t ≤ i → clashesLeft t i ≡ none
+unfolding clashesLeft clashAmong
+no-clash-left t i h = ap (clashAmong i) (drop-out (modelOf t) i (omega (arith, model-length t)))
+
 module _ (t : List ℕ) (im : Image t) where
   abbrev m : Model
   m = modelOf t
-
-  -- 10 to 14 and 18 of the components from i on
-  pub faultsLeft : ℕ → Option Told
-  faultsLeft i = faultFrom i (rowCount (take i m)) (drop i m)
-
-  pub clashesLeft : ℕ → Option Told
-  clashesLeft i = clashAmong i (drop i m)
-
-  pub all-left : faultsLeft 0 ≡ faultFrom 0 0 m
-  unfolding faultsLeft rowCount
-  all-left = refl
-
-  pub all-clashes : clashesLeft 0 ≡ clashAmong 0 m
-  unfolding clashesLeft
-  all-clashes = refl
-
-  pub none-left : (i : ℕ) → countOf t ≤ i → faultsLeft i ≡ none
-  unfolding faultsLeft faultFrom
-  none-left i h = rw (drop-out m i (omega (arith, model-length t)))
-
-  pub no-clash-left : (i : ℕ) → countOf t ≤ i → clashesLeft i ≡ none
-  unfolding clashesLeft clashAmong
-  no-clash-left i h = rw (drop-out m i (omega (arith, model-length t)))
 
   module _ (i : ℕ) (h : i < countOf t) where
     inside : i < length m
@@ -65,7 +65,7 @@ module _ (t : List ℕ) (im : Image t) where
     count-next : rowCount (take i m) + length (compOf t i .rows) ≡ rowCount (take (i + 1) m)
     count-next = ap (λ c. rowCount (take i m) + length (c .rows)) (sym (comp-at t i h)) ∙ sym (rows-next m i inside) ∙ ap (λ k. rowCount (take k m)) (sym (add-one i))
 
-    pub fault-next : faultsLeft i ≡ orElse (faultAt i (firstOf t i 0) (compOf t i)) (faultsLeft (i + 1))
+    pub fault-next : faultsLeft t i ≡ orElse (faultAt i (firstOf t i 0) (compOf t i)) (faultsLeft t (i + 1))
     unfolding faultsLeft faultFrom
     fault-next =
         ap (faultFrom i (rowCount (take i m))) next
@@ -76,7 +76,7 @@ module _ (t : List ℕ) (im : Image t) where
         go none e = rw (← e) (ap₂ (λ k n. faultFrom k n (drop (i + 1) m)) (sym (add-one i)) count-next)
         go (some u) e = rw (← e)
 
-    pub clash-next : clashesLeft i ≡ orElse (fault18 i (compOf t i)) (clashesLeft (i + 1))
+    pub clash-next : clashesLeft t i ≡ orElse (fault18 i (compOf t i)) (clashesLeft t (i + 1))
     unfolding clashesLeft clashAmong fault18
     clash-next = ap (clashAmong i) next ∙ go (check18 (compOf t i))
       where

@@ -1,3 +1,4 @@
 pub mod Determined
 pub mod Exactly
 pub mod EachInTurn
+pub mod AfterAccept

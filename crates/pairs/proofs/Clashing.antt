@@ -126,9 +126,9 @@ module _ (k : Shared) (t : List ℕ) (im : Image t) where
       let j = r .second in
       in-joined (clashAt k t) (countOf t) j x (r .inside) (⊎-elim
       (λ p. let q = in-and (leftOf k (at i)) (rightOf k (at j)) x p in
-          or-in-l (leftBelow k t j ∩ rightOf k (at j)) (rightBelow k t j ∩ leftOf k (at j)) x (and-in (leftBelow k t j) (rightOf k (at j)) x (in-joined (λ i. leftOf k (at i)) j i x (r .order) (q .0)) (q .1)))
+      or-in-l (leftBelow k t j ∩ rightOf k (at j)) (rightBelow k t j ∩ leftOf k (at j)) x (and-in (leftBelow k t j) (rightOf k (at j)) x (in-joined (λ i. leftOf k (at i)) j i x (r .order) (q .0)) (q .1)))
       (λ p. let q = in-and (rightOf k (at i)) (leftOf k (at j)) x p in
-          or-in-r (leftBelow k t j ∩ rightOf k (at j)) (rightBelow k t j ∩ leftOf k (at j)) x (and-in (rightBelow k t j) (leftOf k (at j)) x (in-joined (λ i. rightOf k (at i)) j i x (r .order) (q .0)) (q .1)))
+      or-in-r (leftBelow k t j ∩ rightOf k (at j)) (rightBelow k t j ∩ leftOf k (at j)) x (and-in (rightBelow k t j) (leftOf k (at j)) x (in-joined (λ i. rightOf k (at i)) j i x (r .order) (q .0)) (q .1)))
       (in-or (leftOf k (at i) ∩ rightOf k (at j)) (rightOf k (at i) ∩ leftOf k (at j)) x (r .clash)))
 
   set-below : (x : ℕ) → x ∈ clashSet k t → x < wordBits

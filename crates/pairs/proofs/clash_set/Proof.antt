@@ -50,11 +50,12 @@ loop-again c =
     let s0 = c .before .before .before .before .before .before .before .before .before in
     let t = now (s0 .args .t) in
     let k = s0 .args .kind in
-    let s = c .before .before .before .before .sides-of in
-    (search needs,
-    ap₂ _∪_ (l .inv .1) (s .ensures .0) ∙ sym (over-last (λ i s. s ∪ leftOf k (compOf t i)) 0 (l .i) 0 (omega arith)),
-    ap₂ _∪_ (l .inv .2) (s .ensures .1) ∙ sym (over-last (λ i s. s ∪ rightOf k (compOf t i)) 0 (l .i) 0 (omega arith)),
-    ap₂ _∪_ (l .inv .3) (ap₂ _∪_ (ap₂ _∩_ (l .inv .1) (s .ensures .1)) (ap₂ _∩_ (l .inv .2) (s .ensures .0))) ∙ sym (over-last (λ j s. s ∪ clashAt k t j) 0 (l .i) 0 (omega arith)))
+    let s = c .before .before .before .before .sides-of in (
+      search needs,
+      ap₂ _∪_ (l .inv .1) (s .ensures .0) ∙ sym (over-last (λ i s. s ∪ leftOf k (compOf t i)) 0 (l .i) 0 (omega arith)),
+      ap₂ _∪_ (l .inv .2) (s .ensures .1) ∙ sym (over-last (λ i s. s ∪ rightOf k (compOf t i)) 0 (l .i) 0 (omega arith)),
+      ap₂ _∪_ (l .inv .3) (ap₂ _∪_ (ap₂ _∩_ (l .inv .1) (s .ensures .1)) (ap₂ _∩_ (l .inv .2) (s .ensures .0))) ∙ sym (over-last (λ j s. s ∪ clashAt k t j) 0 (l .i) 0 (omega arith)),
+    )
 
 returns : tie.Need-returns Inv-loop μ-loop
 unfolding clashSet
