@@ -17,7 +17,14 @@ use Rattle.iosa.specs.Product.{Within}
 use Rattle.iosa.specs.Step.{inRange, stateFault, urgentStep}
 use Rattle.iosa.specs.Settle.{budgetFault, traceFault, settleOf, settle}
 use Rattle.iosa.specs.Report.{refusedLine, answerLines}
+use Rattle.iosa.proofs.Acceptance.Accepted.{accepted-exactly}
+use Rattle.iosa.proofs.Acceptance.ConfluentExactly.{confluent-accepted}
 use Rattle.iosa.proofs.Settling.Called.{state-faultless, settle-answers-exactly}
+use Rattle.answer.specs.declared.State.{State}
+use Rattle.answer.specs.State.{partsOf}
+use Rattle.layout.specs.Image.{Image, modelOf}
+use Rattle.layout.proofs.RowsOfRange.{well-formed}
+use Rattle.settling.specs.Gives.{Ready}
 use Rattle.answer.specs.declared.Place.the-variants.{Whole}
 use Rattle.tell.specs.Tell.{refusedText}
 use Rattle.steplines.specs.Run.{linesOf, runText}
@@ -38,3 +45,9 @@ module _ (m : Model) (s : List ℕ) (n : ℕ) (e : confluentOf m ≡ none) where
   pub answer-run : Within m s → n ≤ maxBudget → answerLines m s (settleOf m s n n) ≡ runText m s n
   unfolding answerLines linesOf runText
   answer-run w h = ap (answerLines m s) (settle-answers-exactly m s n n (settle (urgentStep m) n s) .1 (e, w, h, le-refl n, refl))
+
+-- an image of a confluent model, and a state in its range
+pub run-ready : (t : List ℕ) (x : State) → Image t → confluentOf (modelOf t) ≡ none → Within (modelOf t) (partsOf x) → Ready t x
+run-ready t x im e w =
+    let k = accepted-exactly (modelOf t) (well-formed t im) .0 (confluent-accepted (modelOf t) e) in
+    record { standing = record { image = im; within = w }; conforming = k .0; joinable = k .1 }

@@ -1,16 +1,9 @@
 -- `steplines::put_run` meets its contract: the lines printed, before what is left of the run, are the lines of the run.
-use mathlib.Core.Path.{_≡_, refl, sym, _∙_, ap}
-use Prim.Native.Nat.{_+_, _-_, _≤_, _<_}
+use Prim.Native.Nat.{_-_}
 use native.Mathlib.Omega.{arith}
 use borrow.Author.Needs.{needs}
-use lib.ListN.{length}
-use denote.Ref.{now}
 use Rattle.moves.proofs.Ready.{count-few}
 use Rattle.print.proofs.LaidLaws.{left-last, last-room}
-use Rattle.tell.proofs.TellLaws.{put-as}
-use Rattle.answer.specs.declared.Place.the-variants.{Whole}
-use Rattle.steplines.proofs.Most.{refused-most}
-use Rattle.steplines.proofs.Refusals.{whole-text}
 use Rattle.steplines.proofs.Rest.{Tells, begins, ends-stable, ends-unsettled, step-room, step-told, next-reached}
 use Rattle.steplines.proofs.put_run.Statement.{statement}
 use Rattle.steplines.proofs.put_run.Tie as tie

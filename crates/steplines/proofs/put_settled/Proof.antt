@@ -1,51 +1,64 @@
+-- `steplines::put_settled` meets its contract.
+use mathlib.Core.Path.{sym, _∙_}
+use borrow.Author.Tests.{not-true, not-false}
+use denote.Ref.{now}
+use Rattle.answer.specs.State.{partsOf}
+use Rattle.iosa.proofs.Settling.Range.{range-exactly}
+use Rattle.layout.specs.Image.{modelOf}
+use Rattle.tell.proofs.TellLaws.{put-as}
+use Rattle.steplines.proofs.Refusals.{answer-21, answer-22, answer-run, run-ready}
 use borrow.Author.Needs.{needs}
 use Rattle.steplines.proofs.put_settled.Statement.{statement}
 use Rattle.steplines.proofs.put_settled.Tie as tie
-use Rattle.steplines.proofs.put_settled.Reads as reads
-use Rattle.steplines.proofs.put_settled.Lts as lts
-use Rattle.moves.proofs.in_range.Reads as in-range-reads
-use Rattle.steplines.proofs.put_run.Reads as put-run-reads
-use Rattle.steplines.proofs.put_whole.Reads as put-whole-reads
 
--- src/lib.rt:79:9
 in-range-requires : tie.Need-in-range-requires
 in-range-requires c κs = search needs
 
--- src/lib.rt:80:9
 put-whole-requires : tie.Need-put-whole-requires
 put-whole-requires c κs = search needs
 
--- src/lib.rt:80:9
 same-length : tie.Need-same-length
 same-length c = search needs
 
--- src/lib.rt:80:9
 returns : tie.Need-returns
-returns c = ?
+returns c =
+    let s0 = c .before .before .before .before .before .before .before .before in
+    let m = modelOf (now (s0 .args .t)) in
+    let s = partsOf (s0 .args .x) in
+    put-as (sym (answer-21 m s (s0 .args .budget) (s0 .pre .1) (sym (c .before .before .before .before .before .in-range .ensures) ∙ not-true (c .before .before .before .before .before .in-range .result) (c .before .before .before .before .if1 .taken)))) (c .before .before .put-whole .ensures)
 
--- src/lib.rt:83:9
 put-whole-requires-2 : tie.Need-put-whole-requires-2
 put-whole-requires-2 c κs = search needs
 
--- src/lib.rt:83:9
 same-length-2 : tie.Need-same-length-2
 same-length-2 c = search needs
 
--- src/lib.rt:83:9
 returns-2 : tie.Need-returns-2
-returns-2 c = ?
+returns-2 c =
+    let s0 = c .before .before .before .before .before .before .before .before .before in
+    let m = modelOf (now (s0 .args .t)) in
+    let s = partsOf (s0 .args .x) in
+    let w = range-exactly m s .0 (sym (c .before .before .before .before .before .before .in-range .ensures) ∙ not-false (c .before .before .before .before .before .before .in-range .result) (c .before .before .before .before .before .if1 .left)) in
+    put-as (sym (answer-22 m s (s0 .args .budget) (s0 .pre .1) w (c .before .before .before .before .if2 .taken))) (c .before .before .put-whole2 .ensures)
 
--- src/lib.rt:85:5
 put-run-requires : tie.Need-put-run-requires
-put-run-requires c κs = ?
+put-run-requires c κs =
+    let s0 = c .before .before .before .before .before .before in
+    let m = modelOf (now (s0 .args .t)) in
+    let s = partsOf (s0 .args .x) in
+    let w = range-exactly m s .0 (sym (c .before .before .before .in-range .ensures) ∙ not-false (c .before .before .before .in-range .result) (c .before .before .if1 .left)) in
+    (run-ready (now (s0 .args .t)) (s0 .args .x) (s0 .pre .0) (s0 .pre .1) w, c .before .if2 .left, s0 .pre .2)
 
--- src/lib.rt:72:1
 same-length-3 : tie.Need-same-length-3
 same-length-3 c = search needs
 
--- src/lib.rt:72:1
 returns-3 : tie.Need-returns-3
-returns-3 c = ?
+returns-3 c =
+    let s0 = c .before .before .before .before .before .before .before .before .before in
+    let m = modelOf (now (s0 .args .t)) in
+    let s = partsOf (s0 .args .x) in
+    let w = range-exactly m s .0 (sym (c .before .before .before .before .before .before .in-range .ensures) ∙ not-false (c .before .before .before .before .before .before .in-range .result) (c .before .before .before .before .before .if1 .left)) in
+    put-as (sym (answer-run m s (s0 .args .budget) (s0 .pre .1) w (c .before .before .before .before .if2 .left))) (c .before .before .put-run .ensures)
 
 pub put-settled-spec : {M : Type 1} → statement M
 put-settled-spec =

@@ -1,17 +1,10 @@
 -- `steplines::put_whole` meets its contract.
-use mathlib.Core.Path.{_≡_, refl, sym, _∙_, ap}
-use Prim.Native.Nat.{_+_, _-_, _≤_, _<_}
 use native.Mathlib.Omega.{arith}
 use borrow.Author.Needs.{needs}
-use lib.ListN.{length}
-use denote.Ref.{now}
-use Rattle.moves.proofs.Ready.{count-few}
-use Rattle.print.proofs.LaidLaws.{left-last, last-room}
 use Rattle.tell.proofs.TellLaws.{put-as}
 use Rattle.answer.specs.declared.Place.the-variants.{Whole}
 use Rattle.steplines.proofs.Most.{refused-most}
 use Rattle.steplines.proofs.Refusals.{whole-text}
-use Rattle.steplines.proofs.Rest.{Tells, begins, ends-stable, ends-unsettled, step-room, step-told, next-reached}
 use borrow.Author.Needs.{needs}
 use Rattle.steplines.proofs.put_whole.Statement.{statement}
 use Rattle.steplines.proofs.put_whole.Tie as tie
