@@ -1,8 +1,8 @@
--- "Reading what `write` wrote gives the same": the bytes that `write` puts are read as the model of the table.
+-- Reading and writing undo each other over the promise of `write`: what it wrote is read as the table's model, and a text that is read as that model is what it writes.
 use mathlib.Core.Path.{_≡_, refl, sym, _∙_, ap}
 use mathlib.Core.Bool.{Bool, true, false}
-use mathlib.Core.List.{List, [], _∷_, _++_}
-use Prim.Native.Nat.{ℕ, _≤_, _<_}
+use mathlib.Core.List.{List}
+use Prim.Native.Nat.{ℕ}
 use native.Mathlib.Omega.{arith}
 use lib.ListN.{length, take, drop}
 use lib.Seq.{take-at}
@@ -10,13 +10,11 @@ use lib.Dec.{ltb}
 use Rattle.answer.specs.Told.{Answer, answered, refused}
 use Rattle.answer.specs.declared.Written.the-variants.{Length}
 use Rattle.iosa.specs.Text.{textOf}
-use Rattle.iosa.specs.Model.{Model}
 use Rattle.iosa.specs.Reading.{readOf}
-use Rattle.iosa.proofs.Reading.ReadOfText.{read-of-text}
-use Rattle.layout.specs.Image.{modelOf, Image, noImage}
+use Rattle.iosa.proofs.Reading.ReadOfText.{read-of-text, read-exactly}
+use Rattle.layout.specs.Image.{modelOf, noImage}
 use Rattle.layout.proofs.RowsOfRange.{well-formed}
 use Rattle.table.specs.IsImage.{isImage}
-use Rattle.table.specs.OnTable.{onTable}
 use Rattle.table.proofs.OnTableLaws.{on-image, on-no-image}
 use Rattle.table.proofs.ImageExactly.{image-exactly}
 use Rattle.text.specs.Write.{tooShort, writeOf, writeOn, textAfter, WriteCall}
@@ -49,3 +47,7 @@ module _ (t old new : List ℕ) (n : ℕ) (c : WriteCall t old new (Length n)) w
   -- reading what was written gives the table's model
   pub written-is-read : readOf (take n new) ≡ answered (modelOf t)
   written-is-read = ap readOf written-front ∙ read-of-text (modelOf t) (well-formed t (image-exactly t .0 written-image))
+
+  -- and a text that is read as the table's model is what is written
+  pub read-is-written : (text : List ℕ) → readOf text ≡ answered (modelOf t) → take n new ≡ text
+  read-is-written text e = written-front ∙ read-exactly text (modelOf t) .0 e .1

@@ -2,13 +2,12 @@
 use mathlib.Core.Path.{_≡_, refl, sym, _∙_, ap}
 use mathlib.Core.Option.{some}
 use mathlib.Core.Bool.{true, false}
-use mathlib.Core.List.{List, [], _∷_, _++_}
+use mathlib.Core.List.{List, _++_}
 use Prim.Native.Nat.{ℕ, _+_, _≤_, _<_}
 use native.Mathlib.Omega.{arith}
 use lib.ListN.{length, drop}
 use borrow.Author.Tests.{lt-ltb, le-ltb}
 use Rattle.answer.specs.Told.{told, Answer, answered, refused, saysWritten}
-use Rattle.answer.specs.declared.Refusal.{Refusal}
 use Rattle.answer.specs.declared.Place.the-variants.{Whole, Bytes}
 use Rattle.answer.specs.declared.Written.{Written}
 use Rattle.answer.specs.declared.Written.the-variants.{Length, Refused}
@@ -16,7 +15,6 @@ use Rattle.iosa.specs.Model.{Model}
 use Rattle.iosa.specs.Text.{textOf}
 use Rattle.layout.specs.Image.{modelOf, noImage}
 use Rattle.table.specs.IsImage.{isImage}
-use Rattle.table.specs.OnTable.{onTable}
 use Rattle.table.proofs.OnTableLaws.{on-image, on-no-image}
 use Rattle.print.specs.Put.{laid, Put}
 use Rattle.text.specs.Write.{tooShort, writeOf, writeOn, textAfter, WriteCall}
