@@ -69,14 +69,12 @@ pub extern "C" fn floodneedle_timed_step(
     after: &mut [u8; State::PARTS],
     answer: &mut [u64; Words::COUNT],
 )
-    ensures {
-        λ _. ⌜ TimingTold (timedOn (now (table .entry)) (stateOf (now (state .entry))) (now (clocks .entry)))
-            (stateOf (now (state .entry)))
-            (now (clocks .entry))
-            (now (clocks .exit))
-            (now (after .exit))
-            (now (answer .exit)) ⌝
-    }
+    ensures { λ _. ⌜ TimingTold (timedOn (now (table .entry)) (stateOf (now (state .entry))) (now (clocks .entry)))
+        (stateOf (now (state .entry)))
+        (now (clocks .entry))
+        (now (clocks .exit))
+        (now (after .exit))
+        (now (answer .exit)) ⌝ }
 {
     let given = words::state_of(state);
     let r = timed::timed_step(table, given, clocks);
