@@ -36,7 +36,7 @@ pub record Two (c : Comp) (s a : ℕ) : Type 0 where
   pub first : (rowAt c earlier .from ≡ s) × (rowAt c earlier .action ≡ a)
   pub second : (rowAt c later .from ≡ s) × (rowAt c later .action ≡ a)
 
-two-twice : (c : Comp) (s a : ℕ) → Two c s a → twice c s a ≡ true
+pub two-twice : (c : Comp) (s a : ℕ) → Two c s a → twice c s a ≡ true
 unfolding twice
 two-twice c s a w =
     let inner : any (λ j. leaves (rowAt c j) s a) (w .later) ≡ true = true-any (λ j. leaves (rowAt c j) s a) (w .later) (w .earlier) (w .above) (leaves-true (rowAt c (w .earlier)) s a (w .first .0) (w .first .1)) in
