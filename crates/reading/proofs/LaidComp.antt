@@ -15,9 +15,9 @@ use Rattle.iosa.specs.Reading.{newComp}
 use Rattle.layout.specs.Layout.{headWords, blockWords, rowWords, rowsAt, imageWords, countOf, blockWord}
 use Rattle.layout.specs.Image.{leaveBelow, firstWord, blockOf}
 use Rattle.layout.specs.Words.{wordsOf, rowWord}
-use Rattle.reading.specs.Changes.{Filled}
+use Rattle.reading.specs.Changes.{Filled, blockAt}
 use Rattle.reading.specs.Laid.{BlockIs, RowsAre, Parts, Laid}
-use Rattle.reading.proofs.LaidWord.{blockAt, parts-kept}
+use Rattle.reading.proofs.LaidWord.{parts-kept}
 use Rattle.reading.proofs.LaidRow.{first-at}
 
 pub laid-none : (t t′ : List ℕ) → imageWords ≤ length t → Filled t 0 imageWords 0 t′ → Laid t′ []

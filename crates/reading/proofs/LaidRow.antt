@@ -17,10 +17,10 @@ use Rattle.iosa.specs.Reading.{withRow}
 use Rattle.layout.specs.Layout.{headWords, blockWords, rowWords, rowsAt, imageWords, countOf, blockWord}
 use Rattle.layout.specs.Image.{leaveBelow, firstWord, blockOf}
 use Rattle.layout.specs.Words.{wordsOf, rowWord}
-use Rattle.reading.specs.Changes.{Raised}
+use Rattle.reading.specs.Changes.{Raised, blockAt}
 use Rattle.reading.specs.Laid.{BlockIs, RowsAre, Parts, Laid}
 use Rattle.reading.proofs.SetsLaws.{sets-before, sets-behind, sets-inside}
-use Rattle.reading.proofs.LaidWord.{blockAt, parts-kept}
+use Rattle.reading.proofs.LaidWord.{parts-kept}
 
 leave-more : (rs : List Row) (r : Row) (s : ℕ) → leaveBelow (rs ++ r ∷ []) s ≡ leaveBelow rs s + cond (ltb (r .from) s) 1 0
 unfolding leaveBelow

@@ -16,11 +16,8 @@ use Rattle.iosa.specs.Reading.{withAct, withClk}
 use Rattle.layout.specs.Layout.{headWords, blockWords, rowWords, rowsAt, countOf, blockWord}
 use Rattle.layout.specs.Image.{firstWord, blockOf}
 use Rattle.layout.specs.Words.{rowWord}
+use Rattle.reading.specs.Changes.{blockAt}
 use Rattle.reading.specs.Laid.{BlockIs, RowsAre, Parts, Laid}
-
--- where word k of block i stands
-abbrev pub blockAt : ℕ → ℕ → ℕ
-blockAt i k = 1 + blockWords * i + k
 
 -- a table that agrees on the blocks and rows of the components keeps them
 pub parts-kept : (t t′ : List ℕ) (m : List Comp) → ((i k : ℕ) → i < length m → k < blockWords → blockWord t′ i k ≡ blockWord t i k)

@@ -6,3 +6,4 @@ pub mod LaidWord
 pub mod SetsLaws
 pub mod LaidRow
 pub mod LaidComp
+pub mod TakenIn

@@ -52,3 +52,11 @@ filled-to {d} {lo} {hi} {hi′} {v} {d′} e r = record {
   before = r .before;
   behind = λ j h. r .behind j (omega arith);
 }
+
+pub raised-from : {d : List ℕ} {lo lo′ hi : ℕ} {d′ : List ℕ} → lo ≡ lo′ → Raised d lo hi d′ → Raised d lo′ hi d′
+raised-from {d} {lo} {lo′} {hi} {d′} e r = record {
+  long = r .long;
+  inside = λ j h l. r .inside j (omega arith) l;
+  before = λ j h. r .before j (omega arith);
+  behind = r .behind;
+}

@@ -22,3 +22,12 @@ sets-inside l p (v ∷ vs) zero h q =
 sets-inside l p (v ∷ vs) (suc k) h q =
     let e : p + suc k ≡ suc p + k = omega arith in
     ap (λ j. getD (sets (set l p v) (suc p) vs) j 0) e ∙ sets-inside (set l p v) (suc p) vs k (omega arith) (omega (arith, length-set l p v))
+
+pub four-words : (l : List ℕ) (p a b c d : ℕ) → set (set (set (set l p a) (p + 1) b) (p + 2) c) (p + 3) d ≡ sets l p (a ∷ b ∷ c ∷ d ∷ [])
+four-words l p a b c d =
+    let e : p + 1 ≡ suc p = omega arith in
+    let f : p + 2 ≡ suc (suc p) = omega arith in
+    let g : p + 3 ≡ suc (suc (suc p)) = omega arith in
+    ap (λ k. set (set (set (set l p a) k b) (p + 2) c) (p + 3) d) e
+    ∙ ap (λ k. set (set (set (set l p a) (suc p) b) k c) (p + 3) d) f
+    ∙ ap (λ k. set (set (set (set l p a) (suc p) b) (suc (suc p)) c) k d) g
