@@ -67,6 +67,29 @@ void floodneedle_accept(const uint64_t *table, size_t table_words, struct floodn
  * Refuses: as accept, then 18. */
 void floodneedle_confluent(const uint64_t *table, size_t table_words, struct floodneedle_answer *answer);
 
+/* One urgent step, by the lowest-numbered enabled urgent output: moved, with action and resets, or stable. `after` is always written:
+ * the state after the step, the state as given where stable, zeros where refused; places past the state's own are 0.
+ * Refuses: as accept, then 21. */
+void floodneedle_step(const uint64_t *table, size_t table_words, const uint8_t *state, size_t parts,
+                      uint8_t after[FLOODNEEDLE_STATE], struct floodneedle_answer *answer);
+
+/* One urgent step by a named action, moved or refused; never stable.
+ * Refuses: as accept, then 21, 23 at 0 where the action is not an enabled urgent output. */
+void floodneedle_step_by(const uint64_t *table, size_t table_words, const uint8_t *state, size_t parts, uint64_t action,
+                         uint8_t after[FLOODNEEDLE_STATE], struct floodneedle_answer *answer);
+
+/* Takes the lowest-numbered enabled urgent output at most `budget` times: stable exactly where none is enabled at the end, else unsettled;
+ * `count` steps, `resets` the clocks reset at least once, `after` the state reached. The actions taken are the first `count` bytes of the
+ * trace; its later bytes stay.
+ * Refuses: as confluent, then 21, 22 (budget over 4,096), 24 (trace shorter than the budget). */
+void floodneedle_settle(const uint64_t *table, size_t table_words, const uint8_t *state, size_t parts, uint64_t budget,
+                        uint8_t *trace, size_t trace_bytes, uint8_t after[FLOODNEEDLE_STATE], struct floodneedle_answer *answer);
+
+/* Takes the listed actions in order and answers as settling does.
+ * Refuses: as confluent, then 21, 22 (list over 4,096), 23 at the index of the first listed action that is not an enabled urgent output. */
+void floodneedle_settle_list(const uint64_t *table, size_t table_words, const uint8_t *state, size_t parts,
+                             const uint8_t *list, size_t list_bytes, uint8_t after[FLOODNEEDLE_STATE], struct floodneedle_answer *answer);
+
 /* In a stable state the enabling clock with the least value fires: fired, with that value as `ticks`, action and resets, and `after` the
  * state after its row; every declared clock falls by it, down to -2^40 at the lowest, and undeclared places stay. With no enabling clock
  * it is quiet and nothing changes. Storing new samples for the clocks in `resets` is the caller's work.

@@ -9,7 +9,8 @@ ghost use Rattle.iosa.specs.Reading.{readOf};
 ghost use Rattle.survey.specs.Survey.{checkedOf};
 ghost use Rattle.table.specs.IsImage.{isImage};
 ghost use Rattle.words.specs.Bytes.{stateOf};
-ghost use Rattle.floodneedle.specs.Told.{acceptOn, confluentOn, timedOn, TimingTold};
+ghost use Rattle.floodneedle.specs.Told.{acceptOn, confluentOn, timedOn, TimingTold, StepTold, SettlingTold};
+ghost use Rattle.run.specs.Calls.{stepOn, stepByOn, settleOn, settleListOn, traceAfter};
 
 // Whether the buffer's front is the image of a model.
 #[no_mangle]
@@ -83,4 +84,85 @@ pub extern "C" fn floodneedle_timed_step(
     let parts = next.parts;
     *after = parts;
     *answer = words::fired_words(firing);
+}
+
+// One urgent step by our rule.
+#[no_mangle]
+pub extern "C" fn floodneedle_step(
+    table: &[u64],
+    state: &[u8],
+    after: &mut [u8; State::PARTS],
+    answer: &mut [u64; Words::COUNT],
+)
+    ensures { λ _. ⌜ StepTold (stepOn (now (table .entry)) (stateOf (now (state .entry)))) (stateOf (now (state .entry))) (now (after .exit)) (now (answer .exit)) ⌝ }
+{
+    let given = words::state_of(state);
+    let r = run::step(table, given);
+    let next = r.state;
+    let outcome = r.outcome;
+    let parts = next.parts;
+    *after = parts;
+    *answer = words::stepped_words(outcome);
+}
+
+// One urgent step by a named action.
+#[no_mangle]
+pub extern "C" fn floodneedle_step_by(
+    table: &[u64],
+    state: &[u8],
+    action: u64,
+    after: &mut [u8; State::PARTS],
+    answer: &mut [u64; Words::COUNT],
+)
+    ensures { λ _. ⌜ StepTold (stepByOn (now (table .entry)) (stateOf (now (state .entry))) action) (stateOf (now (state .entry))) (now (after .exit)) (now (answer .exit)) ⌝ }
+{
+    let given = words::state_of(state);
+    let r = run::step_by(table, given, action);
+    let next = r.state;
+    let outcome = r.outcome;
+    let parts = next.parts;
+    *after = parts;
+    *answer = words::stepped_words(outcome);
+}
+
+// Settling by our rule.
+#[no_mangle]
+pub extern "C" fn floodneedle_settle(
+    table: &[u64],
+    state: &[u8],
+    budget: usize,
+    trace: &mut [u8],
+    after: &mut [u8; State::PARTS],
+    answer: &mut [u64; Words::COUNT],
+)
+    ensures { λ _. ⌜ SettlingTold (settleOn (now (table .entry)) (stateOf (now (state .entry))) budget (now (trace .entry))) (stateOf (now (state .entry))) (now (after .exit)) (now (answer .exit)) ⌝ }
+    ensures { λ _. ⌜ now (trace .exit) ≡ traceAfter (settleOn (now (table .entry)) (stateOf (now (state .entry))) budget (now (trace .entry))) (now (trace .entry)) ⌝ }
+{
+    let given = words::state_of(state);
+    let r = run::settle(table, given, budget, trace);
+    let next = r.state;
+    let verdict = r.verdict;
+    let parts = next.parts;
+    *after = parts;
+    *answer = words::settled_words(verdict, r.steps, r.resets);
+}
+
+// Settling by a list.
+#[no_mangle]
+pub extern "C" fn floodneedle_settle_list(
+    table: &[u64],
+    state: &[u8],
+    list: &[u8],
+    after: &mut [u8; State::PARTS],
+    answer: &mut [u64; Words::COUNT],
+)
+    ensures { λ _. ⌜ SettlingTold (settleListOn (now (table .entry)) (stateOf (now (state .entry))) (now (list .entry))) (stateOf (now (state .entry))) (now (after .exit)) (now (answer .exit)) ⌝ }
+{
+    let given = words::state_of(state);
+    let r = run::settle_list(table, given, list);
+    let next = r.state;
+    let verdict = r.verdict;
+    let parts = next.parts;
+    *after = parts;
+    *answer = words::settled_words(verdict, r.steps, r.resets);
 }
