@@ -1,0 +1,4 @@
+pub mod Answers
+pub mod Ready
+pub mod StepCalls
+pub mod SettleCalls

@@ -1,0 +1,100 @@
+use borrow.Author.Needs.{needs}
+use Rattle.run.proofs.settle_after.Statement.{statement}
+use Rattle.run.proofs.settle_after.Tie as tie
+use Rattle.run.proofs.settle_after.Reads as reads
+use Rattle.run.proofs.settle_after.Lts as lts
+use Rattle.moves.proofs.in_range.Reads as in-range-reads
+use Rattle.run.proofs.refusal.Reads as refusal-reads
+use Rattle.run.proofs.refused_settling.Reads as refused-settling-reads
+use Rattle.run.proofs.short_trace.Reads as short-trace-reads
+use Rattle.settling.proofs.by_rule.Reads as by-rule-reads
+
+-- src/lib.rt:100:26
+enum-known-checked : tie.Need-enum-known-checked
+enum-known-checked c = search needs
+
+-- src/lib.rt:100:34
+refused-settling-requires : tie.Need-refused-settling-requires
+refused-settling-requires c κs = search needs
+
+-- src/lib.rt:102:17
+enum-told : tie.Need-enum-told
+enum-told c = search needs
+
+-- src/lib.rt:102:17
+in-range-requires : tie.Need-in-range-requires
+in-range-requires c κs = ?
+
+-- src/lib.rt:103:41
+refusal-requires : tie.Need-refusal-requires
+refusal-requires c κs = search needs
+
+-- src/lib.rt:103:17
+refused-settling-requires-2 : tie.Need-refused-settling-requires-2
+refused-settling-requires-2 c κs = search needs
+
+-- src/lib.rt:103:17
+returns : tie.Need-returns
+returns c = ?
+
+-- src/lib.rt:106:41
+refusal-requires-2 : tie.Need-refusal-requires-2
+refusal-requires-2 c κs = search needs
+
+-- src/lib.rt:106:17
+refused-settling-requires-3 : tie.Need-refused-settling-requires-3
+refused-settling-requires-3 c κs = search needs
+
+-- src/lib.rt:106:17
+returns-2 : tie.Need-returns-2
+returns-2 c = ?
+
+-- src/lib.rt:109:41
+short-trace-requires : tie.Need-short-trace-requires
+short-trace-requires c κs = search needs
+
+-- src/lib.rt:109:17
+refused-settling-requires-4 : tie.Need-refused-settling-requires-4
+refused-settling-requires-4 c κs = search needs
+
+-- src/lib.rt:109:17
+returns-3 : tie.Need-returns-3
+returns-3 c = ?
+
+-- src/lib.rt:111:13
+by-rule-requires : tie.Need-by-rule-requires
+by-rule-requires c κs = ?
+
+-- src/lib.rt:95:1
+returns-4 : tie.Need-returns-4
+returns-4 c = ?
+
+-- src/lib.rt:95:1
+same-length : tie.Need-same-length
+same-length c = search needs
+
+-- src/lib.rt:95:1
+returns-5 : tie.Need-returns-5
+returns-5 c = ?
+
+pub settle-after-spec : {M : Type 1} → statement M
+settle-after-spec =
+    tie.close
+    (tie.spec
+    enum-known-checked
+    refused-settling-requires
+    enum-told
+    in-range-requires
+    refusal-requires
+    refused-settling-requires-2
+    returns
+    refusal-requires-2
+    refused-settling-requires-3
+    returns-2
+    short-trace-requires
+    refused-settling-requires-4
+    returns-3
+    by-rule-requires
+    returns-4
+    same-length
+    returns-5)
