@@ -19,7 +19,7 @@ use Rattle.layout.proofs.RowsOfRange.{well-formed, image-front, well-co
 use mathlib.Core.Logic.{⊎-elim}
 
 -- a component's actions lie below 64
-acts-below : (c : Comp) → WellComp c → (a : ℕ) → a ∈ acts c → a < maxActions
+pub acts-below : (c : Comp) → WellComp c → (a : ℕ) → a ∈ acts c → a < maxActions
 acts-below c w a h =
     ⊎-elim
     (λ p. ⊎-elim (in-below maxActions (c .ins) a (w .ins)) (in-below maxActions (c .uins) a (w .uins)) (in-or (c .ins) (c .uins) a p))
@@ -27,7 +27,7 @@ acts-below c w a h =
     (in-or (c .ins ∪ c .uins) (c .outs ∪ c .uouts) a h)
 
 -- and so do the clocks that guard its rows
-guard-below : (c : Comp) → WellComp c → (g : ℕ) → guardSet g ⊆ c .clocks → g ≤ maxClocks
+pub guard-below : (c : Comp) → WellComp c → (g : ℕ) → guardSet g ⊆ c .clocks → g ≤ maxClocks
 guard-below c w zero h = omega arith
 guard-below c w (suc x) h = in-below maxClocks (c .clocks) x (w .clocks) (h x (in-one x))
 

@@ -64,16 +64,23 @@ pub fn guard_width(g: u64) -> usize
     if g == 0 { 1 } else { width(g - 1) }
 }
 
+// A `row` line by its fields.
+pub fn line_width(from: u64, guard: u64, action: u64, resets: u64, target: u64) -> usize
+    ensures { λ n. ⌜ n ≡ length (rowLine (record { from = from; guard = guard; action = action; resets = resets; target = target })) ⌝ }
+{
+    ROW + width(from) + guard_width(guard) + width(action) + set_width(resets) + width(target)
+}
+
 // The line of row r, which leaves state s.
 fn row_width(t: &[u64], s: usize, r: usize) -> usize
     requires { ⌜ (imageWords ≤ length (now t)) × (r < maxRows) ⌝ }
     ensures { λ n. ⌜ n ≡ length (rowLine (rowIn (now (t .entry)) s r)) ⌝ }
 {
-    let guard = guard_width(layout::guard_at(t, r));
-    let action = width(layout::action_at(t, r));
-    let resets = set_width(layout::resets_at(t, r));
-    let target = width(layout::target_at(t, r));
-    ROW + width(s as u64) + guard + action + resets + target
+    let guard = layout::guard_at(t, r);
+    let action = layout::action_at(t, r);
+    let resets = layout::resets_at(t, r);
+    let target = layout::target_at(t, r);
+    line_width(s as u64, guard, action, resets, target)
 }
 
 // The rows lo .. hi, which leave state s.

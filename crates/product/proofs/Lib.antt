@@ -1,0 +1,5 @@
+pub mod WalkLaws
+pub mod Runs
+pub mod TurnsOfPair
+pub mod PairStep
+pub mod ByNumber

@@ -1,0 +1,137 @@
+-- One turn of reading: how what the code keeps stands to what the definition keeps, before a line and behind it.
+use mathlib.Core.Path.{_≡_, refl, sym, _∙_, ap}
+use mathlib.Core.Option.{Option, none, some}
+use mathlib.Core.List.{List, [], _∷_}
+use mathlib.Core.Bool.{Bool, true, false}
+use Prim.Native.Nat.{ℕ, zero, suc, _+_, _-_, _≤_, _<_}
+use native.Mathlib.Numerals.{add-one}
+use native.Mathlib.Nat.{le-refl}
+use native.Mathlib.Omega.{arith}
+use borrow.Author.Tests.{ne-eqb}
+use Rattle.laws.proofs.SearchLaws.{no-some}
+use lib.ListN.{length, drop, drop-of-length-le, length-drop}
+use Rattle.answer.specs.declared.Place.the-variants.{Line, Whole}
+use Rattle.answer.specs.declared.Checked.the-variants.{Fine, Refused}
+use Rattle.answer.specs.Told.{Told, told, tell, Answer, answered, refused, asRefused, saysChecked}
+use Rattle.survey.specs.Survey.{checkedOf}
+use Rattle.iosa.specs.Model.{Model, Comp, rowCount}
+use Rattle.iosa.specs.Reading.{Got, got, Entry, comp-entry, act-entry, clk-entry, row-entry, entry, Progress, turn, outOfTurn, faultOf, rowOf, withAct, withClk, withRow, onLast, takeIn, finish, linesFrom, atStart}
+use Rattle.iosa.proofs.Reading.LinesFrom.{entry-shortens, lines-end, lines-shapeless, lines-fault, lines-next}
+use Rattle.iosa.proofs.Reading.LowestFault.{fault-some, fault-number}
+use Rattle.fields.specs.Resets.{valued}
+use Rattle.lines.specs.declared.Line.{Line as CodeLine}
+use Rattle.lines.specs.Lines.{lineOf}
+use Rattle.lines.proofs.LineLaws.{valued-some}
+use Rattle.judge.specs.declared.Progress.{Progress as CodeProgress}
+use Rattle.judge.specs.declared.Judged.{Judged}
+use Rattle.judge.specs.declared.Judged.the-variants.{Fault, Taken}
+use Rattle.judge.specs.Judged.{standing, beginning, stepOf}
+use Rattle.judge.proofs.StepIs.{next, judgedOf, Begun, step-is}
+
+pub record Stands (t : List ℕ) (q : Progress) (p : CodeProgress) (at n : ℕ) : Type 0 where
+  pub kept : p ≡ standing q
+  pub begun : Begun q
+  pub same : linesFrom (length (drop at t)) n q (drop at t) ≡ linesFrom (length t) 1 atStart t
+  pub count : n + length (drop at t) ≤ 1 + length t
+
+pub stands-first : (t : List ℕ) → Stands t atStart beginning 0 1
+unfolding rowCount
+stands-first t = record { kept = refl; begun = record { some-comp = λ d e. let z : _≡_ {A = ℕ} 0 1 = cc in absurd (omega arith) }; same = refl; count = le-refl _ }
+
+left : (t : List ℕ) (at : ℕ) → at < length t → (drop at t ≡ [] → ⊥)
+left t at h e = omega (arith, length-drop at t, ap length e)
+
+judged-fault : (o : Option ℕ) (q : Progress) (f : ℕ) → judgedOf o q ≡ Fault f → o ≡ some f
+judged-fault none q f e = let z : _≡_ {A = ℕ} 0 1 = cc in absurd (omega arith)
+judged-fault (some g) q f e = cc
+
+judged-taken : (o : Option ℕ) (q : Progress) (p : CodeProgress) → judgedOf o q ≡ Taken p → (o ≡ none) × (p ≡ standing q)
+judged-taken none q p e = (refl, cc)
+judged-taken (some g) q p e = let z : _≡_ {A = ℕ} 0 1 = cc in absurd (omega arith)
+
+-- behind a line that was taken in there is a component
+on-last : (f : Comp → Comp) (m : List Comp) → length (onLast f m) ≡ length m
+on-last f [] = refl
+on-last f (c ∷ cs) = refl
+
+in-turn : (m : List Comp) (l : Option Entry) (e : Entry) → (turn e ≡ 0 → ⊥) → faultOf (record { comps = m; last = l }) e ≡ none → Begun (record { comps = m; last = l }) → 1 ≤ length m
+unfolding faultOf outOfTurn
+in-turn m none e w h b = let f : faultOf (record { comps = m; last = none }) e ≡ some 3 = rw (ne-eqb (turn e) 0 w, faultOf, outOfTurn) in absurd (no-some h f)
+in-turn m (some d) e w h b = b .some-comp d refl
+
+grown : (m : List Comp) (l : Option Entry) (e : Entry) → faultOf (record { comps = m; last = l }) e ≡ none → Begun (record { comps = m; last = l }) → 1 ≤ length (takeIn m e)
+unfolding takeIn
+grown m l (comp-entry n s) h b = omega arith
+grown m l (act-entry a k) h b = omega (arith, on-last (λ c. withAct c a k) m, in-turn m l (act-entry a k) (λ z. omega arith) h b)
+grown m l (clk-entry x y) h b = omega (arith, on-last (λ c. withClk c x y) m, in-turn m l (clk-entry x y) (λ z. omega arith) h b)
+grown m l (row-entry s g a r t) h b = omega (arith, on-last (λ c. withRow c (rowOf s g a r t)) m, in-turn m l (row-entry s g a r t) (λ z. omega arith) h b)
+
+-- the line that a scan found, as an entry
+pub record Read (t : List ℕ) (at : ℕ) (l : CodeLine) (to : ℕ) : Type 0 where
+  pub it : Entry
+  pub here : entry (drop at t) ≡ got it (drop to t)
+  pub line : lineOf it ≡ l
+
+pub read-line : (t : List ℕ) (at : ℕ) (l : CodeLine) (to : ℕ) → valued lineOf (entry (drop at t)) ≡ got l (drop to t) → Read t at l to
+read-line t at l to e = let v = valued-some lineOf (entry (drop at t)) e in record { it = v .0; here = v .1; line = v .2 }
+
+pub read-on : {t : List ℕ} {at : ℕ} {l : CodeLine} {to : ℕ} → Read t at l to → length (drop to t) < length (drop at t)
+read-on {t} {at} {l} {to} r = entry-shortens (drop at t) (record { value = r .it; rest = drop to t }) (r .here)
+
+module _ {t : List ℕ} {q : Progress} {p : CodeProgress} {at n : ℕ} (s : Stands t q p at n) where
+  pub no-line : at < length t → entry (drop at t) ≡ none → linesFrom (length t) 1 atStart t ≡ refused (tell 2 (n ∷ []))
+  no-line h e = sym (s .same) ∙ lines-shapeless n q (length (drop at t)) (drop at t) (left t at h) (le-refl _) e
+
+  pub at-end : length t ≤ at → linesFrom (length t) 1 atStart t ≡ finish (q .comps)
+  at-end h = sym (s .same) ∙ rw (drop-of-length-le t h) (lines-end n q 0)
+
+  module _ (l : CodeLine) (to : ℕ) (r : Read t at l to) where
+    judged : stepOf p l ≡ judgedOf (faultOf q (r .it)) (next q (r .it))
+    judged = rw (s .kept, ← r .line) (step-is q (r .it) (s .begun))
+
+    pub line-fault : (f : ℕ) → stepOf p l ≡ Fault f → (linesFrom (length t) 1 atStart t ≡ refused (tell f (n ∷ []))) × (2 ≤ f) × (f ≤ 7)
+    line-fault f e =
+        let h = judged-fault (faultOf q (r .it)) (next q (r .it)) f (sym judged ∙ e) in
+        let w = fault-number (fault-some q (drop at t) (r .it) (drop to t) (r .here) f h .fault) in
+        (sym (s .same) ∙ lines-fault n q (r .it) (drop to t) (length (drop at t)) (drop at t) f (le-refl _) (r .here) h, w .0, w .1)
+
+    pub line-taken : (p′ : CodeProgress) → stepOf p l ≡ Taken p′ → Stands t (next q (r .it)) p′ to (n + 1)
+    line-taken p′ e =
+        let h = judged-taken (faultOf q (r .it)) (next q (r .it)) p′ (sym judged ∙ e) in
+        record {
+          kept = h .1;
+          begun = record { some-comp = λ d x. grown (q .comps) (q .last) (r .it) (h .0) (s .begun) };
+          same = rw add-one (sym (lines-next n q (r .it) (drop to t) (length (drop at t)) (length (drop to t)) (drop at t) (le-refl _) (le-refl _) (r .here) (h .0)) ∙ s .same);
+          count = omega (arith, read-on r, s .count);
+        }
+
+-- what a refusal at a line tells
+pub told-line : (f n : ℕ) → 2 ≤ f → f ≤ 7 → told (record { number = f; place = Line n }) ≡ some (tell f (n ∷ []))
+unfolding told
+told-line zero n h l = absurd (omega arith)
+told-line (suc zero) n h l = absurd (omega arith)
+told-line (suc (suc zero)) n h l = refl
+told-line (suc (suc (suc zero))) n h l = refl
+told-line (suc (suc (suc (suc zero)))) n h l = refl
+told-line (suc (suc (suc (suc (suc zero))))) n h l = refl
+told-line (suc (suc (suc (suc (suc (suc zero)))))) n h l = refl
+told-line (suc (suc (suc (suc (suc (suc (suc zero))))))) n h l = refl
+told-line (suc (suc (suc (suc (suc (suc (suc (suc f)))))))) n h l = absurd (omega arith)
+
+pub says-line : (f n : ℕ) (o : Answer Model) → o ≡ refused (tell f (n ∷ [])) → 2 ≤ f → f ≤ 7 → saysChecked (Refused (record { number = f; place = Line n })) ≡ some (checkedOf o)
+unfolding saysChecked
+says-line f n o e h l = ap asRefused (told-line f n h l) ∙ ap (λ a. some (checkedOf a)) (sym e)
+
+pub says-none : (o : Answer Model) (m : List Comp) → o ≡ finish m → length m ≡ 0 → saysChecked (Refused (record { number = 8; place = Whole })) ≡ some (checkedOf o)
+unfolding saysChecked told
+says-none o [] e h = ap (λ a. some (checkedOf a)) (sym e)
+says-none o (c ∷ cs) e h = absurd (omega arith)
+
+pub says-fine : (o : Answer Model) (m : List Comp) → o ≡ finish m → (length m ≡ 0 → ⊥) → saysChecked Fine ≡ some (checkedOf o)
+unfolding saysChecked
+says-fine o [] e h = absurd (h refl)
+says-fine o (c ∷ cs) e h = ap (λ a. some (checkedOf a)) (sym e)
+
+pub says-long : (o : Answer Model) → o ≡ refused (tell 1 (0 ∷ [])) → saysChecked (Refused (record { number = 1; place = Whole })) ≡ some (checkedOf o)
+unfolding saysChecked told
+says-long o e = ap (λ a. some (checkedOf a)) (sym e)
