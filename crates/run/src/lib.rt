@@ -7,7 +7,6 @@ use answer::Settled;
 use answer::State;
 use answer::Stepped;
 use answer::Verdict;
-
 ghost use mathlib.Core.Path.{_≡_};
 ghost use mathlib.Core.Option.{some};
 ghost use Prim.Native.Nat.{ℕ, _≤_, _<_};
@@ -92,7 +91,13 @@ fn short_trace(budget: usize) -> Refusal
 }
 
 // Settling by our rule, once the model is checked.
-fn settle_after(table: &[u64], state: State, budget: usize, trace: &mut [u8], checked: Checked) -> Settled
+fn settle_after(
+    table: &[u64],
+    state: State,
+    budget: usize,
+    trace: &mut [u8],
+    checked: Checked,
+) -> Settled
     requires { ⌜ saysChecked checked ≡ some (checkOn (now table) confluentOf) ⌝ }
     ensures { λ r. ⌜ SettleCall (now (table .entry)) state budget (now (trace .entry)) (now (trace .exit)) r ⌝ }
 {
