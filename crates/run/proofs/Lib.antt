@@ -2,3 +2,6 @@ pub mod Answers
 pub mod Ready
 pub mod StepCalls
 pub mod SettleCalls
+pub mod SaysFixes
+pub mod Determined
+pub mod Demand3
