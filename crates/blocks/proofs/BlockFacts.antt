@@ -1,17 +1,16 @@
 -- What the tests of the blocks tell (docs/TABLE.md), and back.
-use mathlib.Core.Path.{_≡_, refl, sym, _∙_, ap}
+use mathlib.Core.Path.{_≡_, sym, _∙_}
 use mathlib.Core.Logic.{⊎-elim, by-cases}
-use mathlib.Core.Bool.{Bool, true, false}
+use mathlib.Core.Bool.{true}
 use mathlib.Core.List.{List}
 use Prim.Native.Nat.{ℕ, zero, suc, _+_, _*_, _-_, _≤_, _<_}
 use native.Mathlib.Omega.{arith}
 use native.Mathlib.Decide.{decLt}
 use lib.ListN.{length, getD}
-use lib.Dec.{eqb, ltb, leb}
+use lib.Dec.{eqb, leb}
 use borrow.Author.Tests.{eqb-true, eq-eqb, ltb-true, lt-ltb, leb-true, le-leb}
-use Rattle.laws.specs.Sets.{has, _∪_, _∩_, within, _⊆_, Apart}
+use Rattle.laws.specs.Sets.{has, _∪_, _∩_, _⊆_, Apart}
 use Rattle.laws.specs.Fold.{all}
-use Rattle.laws.specs.Tests.{both}
 use Rattle.laws.proofs.SetLaws.{has-and, and-in, none-in, or-in-l, or-in-r, in-or, within-true, true-within, has-ext}
 use Rattle.laws.proofs.FoldLaws.{all-true, true-all}
 use Rattle.laws.proofs.TestLaws.{both-true, true-both, and-not-both, not-so}

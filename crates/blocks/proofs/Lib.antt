@@ -1,1 +1,2 @@
 pub mod BlockFacts
+pub mod CodeTests

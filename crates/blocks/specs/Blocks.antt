@@ -1,5 +1,5 @@
 -- Whether the blocks of a table are those of an image (docs/TABLE.md): a test for each sentence about them.
-use mathlib.Core.Bool.{Bool, true, false}
+use mathlib.Core.Bool.{Bool}
 use mathlib.Core.List.{List}
 use Prim.Native.Nat.{ℕ, zero, suc, _+_, _*_}
 use lib.ListN.{getD}

@@ -5,7 +5,7 @@ ghost use Prim.Native.Nat.{ℕ, _≤_, _<_};
 ghost use lib.ListN.{length};
 ghost use Rattle.laws.specs.Fold.{all};
 ghost use Rattle.answer.specs.Limits.{maxComponents, maxStates};
-ghost use Rattle.layout.specs.Layout.{imageWords, countOf, blockWord};
+ghost use Rattle.layout.specs.Layout.{imageWords, blockWord};
 ghost use Rattle.blocks.specs.Blocks.{zeroWords, sizesRight, setsRight, headRight, endBefore, inOrder, firstsRight, blocksRight};
 
 // The words from lo on, below hi, are zero.

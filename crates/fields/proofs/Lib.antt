@@ -1,3 +1,4 @@
 pub mod ScanLaws
 pub mod FieldLaws
+pub mod NumberLaws
 pub mod ResetLaws

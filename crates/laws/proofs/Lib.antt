@@ -9,3 +9,4 @@ pub mod MinimalLaws
 pub mod RangeLaws
 pub mod GrowLaws
 pub mod TabLaws
+pub mod UnionLaws

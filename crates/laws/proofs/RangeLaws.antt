@@ -217,3 +217,21 @@ seek-any p g h lo hi =
     ∙ some-map g (seek (λ k. when (p k) k) lo hi)
     ∙ sym (some-map h (seek (λ k. when (p k) k) lo hi))
     ∙ ap isSome (sym (seek-map p h lo hi))
+
+-- what is made of an answer
+pub map-when : {A B : Type 0} (g : A → B) (b : Bool) (x : A) → mapSome g (when b x) ≡ when b (g x)
+map-when g true x = refl
+map-when g false x = refl
+
+pub map-seek : {A B : Type 0} (g : A → B) (f : ℕ → Option A) (lo hi : ℕ) → mapSome g (seek f lo hi) ≡ seek (λ k. mapSome g (f k)) lo hi
+unfolding seek firstFrom
+map-seek {A} {B} g f lo hi = from (hi - lo) lo
+  where
+    from : (n k : ℕ) → mapSome g (firstFrom f n k) ≡ firstFrom (λ k. mapSome g (f k)) n k
+    from zero k = refl
+    from (suc n) k = go (f k) (from n (suc k))
+      where
+        go : (o : Option A) → mapSome g (firstFrom f n (suc k)) ≡ firstFrom (λ k. mapSome g (f k)) n (suc k)
+            → mapSome g (elim o as (λ p. Option A) [ none ↦ firstFrom f n (suc k) | some x ↦ some x ]) ≡ (elim (mapSome g o) as (λ p. Option B) [ none ↦ firstFrom (λ k. mapSome g (f k)) n (suc k) | some x ↦ some x ])
+        go none e = e
+        go (some x) e = refl

@@ -1,16 +1,16 @@
 -- How long the text of a sane table can be: no sum of lengths comes near the machine's limit.
-use mathlib.Core.Path.{_≡_, refl, sym, _∙_, ap}
-use mathlib.Core.List.{List, [], _∷_, _++_}
+use mathlib.Core.Path.{_≡_, ap}
+use mathlib.Core.List.{List}
 use Prim.Native.Nat.{ℕ, zero, suc, _+_, _*_, _-_, _≤_, _<_}
 use native.Mathlib.Numerals.{add-one}
 use native.Mathlib.Omega.{arith}
 use lib.ListN.{length}
-use Rattle.laws.specs.Fold.{tab, spread, sum}
+use Rattle.laws.specs.Fold.{tab, spread}
 use Rattle.laws.specs.Sets.{_∪_, _∖_}
 use Rattle.laws.proofs.FoldLaws.{tab-length}
 use Rattle.laws.proofs.TabLaws.{spread-length, sum-at-most}
-use Rattle.answer.specs.Limits.{maxDigits, maxActions, maxClocks, maxStates, maxRows, maxComponents}
-use Rattle.iosa.specs.Model.{Row, Comp, Model}
+use Rattle.answer.specs.Limits.{maxStates, maxRows, maxComponents}
+use Rattle.iosa.specs.Model.{Comp}
 use Rattle.iosa.specs.Text.{decimal, compLine, rowLines, compText, textOf}
 use Rattle.layout.specs.Layout.{countOf, blockWord, firstOf}
 use Rattle.layout.specs.Image.{rowIn, rowsLeaving, compOf, modelOf, Sane}

@@ -1,8 +1,8 @@
 -- The lengths of the text's fields (01, "The model text").
-use mathlib.Core.Path.{_≡_, refl, sym, _∙_, ap, ap₂}
-use mathlib.Core.Bool.{Bool, true, false, cond, true≢false, false≢true}
+use mathlib.Core.Path.{_≡_, refl, sym, _∙_, ap}
+use mathlib.Core.Bool.{Bool, true, false, cond}
 use mathlib.Core.List.{List, [], _∷_, _++_}
-use Prim.Native.Nat.{ℕ, zero, suc, _+_, _*_, _-_, _/_, _%_, _^_, _≤_, _<_}
+use Prim.Native.Nat.{ℕ, zero, suc, _+_, _*_, _-_, _/_, _^_, _≤_, _<_}
 use native.Mathlib.Omega.{arith}
 use native.Mathlib.Nat.{mul-le-mul-right}
 use native.Mathlib.Decide.{decLt, ℕ-discrete}
@@ -11,7 +11,7 @@ use lib.ListN.{length, length-append}
 use lib.Bits.{bitAnd}
 use lib.Dec.{ltb, eqb}
 use borrow.Author.Tests.{ltb-true, ltb-false, lt-ltb, le-ltb}
-use Rattle.laws.specs.Sets.{has, bit}
+use Rattle.laws.specs.Sets.{has}
 use Rattle.laws.specs.Fold.{tab, sum}
 use Rattle.laws.proofs.SetLaws.{bit-ones, bit-above, has-and, has-ext}
 use Rattle.laws.proofs.TabLaws.{tab-same, sum-add, sum-scale, sum-at-most}

@@ -1,8 +1,8 @@
 -- The lengths of the text's lines, and of the lines of a component (01, "The model text").
-use mathlib.Core.Path.{_≡_, refl, sym, _∙_, ap, ap₂}
+use mathlib.Core.Path.{_≡_, refl, _∙_, ap}
 use mathlib.Core.Bool.{Bool, true, false, cond, _&&_, _||_, not}
 use mathlib.Core.List.{List, [], _∷_, _++_}
-use Prim.Native.Nat.{ℕ, zero, suc, _+_, _*_, _-_, _≤_, _<_}
+use Prim.Native.Nat.{ℕ, suc, _+_, _*_, _-_, _≤_, _<_}
 use native.Mathlib.Omega.{arith}
 use lib.ListN.{length, length-append}
 use Rattle.laws.specs.Sets.{has, _∪_, _∖_}
@@ -10,12 +10,11 @@ use Rattle.laws.specs.Fold.{tab, spread, sum}
 use Rattle.laws.proofs.SetLaws.{has-or, has-without}
 use Rattle.laws.proofs.FoldLaws.{tab-length}
 use Rattle.laws.proofs.TabLaws.{tab-same, tab-next, tab-done, spread-next, spread-done, spread-length, sum-add}
-use Rattle.answer.specs.Limits.{maxDigits, maxActions, maxClocks}
-use Rattle.sets.specs.Members.{wordBits}
-use Rattle.iosa.specs.Model.{Row, Comp, Model, acts}
-use Rattle.iosa.specs.Text.{tab as tabByte, lf, Kind, in-kind, out-kind, uin-kind, uout-kind, kindWord, decimal, guardField, setField, fieldsAfter, compLine, actLine, clkLine, rowLine, kindOf, actPart, clkPart, rowLines, compText, textOf}
+use Rattle.answer.specs.Limits.{maxActions, maxClocks}
+use Rattle.iosa.specs.Model.{Row, Comp, Model}
+use Rattle.iosa.specs.Text.{Kind, in-kind, out-kind, uin-kind, uout-kind, kindWord, decimal, guardField, setField, fieldsAfter, compLine, actLine, clkLine, rowLine, kindOf, actPart, clkPart, rowLines, compText, textOf}
 use Rattle.measure.specs.Measure.{actLines, clkLines, perMember}
-use Rattle.measure.proofs.Fields.{width-1, width-most, set-most, guard-most, members-most}
+use Rattle.measure.proofs.Fields.{width-1, width-most, set-most, guard-most}
 
 -- ---- lines
 fields-more : (f : List ℕ) (fs : List (List ℕ)) → length (fieldsAfter (f ∷ fs)) ≡ suc (length f + length (fieldsAfter fs))
@@ -115,9 +114,10 @@ module _ (i o u v : ℕ) where
 pub acts-width : (c : Comp) → length (actLines c) ≡ kindsWidth (c .ins) (c .outs) (c .uins) (c .uouts)
 unfolding actPart kindOf actLines
 acts-width c =
-    spread-length (actPart c) 0 maxActions
-    ∙ ap sum (tab-same (λ a. length (actPart c a)) (λ a. ins (c .ins) (c .outs) (c .uins) (c .uouts) a + outs (c .ins) (c .outs) (c .uins) (c .uouts) a + uins (c .ins) (c .outs) (c .uins) (c .uouts) a + uouts (c .ins) (c .outs) (c .uins) (c .uouts) a) 0 maxActions (λ a p q. each-act (c .ins) (c .outs) (c .uins) (c .uouts) a))
-    ∙ four-sums (c .ins) (c .outs) (c .uins) (c .uouts)
+    spread-length (actPart c) 0 maxActions ∙ ap sum (tab-same (λ a. length (actPart c a)) each 0 maxActions (λ a p q. each-act (c .ins) (c .outs) (c .uins) (c .uouts) a)) ∙ four-sums (c .ins) (c .outs) (c .uins) (c .uouts)
+  where
+    each : ℕ → ℕ
+    each a = ins (c .ins) (c .outs) (c .uins) (c .uouts) a + outs (c .ins) (c .outs) (c .uins) (c .uouts) a + uins (c .ins) (c .outs) (c .uins) (c .uouts) a + uouts (c .ins) (c .outs) (c .uins) (c .uouts) a
 
 -- ---- the rows
 pub rows-more : (r : Row) (rs : List Row) → length (rowLines (r ∷ rs)) ≡ length (rowLine r) + length (rowLines rs)

@@ -1,7 +1,7 @@
 -- The machine's counts of digits are the lowest member and the number of members.
 use mathlib.Core.Path.{_≡_, refl, sym, _∙_, ap}
 use mathlib.Core.Option.{Option, none, some}
-use mathlib.Core.Bool.{cond}
+use mathlib.Core.Bool.{cond, true≢false}
 use Prim.Native.Nat.{ℕ, zero, suc, _+_, _/_, _%_, _^_, _<_}
 use native.Mathlib.Nat.{div-one}
 use native.Mathlib.Numerals.{add-one}
@@ -9,9 +9,11 @@ use native.Mathlib.Omega.{arith}
 use lib.Count.{ones, ones-step, under, trailingZeros}
 use lib.Dec.{eqb}
 use lib.Pow.{shr-shr}
-use Rattle.laws.specs.Sets.{has}
-use Rattle.laws.specs.Search.{firstFrom, seek, when}
+use Rattle.laws.specs.Sets.{has, _∈_}
+use Rattle.laws.specs.Search.{firstFrom, seek, when, least}
 use Rattle.laws.specs.Fold.{tab, sum}
+use Rattle.laws.proofs.SetLaws.{same-members, none-in}
+use Rattle.laws.proofs.SearchLaws.{least-none}
 use Rattle.sets.specs.Members.{wordBits, orEnd, lowestOf, sizeOf}
 
 half : (s j : ℕ) → s / 2 ^ j / 2 ≡ s / 2 ^ suc j
@@ -52,3 +54,15 @@ size-from s (suc k) j h =
 pub size-is : (s : ℕ) → s < 2 ^ wordBits → ones s ≡ sizeOf s
 unfolding sizeOf
 size-is s h = ap ones (sym (div-one s)) ∙ size-from s wordBits 0 (rw div-one h)
+
+-- the lowest member of a set that has one
+pub lowest-found : (s : ℕ) → ((x : ℕ) → x ∈ s → x < wordBits) → (s ≡ 0 → ⊥) → least (has s) wordBits ≡ some (lowestOf s)
+unfolding lowestOf
+lowest-found s low ne = go (least (has s) wordBits) refl
+  where
+    nothing : least (has s) wordBits ≡ none → s ≡ 0
+    nothing e = same-members s 0 (λ x h. absurd (true≢false (sym h ∙ least-none (has s) wordBits e x (low x h)))) (λ x h. absurd (none-in x h))
+
+    go : (o : Option ℕ) → least (has s) wordBits ≡ o → o ≡ some (orEnd o wordBits)
+    go none e = absurd (ne (nothing e))
+    go (some k) e = refl

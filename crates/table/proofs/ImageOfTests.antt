@@ -1,15 +1,14 @@
 -- A table that passes every test is an image: of its own model.
-use mathlib.Core.Path.{_≡_, refl, sym, _∙_, ap}
-use mathlib.Core.Bool.{Bool, true, false}
+use mathlib.Core.Path.{_≡_, sym, ap}
+use mathlib.Core.Bool.{true}
 use mathlib.Core.List.{List}
-use Prim.Native.Nat.{ℕ, zero, suc, _+_, _*_, _-_, _^_, _≤_, _<_}
+use Prim.Native.Nat.{ℕ, suc, _+_, _*_, _-_, _^_, _≤_, _<_}
 use native.Mathlib.Omega.{arith}
-use lib.ListN.{length, getD}
-use Rattle.answer.specs.Limits.{maxComponents, maxStates, maxRows}
+use lib.ListN.{getD}
+use Rattle.answer.specs.Limits.{maxRows}
 use Rattle.sets.specs.Members.{wordBits}
-use Rattle.iosa.specs.Model.{compAt, rowCount}
 use Rattle.iosa.specs.WellFormed.{WellComp, WellFormed}
-use Rattle.layout.specs.Layout.{blockWords, rowWords, rowsAt, imageWords, countOf, blockWord, firstOf}
+use Rattle.layout.specs.Layout.{blockWords, rowWords, rowsAt, countOf, blockWord, firstOf}
 use Rattle.layout.specs.Image.{compOf, modelOf, Image}
 use Rattle.layout.specs.Laid.{Laid}
 use Rattle.layout.proofs.ModelOf.{model-length, comp-at}

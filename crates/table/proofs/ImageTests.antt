@@ -1,5 +1,5 @@
 -- The whole test, part by part.
-use mathlib.Core.Path.{_≡_, refl, sym, _∙_, ap}
+use mathlib.Core.Path.{_≡_, sym, _∙_}
 use mathlib.Core.Bool.{Bool, true, false}
 use mathlib.Core.List.{List}
 use Prim.Native.Nat.{ℕ, _^_, _≤_, _<_}
@@ -7,7 +7,6 @@ use native.Mathlib.Omega.{arith}
 use lib.ListN.{length, getD}
 use lib.Dec.{ltb, leb}
 use borrow.Author.Tests.{ltb-true, lt-ltb, leb-true, le-leb, lt-leb}
-use Rattle.laws.specs.Fold.{all}
 use Rattle.laws.specs.Tests.{both}
 use Rattle.laws.proofs.FoldLaws.{all-true, true-all}
 use Rattle.laws.proofs.TestLaws.{both-true, true-both, both-no, both-go}

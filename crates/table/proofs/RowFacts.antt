@@ -1,19 +1,17 @@
 -- What the tests of the rows tell, and back.
-use mathlib.Core.Path.{_≡_, refl, sym, _∙_, ap}
-use mathlib.Core.Bool.{Bool, true, false}
+use mathlib.Core.Path.{_≡_}
+use mathlib.Core.Bool.{Bool, true}
 use mathlib.Core.List.{List}
-use Prim.Native.Nat.{ℕ, zero, suc, _+_, _*_, _-_, _≤_, _<_}
+use Prim.Native.Nat.{ℕ, suc, _+_, _*_, _-_, _≤_, _<_}
 use native.Mathlib.Omega.{arith}
 use lib.ListN.{getD}
-use lib.Dec.{ltb}
 use borrow.Author.Tests.{ltb-true, lt-ltb}
 use Rattle.laws.specs.Sets.{has, within}
 use Rattle.laws.specs.Fold.{all}
-use Rattle.laws.specs.Tests.{both}
 use Rattle.laws.proofs.SetLaws.{within-true, true-within}
 use Rattle.laws.proofs.FoldLaws.{all-true, true-all}
 use Rattle.laws.proofs.TestLaws.{both-true, true-both}
-use Rattle.iosa.specs.Model.{Row, acts, guardSet}
+use Rattle.iosa.specs.Model.{acts, guardSet}
 use Rattle.iosa.specs.WellFormed.{before, WellRow}
 use Rattle.layout.specs.Layout.{rowWords, rowsAt, imageWords, countOf, blockWord, firstOf, actionAt, guardAt, resetsAt, targetAt}
 use Rattle.layout.specs.Image.{rowIn, compOf}

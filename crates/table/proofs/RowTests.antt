@@ -1,6 +1,6 @@
 -- The tests of a row, as the code makes them: a guard by one member, and the order of two rows number by number.
 use mathlib.Core.Path.{_≡_, refl, sym, _∙_, ap}
-use mathlib.Core.Bool.{Bool, true, false, false≢true, true≢false}
+use mathlib.Core.Bool.{Bool, true, false, true≢false}
 use mathlib.Core.List.{List, [], _∷_}
 use Prim.Native.Nat.{ℕ, zero, suc, _+_, _-_, _^_, _≤_, _<_}
 use native.Mathlib.Numerals.{add-one}
@@ -14,7 +14,6 @@ use Rattle.sets.specs.Members.{wordBits}
 use Rattle.iosa.specs.Model.{guardSet}
 use Rattle.iosa.specs.WellFormed.{lower, before}
 use Rattle.layout.specs.Layout.{actionAt, guardAt, resetsAt, targetAt}
-use Rattle.layout.specs.Image.{rowIn}
 use Rattle.table.specs.Rows.{climbs}
 
 -- a machine's word has no member at 64 or above

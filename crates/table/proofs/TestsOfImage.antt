@@ -1,30 +1,29 @@
 -- An image passes every test.
-use mathlib.Core.Path.{_≡_, refl, sym, _∙_, ap}
-use mathlib.Core.Bool.{Bool, true, false}
-use mathlib.Core.List.{List, [], _∷_}
+use mathlib.Core.Path.{_≡_, sym, ap}
+use mathlib.Core.Bool.{true}
+use mathlib.Core.List.{List}
 use Prim.Native.Nat.{ℕ, zero, suc, _+_, _*_, _-_, _/_, _%_, _^_, _≤_, _<_}
 use native.Mathlib.Omega.{arith}
 use native.Mathlib.Decide.{decLt}
-use lib.ListN.{length, getD, take}
+use lib.ListN.{length, getD}
 use Rattle.laws.proofs.SetLaws.{subset-le}
-use Rattle.answer.specs.Limits.{maxComponents, maxStates, maxRows}
+use Rattle.answer.specs.Limits.{maxComponents, maxRows}
 use Rattle.sets.specs.Members.{wordBits}
 use Rattle.iosa.specs.Model.{Row, Comp, rowAt, compAt, rowCount}
-use Rattle.iosa.specs.WellFormed.{before, WellRow, WellComp, WellFormed}
+use Rattle.iosa.specs.WellFormed.{before, WellRow, WellComp}
 use Rattle.layout.specs.Layout.{headWords, blockWords, rowWords, rowsAt, imageWords, countOf, blockWord, firstOf}
 use Rattle.layout.specs.Image.{rowIn, compOf, modelOf, Image, Sane}
 use Rattle.layout.specs.Laid.{Laid}
 use Rattle.layout.specs.Words.{wordsOf, rowWord, Holds}
-use Rattle.layout.proofs.ModelOf.{model-length, comp-at}
 use Rattle.layout.proofs.RowsOfRange.{well-formed, image-front, count-some, well-comp, rows-end, rows-fit, row-there, range-from, range-to, range-row}
 use Rattle.layout.proofs.ImageIsSane.{acts-below, guard-below, image-is-sane}
-use Rattle.layout.proofs.ImageIsLaid.{rows-last, image-is-laid}
+use Rattle.layout.proofs.ImageIsLaid.{image-is-laid}
 use Rattle.layout.proofs.FrontByWords.{image-holds, row-of}
 use Rattle.blocks.specs.Blocks.{endBefore, firstPlace}
 use Rattle.blocks.proofs.BlockFacts.{Blocks, Firsts, blocks-so}
 use Rattle.table.specs.IsImage.{isImage}
-use Rattle.table.proofs.ImageTests.{Parts, parts-image, fits-so}
-use Rattle.table.proofs.RowFacts.{isRow, AllRows, CompRows, row-so, rows-so}
+use Rattle.table.proofs.ImageTests.{parts-image, fits-so}
+use Rattle.table.proofs.RowFacts.{isRow, AllRows, row-so, rows-so}
 
 -- the words of a row that its component has
 row-fits : (c : Comp) → WellComp c → (r : Row) → WellRow c r → (v : ℕ) → v < rowWords → getD (wordsOf r) v 0 < 2 ^ wordBits

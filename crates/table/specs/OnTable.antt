@@ -1,8 +1,8 @@
 -- A call on a table (01, "Refusal numbers"): "Tables: 20; then ..".
-use mathlib.Core.Bool.{Bool, true, false}
+use mathlib.Core.Bool.{true, false}
 use mathlib.Core.List.{List}
 use Prim.Native.Nat.{ℕ}
-use Rattle.answer.specs.Told.{Answer, answered, refused}
+use Rattle.answer.specs.Told.{Answer, refused}
 use Rattle.iosa.specs.Model.{Model}
 use Rattle.layout.specs.Image.{modelOf, noImage}
 use Rattle.table.specs.IsImage.{isImage}

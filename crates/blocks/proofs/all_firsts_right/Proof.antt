@@ -30,13 +30,23 @@ firsts-right-requires : tie.Need-firsts-right-requires Inv-loop μ-loop
 firsts-right-requires c κs = (c .before .before .before .pre .0, omega arith, c .before .before .before .pre .2 (c .before .loop .i) (c .loop-test .taken), c .before .loop .inv .1)
 
 returns : tie.Need-returns Inv-loop μ-loop
-returns c = all-fails (firstsRight (c .before .before .before .before .before .args .t .now)) (c .before .before .before .loop .i) (c .before .before .before .before .before .args .count) (c .before .before .before .loop .inv .0) (c .before .before .loop-test .taken) (sym (c .before .firsts-right .ensures) ∙ not-true (c .before .firsts-right .result) (c .if1 .taken))
+returns c =
+    let args = c .before .before .before .before .before .args in
+    let loop = c .before .before .before .loop in
+    let loop-test = c .before .before .loop-test in
+    let firsts-right = c .before .firsts-right in
+    let i = loop .i in
+    all-fails (firstsRight (args .t .now)) i (args .count) (loop .inv .0) (loop-test .taken) (sym (firsts-right .ensures) ∙ not-true (firsts-right .result) (c .if1 .taken))
 
 block-word-requires : tie.Need-block-word-requires Inv-loop μ-loop
 block-word-requires c κs = (c .before .before .before .before .before .pre .0, omega arith, omega arith)
 
 first-of-requires : tie.Need-first-of-requires Inv-loop μ-loop
-first-of-requires c κs = (c .before .before .before .before .before .before .pre .0, omega arith, omega (arith, c .before .before .before .before .before .before .pre .2 (c .before .before .before .before .loop .i) (c .before .before .before .loop-test .taken)))
+first-of-requires c κs =
+    let the-pre = c .before .before .before .before .before .before .pre in
+    let loop = c .before .before .before .before .loop in
+    let loop-test = c .before .before .before .loop-test in
+    (the-pre .0, omega arith, omega (arith, the-pre .2 (loop .i) (loop-test .taken)))
 
 add-i : tie.Need-add-i Inv-loop μ-loop
 add-i c = omega arith
@@ -45,7 +55,16 @@ loop-less : tie.Need-loop-less Inv-loop μ-loop
 loop-less c = omega arith
 
 loop-again : tie.Need-loop-again Inv-loop μ-loop
-loop-again c = (all-goes-on (firstsRight (c .before .before .before .before .before .before .before .args .t .now)) (c .before .before .before .before .before .loop .i) (c .before .before .before .before .before .before .before .args .count) (c .before .before .before .before .before .loop .inv .0) (c .before .before .before .before .loop-test .taken) (sym (c .before .before .before .firsts-right .ensures) ∙ not-false (c .before .before .before .firsts-right .result) (c .before .before .if1 .left)), handed (c .before .before .before .before .before .before .before .args .t .now) (c .before .before .before .before .before .loop .i) (c .before .block-word .result) (c .before .block-word .ensures) (c .first-of .ensures))
+loop-again c =
+    let args = c .before .before .before .before .before .before .before .args in
+    let loop = c .before .before .before .before .before .loop in
+    let loop-test = c .before .before .before .before .loop-test in
+    let firsts-right = c .before .before .before .firsts-right in
+    let if1 = c .before .before .if1 in
+    let block-word = c .before .block-word in
+    let t = args .t .now in
+    let i = loop .i in
+    (all-goes-on (firstsRight t) i (args .count) (loop .inv .0) (loop-test .taken) (sym (firsts-right .ensures) ∙ not-false (firsts-right .result) (if1 .left)), handed t i (block-word .result) (block-word .ensures) (c .first-of .ensures))
 
 returns-2 : tie.Need-returns-2 Inv-loop μ-loop
 returns-2 c = all-passed (firstsRight (c .before .before .before .args .t .now)) (c .before .loop .i) (c .before .before .before .args .count) (c .before .loop .inv .0) (c .loop-test .left)

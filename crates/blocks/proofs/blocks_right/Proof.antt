@@ -1,9 +1,8 @@
 -- `blocks::blocks_right`: test by test.
-use mathlib.Core.Path.{_≡_, sym, _∙_, ap}
-use mathlib.Core.Bool.{Bool}
-use Prim.Native.Nat.{ℕ, _+_, _*_}
+use mathlib.Core.Path.{sym, _∙_, ap}
+use Prim.Native.Nat.{_+_, _*_}
 use native.Mathlib.Omega.{arith}
-use borrow.Author.Tests.{le-leb, lt-leb, not-true, not-false}
+use borrow.Author.Tests.{le-leb, lt-leb, not-false}
 use Rattle.laws.specs.Fold.{all}
 use Rattle.laws.proofs.TestLaws.{both-no, both-go}
 use Rattle.answer.specs.Limits.{maxComponents}
@@ -11,11 +10,9 @@ use Rattle.layout.specs.Layout.{blockWords, rowsAt, countOf}
 use Rattle.blocks.specs.Blocks.{zeroWords, headRight, firstsRight, blocksRight}
 use Rattle.blocks.proofs.BlockFacts.{heads-states}
 use borrow.Author.Needs.{needs}
+use Rattle.blocks.proofs.CodeTests.{passed, failed}
 use Rattle.blocks.proofs.blocks_right.Statement.{statement}
 use Rattle.blocks.proofs.blocks_right.Tie as tie
-
-counted : (f : ℕ → Bool) (lo : ℕ) {n m : ℕ} {x : Bool} → n ≡ m → all f lo n ≡ x → all f lo m ≡ x
-counted f lo p e = ap (all f lo) (sym p) ∙ e
 
 count-of-requires : tie.Need-count-of-requires
 count-of-requires c κs = search needs
@@ -26,21 +23,46 @@ returns c = sym (both-no _ _ (lt-leb 1 (countOf (c .before .before .before .args
 
 returns-2 : tie.Need-returns-2
 unfolding blocksRight
-returns-2 c = sym (both-go _ _ (le-leb 1 (countOf (c .before .before .before .before .args .t .now)) (omega arith)) ∙ both-no _ _ (lt-leb (countOf (c .before .before .before .before .args .t .now)) maxComponents (omega arith)))
+returns-2 c =
+    let args = c .before .before .before .before .args in
+    let t = args .t .now in
+    sym (both-go _ _ (le-leb 1 (countOf t) (omega arith)) ∙ both-no _ _ (lt-leb (countOf t) maxComponents (omega arith)))
 
 heads-right-requires : tie.Need-heads-right-requires
 heads-right-requires c κs = search needs
 
 returns-3 : tie.Need-returns-3
 unfolding blocksRight
-returns-3 c = sym (both-go _ _ (le-leb 1 (countOf (c .before .before .before .before .before .before .args .t .now)) (omega arith)) ∙ both-go _ _ (le-leb (countOf (c .before .before .before .before .before .before .args .t .now)) maxComponents (omega arith)) ∙ both-no _ _ (counted (headRight (c .before .before .before .before .before .before .args .t .now)) 0 (c .before .before .before .before .count-of .ensures) (sym (c .before .heads-right .ensures) ∙ not-true (c .before .heads-right .result) (c .if3 .taken))))
+returns-3 c =
+    let args = c .before .before .before .before .before .before .args in
+    let count-of = c .before .before .before .before .count-of in
+    let heads-right = c .before .heads-right in
+    let t = args .t .now in
+    sym (both-go _ _ (le-leb 1 (countOf t) (omega arith))
+    ∙ both-go _ _ (le-leb (countOf t) maxComponents (omega arith))
+    ∙ failed (heads-right .result) _ (heads-right .ensures ∙ ap (all (headRight t) 0) (count-of .ensures)) (c .if3 .taken))
 
 all-firsts-right-requires : tie.Need-all-firsts-right-requires
-all-firsts-right-requires c κs = (c .before .before .before .before .before .before .pre, omega arith, heads-states (c .before .before .before .before .before .before .args .t .now) (c .before .before .before .before .count-of .result) (sym (c .before .heads-right .ensures) ∙ not-false (c .before .heads-right .result) (c .if3 .left)))
+all-firsts-right-requires c κs =
+    let the-pre = c .before .before .before .before .before .before .pre in
+    let args = c .before .before .before .before .before .before .args in
+    let count-of = c .before .before .before .before .count-of in
+    let heads-right = c .before .heads-right in
+    (the-pre, omega arith, heads-states (args .t .now) (count-of .result) (sym (heads-right .ensures) ∙ not-false (heads-right .result) (c .if3 .left)))
 
 returns-4 : tie.Need-returns-4
 unfolding blocksRight
-returns-4 c = sym (both-go _ _ (le-leb 1 (countOf (c .before .before .before .before .before .before .before .before .args .t .now)) (omega arith)) ∙ both-go _ _ (le-leb (countOf (c .before .before .before .before .before .before .before .before .args .t .now)) maxComponents (omega arith)) ∙ both-go _ _ (counted (headRight (c .before .before .before .before .before .before .before .before .args .t .now)) 0 (c .before .before .before .before .before .before .count-of .ensures) (sym (c .before .before .before .heads-right .ensures) ∙ not-false (c .before .before .before .heads-right .result) (c .before .before .if3 .left))) ∙ both-no _ _ (counted (firstsRight (c .before .before .before .before .before .before .before .before .args .t .now)) 0 (c .before .before .before .before .before .before .count-of .ensures) (sym (c .before .all-firsts-right .ensures) ∙ not-true (c .before .all-firsts-right .result) (c .if4 .taken))))
+returns-4 c =
+    let args = c .before .before .before .before .before .before .before .before .args in
+    let count-of = c .before .before .before .before .before .before .count-of in
+    let heads-right = c .before .before .before .heads-right in
+    let if3 = c .before .before .if3 in
+    let all-firsts-right = c .before .all-firsts-right in
+    let t = args .t .now in
+    sym (both-go _ _ (le-leb 1 (countOf t) (omega arith))
+    ∙ both-go _ _ (le-leb (countOf t) maxComponents (omega arith))
+    ∙ passed (heads-right .result) (heads-right .ensures ∙ ap (all (headRight t) 0) (count-of .ensures)) (if3 .left)
+    ∙ failed (all-firsts-right .result) _ (all-firsts-right .ensures ∙ ap (all (firstsRight t) 0) (count-of .ensures)) (c .if4 .taken))
 
 mul-zero-words : tie.Need-mul-zero-words
 mul-zero-words c = search needs
@@ -53,7 +75,19 @@ zero-words-requires c κs = search needs
 
 returns-5 : tie.Need-returns-5
 unfolding blocksRight
-returns-5 c = c .zero-words .ensures ∙ ap (λ n. zeroWords (c .before .before .before .before .before .before .before .before .before .args .t .now) (1 + blockWords * n) rowsAt) (c .before .before .before .before .before .before .before .count-of .ensures) ∙ sym (both-go _ _ (le-leb 1 (countOf (c .before .before .before .before .before .before .before .before .before .args .t .now)) (omega arith)) ∙ both-go _ _ (le-leb (countOf (c .before .before .before .before .before .before .before .before .before .args .t .now)) maxComponents (omega arith)) ∙ both-go _ _ (counted (headRight (c .before .before .before .before .before .before .before .before .before .args .t .now)) 0 (c .before .before .before .before .before .before .before .count-of .ensures) (sym (c .before .before .before .before .heads-right .ensures) ∙ not-false (c .before .before .before .before .heads-right .result) (c .before .before .before .if3 .left))) ∙ both-go _ _ (counted (firstsRight (c .before .before .before .before .before .before .before .before .before .args .t .now)) 0 (c .before .before .before .before .before .before .before .count-of .ensures) (sym (c .before .before .all-firsts-right .ensures) ∙ not-false (c .before .before .all-firsts-right .result) (c .before .if4 .left))))
+returns-5 c =
+    let args = c .before .before .before .before .before .before .before .before .before .args in
+    let count-of = c .before .before .before .before .before .before .before .count-of in
+    let heads-right = c .before .before .before .before .heads-right in
+    let if3 = c .before .before .before .if3 in
+    let all-firsts-right = c .before .before .all-firsts-right in
+    let t = args .t .now in
+    c .zero-words .ensures
+    ∙ ap (λ n. zeroWords t (1 + blockWords * n) rowsAt) (count-of .ensures)
+    ∙ sym (both-go _ _ (le-leb 1 (countOf t) (omega arith))
+    ∙ both-go _ _ (le-leb (countOf t) maxComponents (omega arith))
+    ∙ passed (heads-right .result) (heads-right .ensures ∙ ap (all (headRight t) 0) (count-of .ensures)) (if3 .left)
+    ∙ passed (all-firsts-right .result) (all-firsts-right .ensures ∙ ap (all (firstsRight t) 0) (count-of .ensures)) (c .before .if4 .left))
 
 pub blocks-right-spec : {M : Type 1} → statement M
 blocks-right-spec =

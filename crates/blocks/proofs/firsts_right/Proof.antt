@@ -34,21 +34,48 @@ first-of-requires c κs = search needs
 
 returns : tie.Need-returns
 unfolding firstsRight
-returns c = sym (both-no _ _ (ne-eqb (firstOf (c .before .before .before .before .args .t .now) (c .before .before .before .before .args .i) 0) (endBefore (c .before .before .before .before .args .t .now) (c .before .before .before .before .args .i)) (λ e. c .if1 .taken (c .before .first-of .ensures ∙ e ∙ sym (c .before .before .before .before .pre .3)))))
+returns c =
+    let args = c .before .before .before .before .args in
+    let the-pre = c .before .before .before .before .pre in
+    let i = args .i in
+    let t = args .t .now in
+    sym (both-no _ _ (ne-eqb (firstOf t i 0) (endBefore t i) (λ e. c .if1 .taken (c .before .first-of .ensures ∙ e ∙ sym (the-pre .3)))))
 
 in-order-requires : tie.Need-in-order-requires
 in-order-requires c κs = search needs
 
 returns-2 : tie.Need-returns-2
 unfolding firstsRight
-returns-2 c = sym (begins (c .before .before .before .before .before .before .args .t .now) (c .before .before .before .before .before .before .args .i) (c .before .before .before .before .before .before .args .end) (c .before .before .before .before .before .before .pre .3) (sym (c .before .before .before .first-of .ensures) ∙ c .before .before .if1 .left) ∙ both-no _ _ (ordered (c .before .before .before .before .before .before .args .t .now) (c .before .before .before .before .before .before .args .i) (c .before .before .before .before .block-word .result) (c .before .before .before .before .block-word .ensures) (sym (c .before .in-order .ensures) ∙ not-true (c .before .in-order .result) (c .if2 .taken))))
+returns-2 c =
+    let args = c .before .before .before .before .before .before .args in
+    let the-pre = c .before .before .before .before .before .before .pre in
+    let block-word = c .before .before .before .before .block-word in
+    let first-of = c .before .before .before .first-of in
+    let if1 = c .before .before .if1 in
+    let the-in-order = c .before .in-order in
+    let i = args .i in
+    let t = args .t .now in
+    sym (begins t i (args .end) (the-pre .3) (sym (first-of .ensures) ∙ if1 .left)
+    ∙ both-no _ _ (ordered t i (block-word .result) (block-word .ensures) (sym (the-in-order .ensures) ∙ not-true (the-in-order .result) (c .if2 .taken))))
 
 first-of-requires-2 : tie.Need-first-of-requires-2
 first-of-requires-2 c κs = search needs
 
 returns-3 : tie.Need-returns-3
 unfolding firstsRight
-returns-3 c = sym (begins (c .before .before .before .before .before .before .before .before .args .t .now) (c .before .before .before .before .before .before .before .before .args .i) (c .before .before .before .before .before .before .before .before .args .end) (c .before .before .before .before .before .before .before .before .pre .3) (sym (c .before .before .before .before .before .first-of .ensures) ∙ c .before .before .before .before .if1 .left) ∙ both-go _ _ (ordered (c .before .before .before .before .before .before .before .before .args .t .now) (c .before .before .before .before .before .before .before .before .args .i) (c .before .before .before .before .before .before .block-word .result) (c .before .before .before .before .before .before .block-word .ensures) (sym (c .before .before .before .in-order .ensures) ∙ not-false (c .before .before .before .in-order .result) (c .before .before .if2 .left))) ∙ both-no _ _ (lt-leb (firstOf (c .before .before .before .before .before .before .before .before .args .t .now) (c .before .before .before .before .before .before .before .before .args .i) (blockWord (c .before .before .before .before .before .before .before .before .args .t .now) (c .before .before .before .before .before .before .before .before .args .i) 0)) maxRows (omega (arith, last (c .before .before .before .before .before .before .before .before .args .t .now) (c .before .before .before .before .before .before .before .before .args .i) (c .before .before .before .before .before .before .block-word .result) (c .before .before .before .before .before .before .block-word .ensures)))))
+returns-3 c =
+    let args = c .before .before .before .before .before .before .before .before .args in
+    let the-pre = c .before .before .before .before .before .before .before .before .pre in
+    let block-word = c .before .before .before .before .before .before .block-word in
+    let first-of = c .before .before .before .before .before .first-of in
+    let if1 = c .before .before .before .before .if1 in
+    let the-in-order = c .before .before .before .in-order in
+    let if2 = c .before .before .if2 in
+    let i = args .i in
+    let t = args .t .now in
+    sym (begins t i (args .end) (the-pre .3) (sym (first-of .ensures) ∙ if1 .left)
+    ∙ both-go _ _ (ordered t i (block-word .result) (block-word .ensures) (sym (the-in-order .ensures) ∙ not-false (the-in-order .result) (if2 .left)))
+    ∙ both-no _ _ (lt-leb (firstOf t i (blockWord t i 0)) maxRows (omega (arith, last t i (block-word .result) (block-word .ensures)))))
 
 mul-block : tie.Need-mul-block
 mul-block c = search needs
@@ -73,7 +100,21 @@ zero-words-requires c κs = search needs
 
 returns-4 : tie.Need-returns-4
 unfolding firstsRight
-returns-4 c = c .zero-words .ensures ∙ ap₂ (zeroWords (c .before .before .before .before .before .before .before .before .before .args .t .now)) (omega arith) (omega arith) ∙ sym (begins (c .before .before .before .before .before .before .before .before .before .args .t .now) (c .before .before .before .before .before .before .before .before .before .args .i) (c .before .before .before .before .before .before .before .before .before .args .end) (c .before .before .before .before .before .before .before .before .before .pre .3) (sym (c .before .before .before .before .before .before .first-of .ensures) ∙ c .before .before .before .before .before .if1 .left) ∙ both-go _ _ (ordered (c .before .before .before .before .before .before .before .before .before .args .t .now) (c .before .before .before .before .before .before .before .before .before .args .i) (c .before .before .before .before .before .before .before .block-word .result) (c .before .before .before .before .before .before .before .block-word .ensures) (sym (c .before .before .before .before .in-order .ensures) ∙ not-false (c .before .before .before .before .in-order .result) (c .before .before .before .if2 .left))) ∙ both-go _ _ (le-leb (firstOf (c .before .before .before .before .before .before .before .before .before .args .t .now) (c .before .before .before .before .before .before .before .before .before .args .i) (blockWord (c .before .before .before .before .before .before .before .before .before .args .t .now) (c .before .before .before .before .before .before .before .before .before .args .i) 0)) maxRows (omega (arith, last (c .before .before .before .before .before .before .before .before .before .args .t .now) (c .before .before .before .before .before .before .before .before .before .args .i) (c .before .before .before .before .before .before .before .block-word .result) (c .before .before .before .before .before .before .before .block-word .ensures)))))
+returns-4 c =
+    let args = c .before .before .before .before .before .before .before .before .before .args in
+    let the-pre = c .before .before .before .before .before .before .before .before .before .pre in
+    let block-word = c .before .before .before .before .before .before .before .block-word in
+    let first-of = c .before .before .before .before .before .before .first-of in
+    let if1 = c .before .before .before .before .before .if1 in
+    let the-in-order = c .before .before .before .before .in-order in
+    let if2 = c .before .before .before .if2 in
+    let i = args .i in
+    let t = args .t .now in
+    c .zero-words .ensures
+    ∙ ap₂ (zeroWords t) (omega arith) (omega arith)
+    ∙ sym (begins t i (args .end) (the-pre .3) (sym (first-of .ensures) ∙ if1 .left)
+    ∙ both-go _ _ (ordered t i (block-word .result) (block-word .ensures) (sym (the-in-order .ensures) ∙ not-false (the-in-order .result) (if2 .left)))
+    ∙ both-go _ _ (le-leb (firstOf t i (blockWord t i 0)) maxRows (omega (arith, last t i (block-word .result) (block-word .ensures)))))
 
 pub firsts-right-spec : {M : Type 1} → statement M
 firsts-right-spec =

@@ -23,7 +23,13 @@ head-right-requires : tie.Need-head-right-requires Inv-loop μ-loop
 head-right-requires c κs = search needs
 
 returns : tie.Need-returns Inv-loop μ-loop
-returns c = all-fails (headRight (c .before .before .before .before .before .args .t .now)) (c .before .before .before .loop .i) (c .before .before .before .before .before .args .count) (c .before .before .before .loop .inv) (c .before .before .loop-test .taken) (sym (c .before .head-right .ensures) ∙ not-true (c .before .head-right .result) (c .if1 .taken))
+returns c =
+    let args = c .before .before .before .before .before .args in
+    let loop = c .before .before .before .loop in
+    let loop-test = c .before .before .loop-test in
+    let head-right = c .before .head-right in
+    let i = loop .i in
+    all-fails (headRight (args .t .now)) i (args .count) (loop .inv) (loop-test .taken) (sym (head-right .ensures) ∙ not-true (head-right .result) (c .if1 .taken))
 
 add-i : tie.Need-add-i Inv-loop μ-loop
 add-i c = omega arith
@@ -32,7 +38,13 @@ loop-less : tie.Need-loop-less Inv-loop μ-loop
 loop-less c = omega arith
 
 loop-again : tie.Need-loop-again Inv-loop μ-loop
-loop-again c = all-goes-on (headRight (c .before .before .before .before .before .args .t .now)) (c .before .before .before .loop .i) (c .before .before .before .before .before .args .count) (c .before .before .before .loop .inv) (c .before .before .loop-test .taken) (sym (c .before .head-right .ensures) ∙ not-false (c .before .head-right .result) (c .if1 .left))
+loop-again c =
+    let args = c .before .before .before .before .before .args in
+    let loop = c .before .before .before .loop in
+    let loop-test = c .before .before .loop-test in
+    let head-right = c .before .head-right in
+    let i = loop .i in
+    all-goes-on (headRight (args .t .now)) i (args .count) (loop .inv) (loop-test .taken) (sym (head-right .ensures) ∙ not-false (head-right .result) (c .if1 .left))
 
 returns-2 : tie.Need-returns-2 Inv-loop μ-loop
 returns-2 c = all-passed (headRight (c .before .before .before .args .t .now)) (c .before .loop .i) (c .before .before .before .args .count) (c .before .loop .inv) (c .loop-test .left)

@@ -32,7 +32,15 @@ first-of-requires-2 c κs = search needs
 
 returns : tie.Need-returns Inv-loop μ-loop
 unfolding inOrder
-returns c = let e : firstOf (c .before .before .before .before .before .before .args .t .now) (c .before .before .before .before .before .before .args .i) (c .before .before .before .before .loop .s + 1) ≡ firstOf (c .before .before .before .before .before .before .args .t .now) (c .before .before .before .before .before .before .args .i) (suc (c .before .before .before .before .loop .s)) = ap (firstOf (c .before .before .before .before .before .before .args .t .now) (c .before .before .before .before .before .before .args .i)) (add-one (c .before .before .before .before .loop .s)) in all-fails (inOrder (c .before .before .before .before .before .before .args .t .now) (c .before .before .before .before .before .before .args .i)) (c .before .before .before .before .loop .s) (c .before .before .before .before .before .before .args .states) (c .before .before .before .before .loop .inv) (c .before .before .before .loop-test .taken) (lt-leb (firstOf (c .before .before .before .before .before .before .args .t .now) (c .before .before .before .before .before .before .args .i) (c .before .before .before .before .loop .s)) (firstOf (c .before .before .before .before .before .before .args .t .now) (c .before .before .before .before .before .before .args .i) (suc (c .before .before .before .before .loop .s))) (omega arith))
+returns c =
+    let args = c .before .before .before .before .before .before .args in
+    let loop = c .before .before .before .before .loop in
+    let loop-test = c .before .before .before .loop-test in
+    let i = args .i in
+    let t = args .t .now in
+    let s = loop .s in
+    let e : firstOf t i (s + 1) ≡ firstOf t i (suc s) = ap (firstOf t i) (add-one s) in
+    all-fails (inOrder t i) s (args .states) (loop .inv) (loop-test .taken) (lt-leb (firstOf t i s) (firstOf t i (suc s)) (omega arith))
 
 add-s : tie.Need-add-s Inv-loop μ-loop
 add-s c = omega arith
@@ -42,10 +50,21 @@ loop-less c = omega arith
 
 loop-again : tie.Need-loop-again Inv-loop μ-loop
 unfolding inOrder
-loop-again c = let e : firstOf (c .before .before .before .before .before .before .args .t .now) (c .before .before .before .before .before .before .args .i) (c .before .before .before .before .loop .s + 1) ≡ firstOf (c .before .before .before .before .before .before .args .t .now) (c .before .before .before .before .before .before .args .i) (suc (c .before .before .before .before .loop .s)) = ap (firstOf (c .before .before .before .before .before .before .args .t .now) (c .before .before .before .before .before .before .args .i)) (add-one (c .before .before .before .before .loop .s)) in all-goes-on (inOrder (c .before .before .before .before .before .before .args .t .now) (c .before .before .before .before .before .before .args .i)) (c .before .before .before .before .loop .s) (c .before .before .before .before .before .before .args .states) (c .before .before .before .before .loop .inv) (c .before .before .before .loop-test .taken) (le-leb (firstOf (c .before .before .before .before .before .before .args .t .now) (c .before .before .before .before .before .before .args .i) (c .before .before .before .before .loop .s)) (firstOf (c .before .before .before .before .before .before .args .t .now) (c .before .before .before .before .before .before .args .i) (suc (c .before .before .before .before .loop .s))) (omega arith))
+loop-again c =
+    let args = c .before .before .before .before .before .before .args in
+    let loop = c .before .before .before .before .loop in
+    let loop-test = c .before .before .before .loop-test in
+    let i = args .i in
+    let t = args .t .now in
+    let s = loop .s in
+    let e : firstOf t i (s + 1) ≡ firstOf t i (suc s) = ap (firstOf t i) (add-one s) in
+    all-goes-on (inOrder t i) s (args .states) (loop .inv) (loop-test .taken) (le-leb (firstOf t i s) (firstOf t i (suc s)) (omega arith))
 
 returns-2 : tie.Need-returns-2 Inv-loop μ-loop
-returns-2 c = all-passed (inOrder (c .before .before .before .args .t .now) (c .before .before .before .args .i)) (c .before .loop .s) (c .before .before .before .args .states) (c .before .loop .inv) (c .loop-test .left)
+returns-2 c =
+    let args = c .before .before .before .args in
+    let loop = c .before .loop in
+    all-passed (inOrder (args .t .now) (args .i)) (loop .s) (args .states) (loop .inv) (c .loop-test .left)
 
 pub in-order-spec : {M : Type 1} → statement M
 in-order-spec =

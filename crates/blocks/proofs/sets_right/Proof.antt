@@ -1,11 +1,10 @@
 -- `blocks::sets_right`: test by test.
 use mathlib.Core.Path.{sym, _∙_, ap₂}
 use lib.Bits.{bitAnd, bitOr}
-use borrow.Author.Tests.{eq-eqb, ne-eqb}
-use Rattle.laws.specs.Sets.{_∪_, _∩_, within}
-use Rattle.laws.proofs.TestLaws.{both-no, both-go}
+use Rattle.laws.specs.Sets.{_∪_, within}
 use Rattle.layout.specs.Layout.{blockWord}
 use Rattle.blocks.specs.Blocks.{setsRight}
+use Rattle.blocks.proofs.CodeTests.{shares-none, shares-some}
 use borrow.Author.Needs.{needs}
 use Rattle.blocks.proofs.sets_right.Statement.{statement}
 use Rattle.blocks.proofs.sets_right.Tie as tie
@@ -21,14 +20,29 @@ block-word-requires-3 c κs = search needs
 
 returns : tie.Need-returns
 unfolding setsRight
-returns c = sym (both-no _ _ (ne-eqb ((blockWord (c .before .before .before .before .before .args .t .now) (c .before .before .before .before .before .args .i) 2) ∩ (blockWord (c .before .before .before .before .before .args .t .now) (c .before .before .before .before .before .args .i) 3)) 0 (λ e. c .if1 .taken (ap₂ bitAnd (c .before .before .before .block-word .ensures) (c .before .before .block-word2 .ensures) ∙ e))))
+returns c =
+    let args = c .before .before .before .before .before .args in
+    let t = args .t .now in
+    let i = args .i in
+    let ins = c .before .before .before .block-word .ensures in
+    let outs = c .before .before .block-word2 .ensures in
+    sym (shares-some (blockWord t i 2) (blockWord t i 3) _ (ap₂ bitAnd ins outs) (c .if1 .taken))
 
 union-requires : tie.Need-union-requires
 union-requires c κs = search needs
 
 returns-2 : tie.Need-returns-2
 unfolding setsRight
-returns-2 c = sym (both-go _ _ (eq-eqb ((blockWord (c .before .before .before .before .before .before .before .args .t .now) (c .before .before .before .before .before .before .before .args .i) 2) ∩ (blockWord (c .before .before .before .before .before .before .before .args .t .now) (c .before .before .before .before .before .before .before .args .i) 3)) 0 (sym (ap₂ bitAnd (c .before .before .before .before .before .block-word .ensures) (c .before .before .before .before .block-word2 .ensures)) ∙ c .before .before .if1 .left)) ∙ both-no _ _ (ne-eqb (((blockWord (c .before .before .before .before .before .before .before .args .t .now) (c .before .before .before .before .before .before .before .args .i) 2) ∪ (blockWord (c .before .before .before .before .before .before .before .args .t .now) (c .before .before .before .before .before .before .before .args .i) 3)) ∩ (blockWord (c .before .before .before .before .before .before .before .args .t .now) (c .before .before .before .before .before .before .before .args .i) 4)) 0 (λ e. c .if2 .taken (ap₂ bitAnd (c .before .union .ensures ∙ ap₂ bitOr (c .before .before .before .before .before .block-word .ensures) (c .before .before .before .before .block-word2 .ensures)) (c .before .before .before .block-word3 .ensures) ∙ e))))
+returns-2 c =
+    let args = c .before .before .before .before .before .before .before .args in
+    let t = args .t .now in
+    let i = args .i in
+    let ins = c .before .before .before .before .before .block-word .ensures in
+    let outs = c .before .before .before .before .block-word2 .ensures in
+    let uins = c .before .before .before .block-word3 .ensures in
+    let two = c .before .union .ensures ∙ ap₂ bitOr ins outs in
+    sym (shares-none (blockWord t i 2) (blockWord t i 3) (ap₂ bitAnd ins outs) (c .before .before .if1 .left)
+    ∙ shares-some ((blockWord t i 2) ∪ (blockWord t i 3)) (blockWord t i 4) _ (ap₂ bitAnd two uins) (c .if2 .taken))
 
 union-requires-2 : tie.Need-union-requires-2
 union-requires-2 c κs = search needs
@@ -38,7 +52,19 @@ block-word-requires-4 c κs = search needs
 
 returns-3 : tie.Need-returns-3
 unfolding setsRight
-returns-3 c = sym (both-go _ _ (eq-eqb ((blockWord (c .before .before .before .before .before .before .before .before .before .before .args .t .now) (c .before .before .before .before .before .before .before .before .before .before .args .i) 2) ∩ (blockWord (c .before .before .before .before .before .before .before .before .before .before .args .t .now) (c .before .before .before .before .before .before .before .before .before .before .args .i) 3)) 0 (sym (ap₂ bitAnd (c .before .before .before .before .before .before .before .before .block-word .ensures) (c .before .before .before .before .before .before .before .block-word2 .ensures)) ∙ c .before .before .before .before .before .if1 .left)) ∙ both-go _ _ (eq-eqb (((blockWord (c .before .before .before .before .before .before .before .before .before .before .args .t .now) (c .before .before .before .before .before .before .before .before .before .before .args .i) 2) ∪ (blockWord (c .before .before .before .before .before .before .before .before .before .before .args .t .now) (c .before .before .before .before .before .before .before .before .before .before .args .i) 3)) ∩ (blockWord (c .before .before .before .before .before .before .before .before .before .before .args .t .now) (c .before .before .before .before .before .before .before .before .before .before .args .i) 4)) 0 (sym (ap₂ bitAnd (c .before .before .before .before .union .ensures ∙ ap₂ bitOr (c .before .before .before .before .before .before .before .before .block-word .ensures) (c .before .before .before .before .before .before .before .block-word2 .ensures)) (c .before .before .before .before .before .before .block-word3 .ensures)) ∙ c .before .before .before .if2 .left)) ∙ both-no _ _ (ne-eqb (((blockWord (c .before .before .before .before .before .before .before .before .before .before .args .t .now) (c .before .before .before .before .before .before .before .before .before .before .args .i) 2) ∪ (blockWord (c .before .before .before .before .before .before .before .before .before .before .args .t .now) (c .before .before .before .before .before .before .before .before .before .before .args .i) 3) ∪ (blockWord (c .before .before .before .before .before .before .before .before .before .before .args .t .now) (c .before .before .before .before .before .before .before .before .before .before .args .i) 4)) ∩ (blockWord (c .before .before .before .before .before .before .before .before .before .before .args .t .now) (c .before .before .before .before .before .before .before .before .before .before .args .i) 5)) 0 (λ e. c .if3 .taken (ap₂ bitAnd (c .before .before .union2 .ensures ∙ ap₂ bitOr (c .before .before .before .before .union .ensures ∙ ap₂ bitOr (c .before .before .before .before .before .before .before .before .block-word .ensures) (c .before .before .before .before .before .before .before .block-word2 .ensures)) (c .before .before .before .before .before .before .block-word3 .ensures)) (c .before .block-word4 .ensures) ∙ e))))
+returns-3 c =
+    let args = c .before .before .before .before .before .before .before .before .before .before .args in
+    let t = args .t .now in
+    let i = args .i in
+    let ins = c .before .before .before .before .before .before .before .before .block-word .ensures in
+    let outs = c .before .before .before .before .before .before .before .block-word2 .ensures in
+    let uins = c .before .before .before .before .before .before .block-word3 .ensures in
+    let two = c .before .before .before .before .union .ensures ∙ ap₂ bitOr ins outs in
+    let three = c .before .before .union2 .ensures ∙ ap₂ bitOr two uins in
+    let uouts = c .before .block-word4 .ensures in
+    sym (shares-none (blockWord t i 2) (blockWord t i 3) (ap₂ bitAnd ins outs) (c .before .before .before .before .before .if1 .left)
+    ∙ shares-none ((blockWord t i 2) ∪ (blockWord t i 3)) (blockWord t i 4) (ap₂ bitAnd two uins) (c .before .before .before .if2 .left)
+    ∙ shares-some ((blockWord t i 2) ∪ (blockWord t i 3) ∪ (blockWord t i 4)) (blockWord t i 5) _ (ap₂ bitAnd three uouts) (c .if3 .taken))
 
 block-word-requires-5 : tie.Need-block-word-requires-5
 block-word-requires-5 c κs = search needs
@@ -51,7 +77,21 @@ lies-in-requires c κs = search needs
 
 returns-4 : tie.Need-returns-4
 unfolding setsRight
-returns-4 c = c .lies-in .ensures ∙ ap₂ within (c .before .before .block-word5 .ensures) (c .before .block-word6 .ensures) ∙ sym (both-go _ _ (eq-eqb ((blockWord (c .before .before .before .before .before .before .before .before .before .before .before .before .before .args .t .now) (c .before .before .before .before .before .before .before .before .before .before .before .before .before .args .i) 2) ∩ (blockWord (c .before .before .before .before .before .before .before .before .before .before .before .before .before .args .t .now) (c .before .before .before .before .before .before .before .before .before .before .before .before .before .args .i) 3)) 0 (sym (ap₂ bitAnd (c .before .before .before .before .before .before .before .before .before .before .before .block-word .ensures) (c .before .before .before .before .before .before .before .before .before .before .block-word2 .ensures)) ∙ c .before .before .before .before .before .before .before .before .if1 .left)) ∙ both-go _ _ (eq-eqb (((blockWord (c .before .before .before .before .before .before .before .before .before .before .before .before .before .args .t .now) (c .before .before .before .before .before .before .before .before .before .before .before .before .before .args .i) 2) ∪ (blockWord (c .before .before .before .before .before .before .before .before .before .before .before .before .before .args .t .now) (c .before .before .before .before .before .before .before .before .before .before .before .before .before .args .i) 3)) ∩ (blockWord (c .before .before .before .before .before .before .before .before .before .before .before .before .before .args .t .now) (c .before .before .before .before .before .before .before .before .before .before .before .before .before .args .i) 4)) 0 (sym (ap₂ bitAnd (c .before .before .before .before .before .before .before .union .ensures ∙ ap₂ bitOr (c .before .before .before .before .before .before .before .before .before .before .before .block-word .ensures) (c .before .before .before .before .before .before .before .before .before .before .block-word2 .ensures)) (c .before .before .before .before .before .before .before .before .before .block-word3 .ensures)) ∙ c .before .before .before .before .before .before .if2 .left)) ∙ both-go _ _ (eq-eqb (((blockWord (c .before .before .before .before .before .before .before .before .before .before .before .before .before .args .t .now) (c .before .before .before .before .before .before .before .before .before .before .before .before .before .args .i) 2) ∪ (blockWord (c .before .before .before .before .before .before .before .before .before .before .before .before .before .args .t .now) (c .before .before .before .before .before .before .before .before .before .before .before .before .before .args .i) 3) ∪ (blockWord (c .before .before .before .before .before .before .before .before .before .before .before .before .before .args .t .now) (c .before .before .before .before .before .before .before .before .before .before .before .before .before .args .i) 4)) ∩ (blockWord (c .before .before .before .before .before .before .before .before .before .before .before .before .before .args .t .now) (c .before .before .before .before .before .before .before .before .before .before .before .before .before .args .i) 5)) 0 (sym (ap₂ bitAnd (c .before .before .before .before .before .union2 .ensures ∙ ap₂ bitOr (c .before .before .before .before .before .before .before .union .ensures ∙ ap₂ bitOr (c .before .before .before .before .before .before .before .before .before .before .before .block-word .ensures) (c .before .before .before .before .before .before .before .before .before .before .block-word2 .ensures)) (c .before .before .before .before .before .before .before .before .before .block-word3 .ensures)) (c .before .before .before .before .block-word4 .ensures)) ∙ c .before .before .before .if3 .left)))
+returns-4 c =
+    let args = c .before .before .before .before .before .before .before .before .before .before .before .before .before .args in
+    let t = args .t .now in
+    let i = args .i in
+    let ins = c .before .before .before .before .before .before .before .before .before .before .before .block-word .ensures in
+    let outs = c .before .before .before .before .before .before .before .before .before .before .block-word2 .ensures in
+    let uins = c .before .before .before .before .before .before .before .before .before .block-word3 .ensures in
+    let two = c .before .before .before .before .before .before .before .union .ensures ∙ ap₂ bitOr ins outs in
+    let three = c .before .before .before .before .before .union2 .ensures ∙ ap₂ bitOr two uins in
+    let uouts = c .before .before .before .before .block-word4 .ensures in
+    c .lies-in .ensures
+    ∙ ap₂ within (c .before .before .block-word5 .ensures) (c .before .block-word6 .ensures)
+    ∙ sym (shares-none (blockWord t i 2) (blockWord t i 3) (ap₂ bitAnd ins outs) (c .before .before .before .before .before .before .before .before .if1 .left)
+    ∙ shares-none ((blockWord t i 2) ∪ (blockWord t i 3)) (blockWord t i 4) (ap₂ bitAnd two uins) (c .before .before .before .before .before .before .if2 .left)
+    ∙ shares-none ((blockWord t i 2) ∪ (blockWord t i 3) ∪ (blockWord t i 4)) (blockWord t i 5) (ap₂ bitAnd three uouts) (c .before .before .before .if3 .left))
 
 pub sets-right-spec : {M : Type 1} → statement M
 sets-right-spec =

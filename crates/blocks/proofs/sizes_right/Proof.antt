@@ -20,14 +20,24 @@ returns c = sym (both-no _ _ (lt-leb 1 (blockWord (c .before .before .before .ar
 
 returns-2 : tie.Need-returns-2
 unfolding sizesRight
-returns-2 c = sym (both-go _ _ (le-leb 1 (blockWord (c .before .before .before .before .args .t .now) (c .before .before .before .before .args .i) 0) (omega arith)) ∙ both-no _ _ (lt-leb (blockWord (c .before .before .before .before .args .t .now) (c .before .before .before .before .args .i) 0) maxStates (omega arith)))
+returns-2 c =
+    let args = c .before .before .before .before .args in
+    let i = args .i in
+    let t = args .t .now in
+    sym (both-go _ _ (le-leb 1 (blockWord t i 0) (omega arith)) ∙ both-no _ _ (lt-leb (blockWord t i 0) maxStates (omega arith)))
 
 block-word-requires-2 : tie.Need-block-word-requires-2
 block-word-requires-2 c κs = search needs
 
 returns-3 : tie.Need-returns-3
 unfolding sizesRight
-returns-3 c = ap₂ ltb (c .block-word2 .ensures) (c .before .before .before .block-word .ensures) ∙ sym (both-go _ _ (le-leb 1 (blockWord (c .before .before .before .before .before .args .t .now) (c .before .before .before .before .before .args .i) 0) (omega arith)) ∙ both-go _ _ (le-leb (blockWord (c .before .before .before .before .before .args .t .now) (c .before .before .before .before .before .args .i) 0) maxStates (omega arith)))
+returns-3 c =
+    let args = c .before .before .before .before .before .args in
+    let block-word = c .before .before .before .block-word in
+    let i = args .i in
+    let t = args .t .now in
+    ap₂ ltb (c .block-word2 .ensures) (block-word .ensures)
+    ∙ sym (both-go _ _ (le-leb 1 (blockWord t i 0) (omega arith)) ∙ both-go _ _ (le-leb (blockWord t i 0) maxStates (omega arith)))
 
 pub sizes-right-spec : {M : Type 1} → statement M
 sizes-right-spec =

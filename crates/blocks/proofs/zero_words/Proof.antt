@@ -29,7 +29,13 @@ shared-slice-read-if1 : tie.Need-shared-slice-read-if1 Inv-loop μ-loop
 shared-slice-read-if1 c = omega arith
 
 returns : tie.Need-returns Inv-loop μ-loop
-returns c = all-fails (λ j. eqb (getD (c .before .before .before .before .args .t .now) j 0) 0) (c .before .before .before .loop .k) (c .before .before .before .before .args .hi) (c .before .before .before .loop .inv) (c .before .before .loop-test .taken) (ne-eqb (getD (c .before .before .before .before .args .t .now) (c .before .before .before .loop .k) 0) 0 (c .if1 .taken))
+returns c =
+    let args = c .before .before .before .before .args in
+    let loop = c .before .before .before .loop in
+    let loop-test = c .before .before .loop-test in
+    let t = args .t .now in
+    let k = loop .k in
+    all-fails (λ j. eqb (getD t j 0) 0) k (args .hi) (loop .inv) (loop-test .taken) (ne-eqb (getD t k 0) 0 (c .if1 .taken))
 
 add-k : tie.Need-add-k Inv-loop μ-loop
 add-k c = omega arith
@@ -38,7 +44,13 @@ loop-less : tie.Need-loop-less Inv-loop μ-loop
 loop-less c = omega arith
 
 loop-again : tie.Need-loop-again Inv-loop μ-loop
-loop-again c = all-goes-on (λ j. eqb (getD (c .before .before .before .before .args .t .now) j 0) 0) (c .before .before .before .loop .k) (c .before .before .before .before .args .hi) (c .before .before .before .loop .inv) (c .before .before .loop-test .taken) (eq-eqb (getD (c .before .before .before .before .args .t .now) (c .before .before .before .loop .k) 0) 0 (c .if1 .left))
+loop-again c =
+    let args = c .before .before .before .before .args in
+    let loop = c .before .before .before .loop in
+    let loop-test = c .before .before .loop-test in
+    let t = args .t .now in
+    let k = loop .k in
+    all-goes-on (λ j. eqb (getD t j 0) 0) k (args .hi) (loop .inv) (loop-test .taken) (eq-eqb (getD t k 0) 0 (c .if1 .left))
 
 returns-2 : tie.Need-returns-2 Inv-loop μ-loop
 returns-2 c = all-passed (λ j. eqb (getD (c .before .before .args .t .now) j 0) 0) (c .before .loop .k) (c .before .before .args .hi) (c .before .loop .inv) (c .loop-test .left)

@@ -9,7 +9,8 @@ use denote.Ref.{now}
 use Rattle.iosa.specs.Reading.{moreNumbers}
 use Rattle.fields.specs.Fields.{gotNumber}
 use Rattle.fields.specs.Resets.{withAll, valued, with}
-use Rattle.fields.proofs.ResetLaws.{number-shortens, resets-end, resets-other, resets-no-number, resets-more}
+use Rattle.fields.proofs.NumberLaws.{number-shortens}
+use Rattle.fields.proofs.ResetLaws.{resets-end, resets-other, resets-no-number, resets-more}
 use Rattle.fields.proofs.more_resets.Statement.{statement}
 use Rattle.fields.proofs.more_resets.Tie as tie
 

@@ -6,7 +6,8 @@ use Rattle.iosa.specs.Reading.{numbersOrDash, moreNumbers}
 use Rattle.fields.specs.Fields.{past, gotNumber}
 use Rattle.fields.specs.Resets.{valued, summary, withAll}
 use Rattle.fields.proofs.FieldLaws.{resets-dash, resets-numbers}
-use Rattle.fields.proofs.ResetLaws.{no-resets, first-number, no-number}
+use Rattle.fields.proofs.ResetLaws.{no-resets, first-number}
+use Rattle.fields.proofs.NumberLaws.{no-number}
 use borrow.Author.Needs.{needs}
 use Rattle.fields.proofs.resets_of.Statement.{statement}
 use Rattle.fields.proofs.resets_of.Tie as tie

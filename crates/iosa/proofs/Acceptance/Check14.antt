@@ -37,7 +37,7 @@ narrowed-at P A r s h f g = by-cases (ℕ-discrete s (r .target))
     (λ ne. rw (getD-set-other A (r .target) s (getD A (r .target) 0 ∩ handedOn A r) 0 ne) (g ne))
 
 -- it takes a member off
-shrinks : (A : List ℕ) (r : Row) → r .target < length A → breaks A r ≡ true → sum (narrowed A r) < sum A
+pub shrinks : (A : List ℕ) (r : Row) → r .target < length A → breaks A r ≡ true → sum (narrowed A r) < sum A
 shrinks A r h e =
     let n = eqb-false (getD A (r .target) 0 ∩ handedOn A r) (getD A (r .target) 0) (not-true (within (getD A (r .target) 0) (handedOn A r)) e) in
     omega (arith, sum-set A (r .target) (getD A (r .target) 0 ∩ handedOn A r) h, and-le-l (getD A (r .target) 0) (handedOn A r), n)
@@ -76,39 +76,46 @@ module _ (c : Comp) (w : WellComp c) where
           ih (narrowed A (rowAt c k)) (length-set A (rowAt c k .target) _ ∙ len) (omega (arith, shrinks A (rowAt c k) (rw len (w .rows k (l .below) .target)) (l .here)))
 
   -- ---- the greatest sets
-  abbrev Low : List ℕ → Type 0
-  Low A = (length A ≡ c .states) × ((s : ℕ) → s < c .states → getD A s 0 ⊆ allowed c s)
+  -- a set for each state, within what is allowed, and above all sets that the rows allow
+  abbrev pub Low : List ℕ → Type 0
+  Low A = (c .states ≤ length A) × ((s : ℕ) → s < c .states → getD A s 0 ⊆ allowed c s)
 
-  abbrev High : List ℕ → Type 0
-  High A = (length A ≡ c .states) × Above c (setsOf A)
+  abbrev pub High : List ℕ → Type 0
+  High A = (c .states ≤ length A) × Above c (setsOf A)
+
+  -- one narrowing keeps both
+  kept-length : (A : List ℕ) (k : ℕ) → c .states ≤ length A → c .states ≤ length (narrowed A (rowAt c k))
+  kept-length A k h = simp length-set h
+
+  pub low-narrowed : (A : List ℕ) (k : ℕ) → k < length (c .rows) → Low A → Low (narrowed A (rowAt c k))
+  low-narrowed A k h p = (
+    kept-length A k (p .0),
+    λ s n x m. narrowed-at (λ v. x ∈ v → x ∈ allowed c s) A (rowAt c k) s (omega (arith, p .0, w .rows k h .target))
+        (λ e q. p .1 s n x (rw e (in-and (getD A (rowAt c k .target) 0) (handedOn A (rowAt c k)) x q .0))) (λ ne q. p .1 s n x q) m,
+  )
+
+  pub high-narrowed : (A : List ℕ) (k : ℕ) → k < length (c .rows) → High A → High (narrowed A (rowAt c k))
+  high-narrowed A k h p = (
+    kept-length A k (p .0),
+    record {
+      all = λ B al s n x m. narrowed-at (λ v. x ∈ v) A (rowAt c k) s (omega (arith, p .0, w .rows k h .target))
+          (λ e. above-handed c w (setsOf A) B (p .1) al k h x (rw e at m)) (λ ne. p .1 .all B al s n x m);
+    },
+  )
 
   first : (s : ℕ) → s < c .states → getD (tab (allowed c) 0 (c .states)) s 0 ≡ allowed c s
   first s h = tab-at (allowed c) 0 0 (c .states) s h ∙ ap (allowed c) (omega arith)
 
+  room : c .states ≤ length (tab (allowed c) 0 (c .states))
+  room = omega (arith, tab-length (allowed c) 0 (c .states))
+
   low : Low (greatest c)
   unfolding greatest
-  low = narrow-keeps Low step (sum (tab (allowed c) 0 (c .states))) (tab (allowed c) 0 (c .states)) (tab-length (allowed c) 0 (c .states), λ s h x k. rw (first s h) at k)
-    where
-      step : (A : List ℕ) (k : ℕ) → k < length (c .rows) → Low A → Low (narrowed A (rowAt c k))
-      step A k h p = (
-        length-set A (rowAt c k .target) _ ∙ p .0,
-        λ s n x m. narrowed-at (λ v. x ∈ v → x ∈ allowed c s) A (rowAt c k) s (rw (p .0) (w .rows k h .target))
-            (λ e q. p .1 s n x (rw e (in-and (getD A (rowAt c k .target) 0) (handedOn A (rowAt c k)) x q .0))) (λ ne q. p .1 s n x q) m,
-      )
+  low = narrow-keeps Low low-narrowed (sum (tab (allowed c) 0 (c .states))) (tab (allowed c) 0 (c .states)) (room, λ s h x k. rw (first s h) at k)
 
   high : High (greatest c)
   unfolding greatest
-  high = narrow-keeps High step (sum (tab (allowed c) 0 (c .states))) (tab (allowed c) 0 (c .states))
-      (tab-length (allowed c) 0 (c .states), record { all = λ B al s h. rw (first s h) (al .within s h) })
-    where
-      step : (A : List ℕ) (k : ℕ) → k < length (c .rows) → High A → High (narrowed A (rowAt c k))
-      step A k h p = (
-        length-set A (rowAt c k .target) _ ∙ p .0,
-        record {
-          all = λ B al s n x m. narrowed-at (λ v. x ∈ v) A (rowAt c k) s (rw (p .0) (w .rows k h .target))
-              (λ e. above-handed c w (setsOf A) B (p .1) al k h x (rw e at m)) (λ ne. p .1 .all B al s n x m);
-        },
-      )
+  high = narrow-keeps High high-narrowed (sum (tab (allowed c) 0 (c .states))) (tab (allowed c) 0 (c .states)) (room, record { all = λ B al s h. rw (first s h) (al .within s h) })
 
   unbroken : (k : ℕ) → k < length (c .rows) → breaks (greatest c) (rowAt c k) ≡ false
   unfolding greatest

@@ -75,12 +75,12 @@ members-up s (suc n) k m e = go (has s k) (members-up s n (suc k) m (omega arith
     go false u = up-lower k (suc k) m (members s n (suc k)) (omega arith) u
 
 -- members are told by the tests at their places
-members-same : (s t n k : ℕ) → ((x : ℕ) → k ≤ x → has s x ≡ has t x) → members s n k ≡ members t n k
+pub members-same : (s t n k : ℕ) → ((x : ℕ) → k ≤ x → has s x ≡ has t x) → members s n k ≡ members t n k
 unfolding members
 members-same s t zero k h = refl
 members-same s t (suc n) k h = rw (h k (omega arith), members-same s t n (suc k) (λ x p. h x (omega arith)))
 
-members-none : (n k : ℕ) → members 0 n k ≡ []
+pub members-none : (n k : ℕ) → members 0 n k ≡ []
 unfolding members
 members-none zero k = refl
 members-none (suc n) k = rw (not-so (has 0 k) (none-in k)) (members-none n (suc k))

@@ -57,7 +57,10 @@ per-member-requires-3 : tie.Need-per-member-requires-3
 per-member-requires-3 c κs = search needs
 
 add-result-2 : tie.Need-add-result-2
-add-result-2 c = omega (arith, members-most (c .before .before .before .before .before .before .before .before .before .before .block-word .result) 8, members-most (c .before .before .before .minus .result) 9, members-most (c .before .minus2 .result) 9)
+add-result-2 c =
+    let block-word = c .before .before .before .before .before .before .before .before .before .before .block-word in
+    let the-minus = c .before .before .before .minus in
+    omega (arith, members-most (block-word .result) 8, members-most (the-minus .result) 9, members-most (c .before .minus2 .result) 9)
 
 minus-requires-3 : tie.Need-minus-requires-3
 minus-requires-3 c κs = search needs
@@ -66,10 +69,28 @@ per-member-requires-4 : tie.Need-per-member-requires-4
 per-member-requires-4 c κs = search needs
 
 add-result-3 : tie.Need-add-result-3
-add-result-3 c = omega (arith, members-most (c .before .before .before .before .before .before .before .before .before .before .before .before .block-word .result) 8, members-most (c .before .before .before .before .before .minus .result) 9, members-most (c .before .before .before .minus2 .result) 9, members-most (c .before .minus3 .result) 10)
+add-result-3 c =
+    let block-word = c .before .before .before .before .before .before .before .before .before .before .before .before .block-word in
+    let the-minus = c .before .before .before .before .before .minus in
+    let minus2 = c .before .before .before .minus2 in
+    omega (arith, members-most (block-word .result) 8, members-most (the-minus .result) 9, members-most (minus2 .result) 9, members-most (c .before .minus3 .result) 10)
 
 returns : tie.Need-returns
-returns c = total (c .before .before .before .before .before .before .before .before .before .before .before .before .before .before .args .t .now) (c .before .before .before .before .before .before .before .before .before .before .before .before .before .before .args .i) (c .before .before .before .before .before .before .before .before .before .before .before .before .block-word .result) (c .before .before .before .before .before .before .before .before .before .before .before .block-word2 .result) (c .before .before .before .before .before .before .before .before .before .before .block-word3 .result) (c .before .before .before .before .before .before .before .before .before .block-word4 .result) (c .before .before .before .before .before .before .before .before .union .result) (c .before .before .before .before .before .before .before .union2 .result) (c .before .before .before .before .before .minus .result) (c .before .before .before .minus2 .result) (c .before .minus3 .result) (c .before .before .before .before .before .before .per-member .result) (c .before .before .before .before .per-member2 .result) (c .before .before .per-member3 .result) (c .per-member4 .result) (c .before .before .before .before .before .before .before .before .before .before .before .before .block-word .ensures) (c .before .before .before .before .before .before .before .before .before .before .before .block-word2 .ensures) (c .before .before .before .before .before .before .before .before .before .before .block-word3 .ensures) (c .before .before .before .before .before .before .before .before .before .block-word4 .ensures) (c .before .before .before .before .before .before .before .before .union .ensures) (c .before .before .before .before .before .before .before .union2 .ensures) (c .before .before .before .before .before .minus .ensures) (c .before .before .before .minus2 .ensures) (c .before .minus3 .ensures) (c .before .before .before .before .before .before .per-member .ensures) (c .before .before .before .before .per-member2 .ensures) (c .before .before .per-member3 .ensures) (c .per-member4 .ensures)
+returns c =
+    let args = c .before .before .before .before .before .before .before .before .before .before .before .before .before .before .args in
+    let block-word = c .before .before .before .before .before .before .before .before .before .before .before .before .block-word in
+    let block-word2 = c .before .before .before .before .before .before .before .before .before .before .before .block-word2 in
+    let block-word3 = c .before .before .before .before .before .before .before .before .before .before .block-word3 in
+    let block-word4 = c .before .before .before .before .before .before .before .before .before .block-word4 in
+    let the-union = c .before .before .before .before .before .before .before .before .union in
+    let union2 = c .before .before .before .before .before .before .before .union2 in
+    let per-member = c .before .before .before .before .before .before .per-member in
+    let the-minus = c .before .before .before .before .before .minus in
+    let per-member2 = c .before .before .before .before .per-member2 in
+    let minus2 = c .before .before .before .minus2 in
+    let per-member3 = c .before .before .per-member3 in
+    let minus3 = c .before .minus3 in
+    total (args .t .now) (args .i) (block-word .result) (block-word2 .result) (block-word3 .result) (block-word4 .result) (the-union .result) (union2 .result) (the-minus .result) (minus2 .result) (minus3 .result) (per-member .result) (per-member2 .result) (per-member3 .result) (c .per-member4 .result) (block-word .ensures) (block-word2 .ensures) (block-word3 .ensures) (block-word4 .ensures) (the-union .ensures) (union2 .ensures) (the-minus .ensures) (minus2 .ensures) (minus3 .ensures) (per-member .ensures) (per-member2 .ensures) (per-member3 .ensures) (c .per-member4 .ensures)
 
 pub acts-width-spec : {M : Type 1} → statement M
 acts-width-spec =

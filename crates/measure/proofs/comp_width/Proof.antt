@@ -27,28 +27,61 @@ per-member-requires : tie.Need-per-member-requires
 per-member-requires c κs = search needs
 
 add-result : tie.Need-add-result
-add-result c = omega (arith, width-most (c .before .before .before .before .before .block-word .result), width-most (c .before .before .before .block-word2 .result), members-most (c .before .block-word3 .result) 7)
+add-result c =
+    let block-word = c .before .before .before .before .before .block-word in
+    let block-word2 = c .before .before .before .block-word2 in
+    omega (arith, width-most (block-word .result), width-most (block-word2 .result), members-most (c .before .block-word3 .result) 7)
 
 add-result-2 : tie.Need-add-result-2
-add-result-2 c = omega (arith, width-most (c .before .before .before .before .before .block-word .result), width-most (c .before .before .before .block-word2 .result), members-most (c .before .block-word3 .result) 7)
+add-result-2 c =
+    let block-word = c .before .before .before .before .before .block-word in
+    let block-word2 = c .before .before .before .block-word2 in
+    omega (arith, width-most (block-word .result), width-most (block-word2 .result), members-most (c .before .block-word3 .result) 7)
 
 acts-width-requires : tie.Need-acts-width-requires
 acts-width-requires c κs = search needs
 
 add-result-3 : tie.Need-add-result-3
-add-result-3 c = omega (arith, width-most (c .before .before .before .before .before .before .block-word .result), width-most (c .before .before .before .before .block-word2 .result), members-most (c .before .before .block-word3 .result) 7, head-most (compOf (c .before .before .before .before .before .before .before .before .args .t .now) (c .before .before .before .before .before .before .before .before .args .i)))
+add-result-3 c =
+    let args = c .before .before .before .before .before .before .before .before .args in
+    let block-word = c .before .before .before .before .before .before .block-word in
+    let block-word2 = c .before .before .before .before .block-word2 in
+    let block-word3 = c .before .before .block-word3 in
+    omega (arith, width-most (block-word .result), width-most (block-word2 .result), members-most (block-word3 .result) 7, head-most (compOf (args .t .now) (args .i)))
 
 add-result-4 : tie.Need-add-result-4
-add-result-4 c = omega (arith, width-most (c .before .before .before .before .before .before .block-word .result), width-most (c .before .before .before .before .block-word2 .result), members-most (c .before .before .block-word3 .result) 7, head-most (compOf (c .before .before .before .before .before .before .before .before .args .t .now) (c .before .before .before .before .before .before .before .before .args .i)))
+add-result-4 c =
+    let args = c .before .before .before .before .before .before .before .before .args in
+    let block-word = c .before .before .before .before .before .before .block-word in
+    let block-word2 = c .before .before .before .before .block-word2 in
+    let block-word3 = c .before .before .block-word3 in
+    omega (arith, width-most (block-word .result), width-most (block-word2 .result), members-most (block-word3 .result) 7, head-most (compOf (args .t .now) (args .i)))
 
 states-width-requires : tie.Need-states-width-requires
 states-width-requires c κs = search needs
 
 add-result-5 : tie.Need-add-result-5
-add-result-5 c = omega (arith, width-most (c .before .before .before .before .before .before .before .block-word .result), width-most (c .before .before .before .before .before .block-word2 .result), members-most (c .before .before .before .block-word3 .result) 7, head-most (compOf (c .before .before .before .before .before .before .before .before .before .args .t .now) (c .before .before .before .before .before .before .before .before .before .args .i)), rows-most (compOf (c .before .before .before .before .before .before .before .before .before .args .t .now) (c .before .before .before .before .before .before .before .before .before .args .i) .rows), rows-few (c .before .before .before .before .before .before .before .before .before .args .t .now) (c .before .before .before .before .before .before .before .before .before .pre .0) (c .before .before .before .before .before .before .before .before .before .args .i) (c .before .before .before .before .before .before .before .before .before .pre .1))
+add-result-5 c =
+    let args = c .before .before .before .before .before .before .before .before .before .args in
+    let the-pre = c .before .before .before .before .before .before .before .before .before .pre in
+    let block-word = c .before .before .before .before .before .before .before .block-word in
+    let block-word2 = c .before .before .before .before .before .block-word2 in
+    let block-word3 = c .before .before .before .block-word3 in
+    let i = args .i in
+    let t = args .t .now in
+    omega (arith, width-most (block-word .result), width-most (block-word2 .result), members-most (block-word3 .result) 7, head-most (compOf t i), rows-most (compOf t i .rows), rows-few t (the-pre .0) i (the-pre .1))
 
 returns : tie.Need-returns
-returns c = comp-counted (c .before .before .before .before .before .before .before .before .before .args .t .now) (c .before .before .before .before .before .before .before .before .before .args .i) (c .before .before .before .before .before .before .before .block-word .result) (c .before .before .before .before .before .block-word2 .result) (c .before .before .before .block-word3 .result) (c .before .before .before .before .before .before .width .result) (c .before .before .before .before .width2 .result) (c .before .before .per-member .result) (c .before .acts-width .result) (c .states-width .result) (c .before .before .before .before .before .before .before .block-word .ensures) (c .before .before .before .before .before .block-word2 .ensures) (c .before .before .before .block-word3 .ensures) (c .before .before .before .before .before .before .width .ensures) (c .before .before .before .before .width2 .ensures) (c .before .before .per-member .ensures) (c .before .acts-width .ensures) (c .states-width .ensures)
+returns c =
+    let args = c .before .before .before .before .before .before .before .before .before .args in
+    let block-word = c .before .before .before .before .before .before .before .block-word in
+    let the-width = c .before .before .before .before .before .before .width in
+    let block-word2 = c .before .before .before .before .before .block-word2 in
+    let width2 = c .before .before .before .before .width2 in
+    let block-word3 = c .before .before .before .block-word3 in
+    let per-member = c .before .before .per-member in
+    let acts-width = c .before .acts-width in
+    comp-counted (args .t .now) (args .i) (block-word .result) (block-word2 .result) (block-word3 .result) (the-width .result) (width2 .result) (per-member .result) (acts-width .result) (c .states-width .result) (block-word .ensures) (block-word2 .ensures) (block-word3 .ensures) (the-width .ensures) (width2 .ensures) (per-member .ensures) (acts-width .ensures) (c .states-width .ensures)
 
 pub comp-width-spec : {M : Type 1} → statement M
 comp-width-spec =

@@ -34,7 +34,9 @@ width-requires-3 : tie.Need-width-requires-3
 width-requires-3 c κs = search needs
 
 add-result-5 : tie.Need-add-result-5
-add-result-5 c = let a = c .before .before .before .before .before .args in omega (arith, width-most (a .from), guard-most (a .guard), width-most (a .action), set-most (a .resets), width-most (a .target))
+add-result-5 c =
+    let args = c .before .before .before .before .before .args in
+    let a = args in omega (arith, width-most (a .from), guard-most (a .guard), width-most (a .action), set-most (a .resets), width-most (a .target))
 
 returns : tie.Need-returns
 returns c =

@@ -1,9 +1,5 @@
 -- `measure::row_width`: the line of a row by its fields.
-use mathlib.Core.Path.{_≡_, refl, _∙_, ap}
-use lib.ListN.{length}
-use Rattle.iosa.specs.Model.{Row}
-use Rattle.iosa.specs.Text.{rowLine}
-use Rattle.layout.specs.Image.{rowIn}
+use mathlib.Core.Path.{_∙_}
 use borrow.Author.Needs.{needs}
 use Rattle.measure.proofs.row_width.Statement.{statement}
 use Rattle.measure.proofs.row_width.Tie as tie

@@ -24,7 +24,13 @@ row-width-requires : tie.Need-row-width-requires Inv-loop μ-loop
 row-width-requires c κs = search needs
 
 add-sum : tie.Need-add-sum Inv-loop μ-loop
-add-sum c = omega (arith, rows-next (rowIn (c .before .before .before .before .args .t .now) (c .before .before .before .before .args .s)) (c .before .before .loop .r) (c .before .before .before .before .args .hi) (c .before .loop-test .taken), range-most (rowIn (c .before .before .before .before .args .t .now) (c .before .before .before .before .args .s)) (c .before .before .before .before .args .lo) (c .before .before .before .before .args .hi))
+add-sum c =
+    let args = c .before .before .before .before .args in
+    let loop = c .before .before .loop in
+    let hi = args .hi in
+    let s = args .s in
+    let t = args .t .now in
+    omega (arith, rows-next (rowIn t s) (loop .r) hi (c .before .loop-test .taken), range-most (rowIn t s) (args .lo) hi)
 
 add-r : tie.Need-add-r Inv-loop μ-loop
 add-r c = omega arith
@@ -33,10 +39,15 @@ loop-less : tie.Need-loop-less Inv-loop μ-loop
 loop-less c = omega arith
 
 loop-again : tie.Need-loop-again Inv-loop μ-loop
-loop-again c = omega (arith, rows-next (rowIn (c .before .before .before .before .args .t .now) (c .before .before .before .before .args .s)) (c .before .before .loop .r) (c .before .before .before .before .args .hi) (c .before .loop-test .taken))
+loop-again c =
+    let args = c .before .before .before .before .args in
+    let loop = c .before .before .loop in
+    omega (arith, rows-next (rowIn (args .t .now) (args .s)) (loop .r) (args .hi) (c .before .loop-test .taken))
 
 returns : tie.Need-returns Inv-loop μ-loop
-returns c = omega (arith, rows-done (rowIn (c .before .before .before .args .t .now) (c .before .before .before .args .s)) (c .before .loop .r) (c .before .before .before .args .hi) (c .loop-test .left))
+returns c =
+    let args = c .before .before .before .args in
+    omega (arith, rows-done (rowIn (args .t .now) (args .s)) (c .before .loop .r) (args .hi) (c .loop-test .left))
 
 pub rows-width-spec : {M : Type 1} → statement M
 rows-width-spec =

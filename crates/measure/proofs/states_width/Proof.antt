@@ -24,19 +24,41 @@ loop-holds : tie.Need-loop-holds Inv-loop μ-loop
 loop-holds c = omega (arith, all-leaving (c .before .before .args .t .now) (c .before .before .args .i) (c .block-word .result) (c .block-word .ensures))
 
 first-of-requires : tie.Need-first-of-requires Inv-loop μ-loop
-first-of-requires c κs = (c .before .before .before .before .pre .0 .long, c .before .before .before .before .pre .1, omega (arith, c .before .before .before .before .pre .0 .states (c .before .before .before .before .args .i) (c .before .before .before .before .pre .1)))
+first-of-requires c κs =
+    let the-pre = c .before .before .before .before .pre in
+    let args = c .before .before .before .before .args in
+    (the-pre .0 .long, the-pre .1, omega (arith, the-pre .0 .states (args .i) (the-pre .1)))
 
 add-first-of : tie.Need-add-first-of Inv-loop μ-loop
 add-first-of c = omega arith
 
 first-of-requires-2 : tie.Need-first-of-requires-2 Inv-loop μ-loop
-first-of-requires-2 c κs = (c .before .before .before .before .before .pre .0 .long, c .before .before .before .before .before .pre .1, omega (arith, c .before .before .before .before .before .pre .0 .states (c .before .before .before .before .before .args .i) (c .before .before .before .before .before .pre .1)))
+first-of-requires-2 c κs =
+    let the-pre = c .before .before .before .before .before .pre in
+    let args = c .before .before .before .before .before .args in
+    (the-pre .0 .long, the-pre .1, omega (arith, the-pre .0 .states (args .i) (the-pre .1)))
 
 rows-width-requires : tie.Need-rows-width-requires Inv-loop μ-loop
-rows-width-requires c κs = (c .before .before .before .before .before .before .pre .0 .long, omega (arith, c .before .before .before .before .before .before .pre .0 .firsts (c .before .before .before .before .before .before .args .i) (c .before .before .before .loop .s + 1) (c .before .before .before .before .before .before .pre .1) (omega (arith, c .before .before .before .before .before .before .pre .0 .states (c .before .before .before .before .before .before .args .i) (c .before .before .before .before .before .before .pre .1)))))
+rows-width-requires c κs =
+    let the-pre = c .before .before .before .before .before .before .pre in
+    let args = c .before .before .before .before .before .before .args in
+    let loop = c .before .before .before .loop in
+    let i = args .i in
+    (the-pre .0 .long, omega (arith, the-pre .0 .firsts i (loop .s + 1) (the-pre .1) (omega (arith, the-pre .0 .states i (the-pre .1)))))
 
 add-sum : tie.Need-add-sum Inv-loop μ-loop
-add-sum c = omega (arith, ranges-next (rowsLeaving (c .before .before .before .before .before .before .before .args .t .now) (c .before .before .before .before .before .before .before .args .i)) (c .before .before .before .before .loop .s) (c .before .before .before .before .before .block-word .result) (c .before .before .before .loop-test .taken), leaving-is (c .before .before .before .before .before .before .before .args .t .now) (c .before .before .before .before .before .before .before .args .i) (c .before .before .before .before .loop .s) (c .before .before .first-of .result) (c .before .first-of2 .result) (c .before .before .first-of .ensures) (c .before .first-of2 .ensures), rows-most (compOf (c .before .before .before .before .before .before .before .args .t .now) (c .before .before .before .before .before .before .before .args .i) .rows), rows-few (c .before .before .before .before .before .before .before .args .t .now) (c .before .before .before .before .before .before .before .pre .0) (c .before .before .before .before .before .before .before .args .i) (c .before .before .before .before .before .before .before .pre .1))
+add-sum c =
+    let args = c .before .before .before .before .before .before .before .args in
+    let the-pre = c .before .before .before .before .before .before .before .pre in
+    let block-word = c .before .before .before .before .before .block-word in
+    let loop = c .before .before .before .before .loop in
+    let loop-test = c .before .before .before .loop-test in
+    let first-of = c .before .before .first-of in
+    let first-of2 = c .before .first-of2 in
+    let i = args .i in
+    let t = args .t .now in
+    let s = loop .s in
+    omega (arith, ranges-next (rowsLeaving t i) s (block-word .result) (loop-test .taken), leaving-is t i s (first-of .result) (first-of2 .result) (first-of .ensures) (first-of2 .ensures), rows-most (compOf t i .rows), rows-few t (the-pre .0) i (the-pre .1))
 
 add-s : tie.Need-add-s Inv-loop μ-loop
 add-s c = omega arith
@@ -45,10 +67,23 @@ loop-less : tie.Need-loop-less Inv-loop μ-loop
 loop-less c = omega arith
 
 loop-again : tie.Need-loop-again Inv-loop μ-loop
-loop-again c = omega (arith, ranges-next (rowsLeaving (c .before .before .before .before .before .before .before .args .t .now) (c .before .before .before .before .before .before .before .args .i)) (c .before .before .before .before .loop .s) (c .before .before .before .before .before .block-word .result) (c .before .before .before .loop-test .taken), leaving-is (c .before .before .before .before .before .before .before .args .t .now) (c .before .before .before .before .before .before .before .args .i) (c .before .before .before .before .loop .s) (c .before .before .first-of .result) (c .before .first-of2 .result) (c .before .before .first-of .ensures) (c .before .first-of2 .ensures))
+loop-again c =
+    let args = c .before .before .before .before .before .before .before .args in
+    let block-word = c .before .before .before .before .before .block-word in
+    let loop = c .before .before .before .before .loop in
+    let loop-test = c .before .before .before .loop-test in
+    let first-of = c .before .before .first-of in
+    let first-of2 = c .before .first-of2 in
+    let i = args .i in
+    let t = args .t .now in
+    let s = loop .s in
+    omega (arith, ranges-next (rowsLeaving t i) s (block-word .result) (loop-test .taken), leaving-is t i s (first-of .result) (first-of2 .result) (first-of .ensures) (first-of2 .ensures))
 
 returns : tie.Need-returns Inv-loop μ-loop
-returns c = omega (arith, ranges-done (rowsLeaving (c .before .before .before .before .args .t .now) (c .before .before .before .before .args .i)) (c .before .loop .s) (c .before .before .block-word .result) (c .loop-test .left))
+returns c =
+    let args = c .before .before .before .before .args in
+    let block-word = c .before .before .block-word in
+    omega (arith, ranges-done (rowsLeaving (args .t .now) (args .i)) (c .before .loop .s) (block-word .result) (c .loop-test .left))
 
 pub states-width-spec : {M : Type 1} → statement M
 states-width-spec =

@@ -27,7 +27,13 @@ comp-width-requires : tie.Need-comp-width-requires Inv-loop μ-loop
 comp-width-requires c κs = (c .before .before .before .before .pre, omega (arith, c .before .before .before .before .pre .count))
 
 add-sum : tie.Need-add-sum Inv-loop μ-loop
-add-sum c = omega (arith, comps-next (compOf (c .before .before .before .before .before .args .t .now)) (c .before .before .loop .i) (c .before .before .before .count-of .result) (c .before .loop-test .taken), text-most (c .before .before .before .before .before .args .t .now) (c .before .before .before .before .before .pre))
+add-sum c =
+    let args = c .before .before .before .before .before .args in
+    let the-pre = c .before .before .before .before .before .pre in
+    let count-of = c .before .before .before .count-of in
+    let loop = c .before .before .loop in
+    let t = args .t .now in
+    omega (arith, comps-next (compOf t) (loop .i) (count-of .result) (c .before .loop-test .taken), text-most t (the-pre))
 
 add-i : tie.Need-add-i Inv-loop μ-loop
 add-i c = omega arith
@@ -36,7 +42,11 @@ loop-less : tie.Need-loop-less Inv-loop μ-loop
 loop-less c = omega arith
 
 loop-again : tie.Need-loop-again Inv-loop μ-loop
-loop-again c = omega (arith, comps-next (compOf (c .before .before .before .before .before .args .t .now)) (c .before .before .loop .i) (c .before .before .before .count-of .result) (c .before .loop-test .taken))
+loop-again c =
+    let args = c .before .before .before .before .before .args in
+    let count-of = c .before .before .before .count-of in
+    let loop = c .before .before .loop in
+    omega (arith, comps-next (compOf (args .t .now)) (loop .i) (count-of .result) (c .before .loop-test .taken))
 
 returns : tie.Need-returns Inv-loop μ-loop
 returns c = omega (arith, comps-done (compOf (c .before .before .before .before .args .t .now)) (c .before .loop .i) (c .before .before .count-of .result) (c .loop-test .left))

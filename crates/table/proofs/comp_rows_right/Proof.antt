@@ -30,21 +30,45 @@ first-of-requires : tie.Need-first-of-requires
 first-of-requires c κs = search needs
 
 first-of-requires-2 : tie.Need-first-of-requires-2
-first-of-requires-2 c κs = (c .before .before .before .before .before .pre .0 .long, c .before .before .before .before .before .pre .1, omega (arith, c .before .before .before .before .before .pre .0 .states (c .before .before .before .before .before .args .i) (c .before .before .before .before .before .pre .1)))
+first-of-requires-2 c κs =
+    let the-pre = c .before .before .before .before .before .pre in
+    let args = c .before .before .before .before .before .args in
+    (the-pre .0 .long, the-pre .1, omega (arith, the-pre .0 .states (args .i) (the-pre .1)))
 
 range-right-requires : tie.Need-range-right-requires
-range-right-requires c κs = (c .before .before .before .before .before .before .pre .0 .long, omega (arith, c .before .before .before .before .before .before .pre .0 .firsts (c .before .before .before .before .before .before .args .i) (c .before .before .before .before .block-word .result) (c .before .before .before .before .before .before .pre .1) (omega (arith, c .before .before .before .before .before .before .pre .0 .states (c .before .before .before .before .before .before .args .i) (c .before .before .before .before .before .before .pre .1)))))
+range-right-requires c κs =
+    let the-pre = c .before .before .before .before .before .before .pre in
+    let args = c .before .before .before .before .before .before .args in
+    let block-word = c .before .before .before .before .block-word in
+    let i = args .i in
+    (the-pre .0 .long, omega (arith, the-pre .0 .firsts i (block-word .result) (the-pre .1) (omega (arith, the-pre .0 .states i (the-pre .1)))))
 
 states-climb-requires : tie.Need-states-climb-requires
 states-climb-requires c κs = search needs
 
 returns : tie.Need-returns
 unfolding compRowsRight
-returns c = c .states-climb .ensures ∙ sym (both-go _ _ (sym (rows-are (c .before .before .before .before .before .before .before .before .before .args .t .now) (c .before .before .before .before .before .before .before .before .before .args .i) (c .before .before .before .before .before .acts-of .result) (c .before .before .before .before .before .before .block-word2 .result) (c .before .before .before .before .before .before .before .block-word .result) (c .before .before .before .before .first-of .result) (c .before .before .before .first-of2 .result) (c .before .before .before .before .before .acts-of .ensures) (c .before .before .before .before .before .before .block-word2 .ensures) (c .before .before .before .before .before .before .before .block-word .ensures) (c .before .before .before .before .first-of .ensures) (c .before .before .before .first-of2 .ensures)) ∙ sym (c .before .before .range-right .ensures) ∙ c .before .if1 .taken))
+returns c =
+    let args = c .before .before .before .before .before .before .before .before .before .args in
+    let block-word = c .before .before .before .before .before .before .before .block-word in
+    let block-word2 = c .before .before .before .before .before .before .block-word2 in
+    let acts-of = c .before .before .before .before .before .acts-of in
+    let first-of = c .before .before .before .before .first-of in
+    let first-of2 = c .before .before .before .first-of2 in
+    let range-right = c .before .before .range-right in
+    c .states-climb .ensures
+    ∙ sym (both-go _ _ (sym (rows-are (args .t .now) (args .i) (acts-of .result) (block-word2 .result) (block-word .result) (first-of .result) (first-of2 .result) (acts-of .ensures) (block-word2 .ensures) (block-word .ensures) (first-of .ensures) (first-of2 .ensures)) ∙ sym (range-right .ensures) ∙ c .before .if1 .taken))
 
 returns-2 : tie.Need-returns-2
 unfolding compRowsRight
-returns-2 c = sym (both-no _ _ (sym (rows-are (c .before .before .before .before .before .before .before .before .args .t .now) (c .before .before .before .before .before .before .before .before .args .i) (c .before .before .before .before .acts-of .result) (c .before .before .before .before .before .block-word2 .result) (c .before .before .before .before .before .before .block-word .result) (c .before .before .before .first-of .result) (c .before .before .first-of2 .result) (c .before .before .before .before .acts-of .ensures) (c .before .before .before .before .before .block-word2 .ensures) (c .before .before .before .before .before .before .block-word .ensures) (c .before .before .before .first-of .ensures) (c .before .before .first-of2 .ensures)) ∙ sym (c .before .range-right .ensures) ∙ c .if1 .left))
+returns-2 c =
+    let args = c .before .before .before .before .before .before .before .before .args in
+    let block-word = c .before .before .before .before .before .before .block-word in
+    let block-word2 = c .before .before .before .before .before .block-word2 in
+    let acts-of = c .before .before .before .before .acts-of in
+    let first-of = c .before .before .before .first-of in
+    let first-of2 = c .before .before .first-of2 in
+    sym (both-no _ _ (sym (rows-are (args .t .now) (args .i) (acts-of .result) (block-word2 .result) (block-word .result) (first-of .result) (first-of2 .result) (acts-of .ensures) (block-word2 .ensures) (block-word .ensures) (first-of .ensures) (first-of2 .ensures)) ∙ sym (c .before .range-right .ensures) ∙ c .if1 .left))
 
 pub comp-rows-right-spec : {M : Type 1} → statement M
 comp-rows-right-spec =

@@ -22,7 +22,13 @@ comp-rows-right-requires : tie.Need-comp-rows-right-requires Inv-loop μ-loop
 comp-rows-right-requires c κs = (c .before .before .before .pre .0, omega arith)
 
 returns : tie.Need-returns Inv-loop μ-loop
-returns c = all-fails (compRowsRight (c .before .before .before .before .before .args .t .now)) (c .before .before .before .loop .i) (c .before .before .before .before .before .args .count) (c .before .before .before .loop .inv) (c .before .before .loop-test .taken) (sym (c .before .comp-rows-right .ensures) ∙ not-true (c .before .comp-rows-right .result) (c .if1 .taken))
+returns c =
+    let args = c .before .before .before .before .before .args in
+    let loop = c .before .before .before .loop in
+    let loop-test = c .before .before .loop-test in
+    let comp-rows-right = c .before .comp-rows-right in
+    let i = loop .i in
+    all-fails (compRowsRight (args .t .now)) i (args .count) (loop .inv) (loop-test .taken) (sym (comp-rows-right .ensures) ∙ not-true (comp-rows-right .result) (c .if1 .taken))
 
 add-i : tie.Need-add-i Inv-loop μ-loop
 add-i c = omega arith
@@ -31,7 +37,13 @@ loop-less : tie.Need-loop-less Inv-loop μ-loop
 loop-less c = omega arith
 
 loop-again : tie.Need-loop-again Inv-loop μ-loop
-loop-again c = all-goes-on (compRowsRight (c .before .before .before .before .before .args .t .now)) (c .before .before .before .loop .i) (c .before .before .before .before .before .args .count) (c .before .before .before .loop .inv) (c .before .before .loop-test .taken) (sym (c .before .comp-rows-right .ensures) ∙ not-false (c .before .comp-rows-right .result) (c .if1 .left))
+loop-again c =
+    let args = c .before .before .before .before .before .args in
+    let loop = c .before .before .before .loop in
+    let loop-test = c .before .before .loop-test in
+    let comp-rows-right = c .before .comp-rows-right in
+    let i = loop .i in
+    all-goes-on (compRowsRight (args .t .now)) i (args .count) (loop .inv) (loop-test .taken) (sym (comp-rows-right .ensures) ∙ not-false (comp-rows-right .result) (c .if1 .left))
 
 returns-2 : tie.Need-returns-2 Inv-loop μ-loop
 returns-2 c = all-passed (compRowsRight (c .before .before .before .args .t .now)) (c .before .loop .i) (c .before .before .before .args .count) (c .before .loop .inv) (c .loop-test .left)

@@ -31,7 +31,11 @@ unfolding endBefore
 returns c = ap (endBefore (c .before .before .args .t .now)) (sym (c .if1 .taken))
 
 returns-2 : tie.Need-returns-2
-returns-2 c = c .first-of .ensures ∙ ap (firstOf (c .before .before .before .before .args .t .now) (c .before .before .before .before .args .i - 1)) (c .before .block-word .ensures) ∙ end-is (c .before .before .before .before .args .t .now) (c .before .before .before .before .args .i) (omega arith)
+returns-2 c =
+    let args = c .before .before .before .before .args in
+    let i = args .i in
+    let t = args .t .now in
+    c .first-of .ensures ∙ ap (firstOf t (i - 1)) (c .before .block-word .ensures) ∙ end-is t i (omega arith)
 
 pub end-before-spec : {M : Type 1} → statement M
 end-before-spec =

@@ -11,7 +11,12 @@ returns : tie.Need-returns
 returns c = sym (guard-none (c .before .args .g) (c .before .args .clocks) (c .if1 .taken))
 
 returns-2 : tie.Need-returns-2
-returns-2 c = sym (guard-one (c .before .before .args .g) (c .before .before .args .clocks) (omega arith) ∙ has-beyond (c .before .before .args .clocks) (c .before .before .args .g - 1) (c .before .before .fits .clocks .fits) (omega arith))
+returns-2 c =
+    let args = c .before .before .args in
+    let fits = c .before .before .fits in
+    let clocks = args .clocks in
+    let g = args .g in
+    sym (guard-one g clocks (omega arith) ∙ has-beyond clocks (g - 1) (fits .clocks .fits) (omega arith))
 
 sub-has : tie.Need-sub-has
 sub-has c = search needs

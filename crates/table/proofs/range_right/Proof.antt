@@ -23,7 +23,12 @@ row-right-requires : tie.Need-row-right-requires Inv-loop μ-loop
 row-right-requires c κs = search needs
 
 returns : tie.Need-returns Inv-loop μ-loop
-returns c = all-fails (rowRight (c .before .before .before .before .before .args .t .now) (c .before .before .before .before .before .args .acts) (c .before .before .before .before .before .args .clocks) (c .before .before .before .before .before .args .states)) (c .before .before .before .loop .r) (c .before .before .before .before .before .args .hi) (c .before .before .before .loop .inv) (c .before .before .loop-test .taken) (sym (c .before .row-right .ensures) ∙ not-true (c .before .row-right .result) (c .if1 .taken))
+returns c =
+    let args = c .before .before .before .before .before .args in
+    let loop = c .before .before .before .loop in
+    let loop-test = c .before .before .loop-test in
+    let row-right = c .before .row-right in
+    all-fails (rowRight (args .t .now) (args .acts) (args .clocks) (args .states)) (loop .r) (args .hi) (loop .inv) (loop-test .taken) (sym (row-right .ensures) ∙ not-true (row-right .result) (c .if1 .taken))
 
 add-r : tie.Need-add-r Inv-loop μ-loop
 add-r c = omega arith
@@ -32,10 +37,18 @@ loop-less : tie.Need-loop-less Inv-loop μ-loop
 loop-less c = omega arith
 
 loop-again : tie.Need-loop-again Inv-loop μ-loop
-loop-again c = all-goes-on (rowRight (c .before .before .before .before .before .args .t .now) (c .before .before .before .before .before .args .acts) (c .before .before .before .before .before .args .clocks) (c .before .before .before .before .before .args .states)) (c .before .before .before .loop .r) (c .before .before .before .before .before .args .hi) (c .before .before .before .loop .inv) (c .before .before .loop-test .taken) (sym (c .before .row-right .ensures) ∙ not-false (c .before .row-right .result) (c .if1 .left))
+loop-again c =
+    let args = c .before .before .before .before .before .args in
+    let loop = c .before .before .before .loop in
+    let loop-test = c .before .before .loop-test in
+    let row-right = c .before .row-right in
+    all-goes-on (rowRight (args .t .now) (args .acts) (args .clocks) (args .states)) (loop .r) (args .hi) (loop .inv) (loop-test .taken) (sym (row-right .ensures) ∙ not-false (row-right .result) (c .if1 .left))
 
 returns-2 : tie.Need-returns-2 Inv-loop μ-loop
-returns-2 c = all-passed (rowRight (c .before .before .before .args .t .now) (c .before .before .before .args .acts) (c .before .before .before .args .clocks) (c .before .before .before .args .states)) (c .before .loop .r) (c .before .before .before .args .hi) (c .before .loop .inv) (c .loop-test .left)
+returns-2 c =
+    let args = c .before .before .before .args in
+    let loop = c .before .loop in
+    all-passed (rowRight (args .t .now) (args .acts) (args .clocks) (args .states)) (loop .r) (args .hi) (loop .inv) (c .loop-test .left)
 
 pub range-right-spec : {M : Type 1} → statement M
 range-right-spec =

@@ -15,19 +15,48 @@ blocks-right-requires : tie.Need-blocks-right-requires
 blocks-right-requires c κs = search needs
 
 returns-2 : tie.Need-returns-2
-returns-2 c = blocks-wrong (c .before .before .before .before .args .table .now) (c .before .before .if1 .left) (λ k h. c .before .before .before .shared-slice-known .given k .fits) (sym (c .before .blocks-right .ensures) ∙ not-true (c .before .blocks-right .result) (c .if2 .taken))
+returns-2 c =
+    let args = c .before .before .before .before .args in
+    let shared-slice-known = c .before .before .before .shared-slice-known in
+    let if1 = c .before .before .if1 in
+    let blocks-right = c .before .blocks-right in
+    blocks-wrong (args .table .now) (if1 .left) (λ k h. shared-slice-known .given k .fits) (sym (blocks-right .ensures) ∙ not-true (blocks-right .result) (c .if2 .taken))
 
 rows-right-requires : tie.Need-rows-right-requires
-rows-right-requires c κs = sane-blocks (c .before .before .before .before .args .table .now) (c .before .before .if1 .left) (sym (c .before .blocks-right .ensures) ∙ not-false (c .before .blocks-right .result) (c .if2 .left))
+rows-right-requires c κs =
+    let args = c .before .before .before .before .args in
+    let if1 = c .before .before .if1 in
+    let blocks-right = c .before .blocks-right in
+    sane-blocks (args .table .now) (if1 .left) (sym (blocks-right .ensures) ∙ not-false (blocks-right .result) (c .if2 .left))
 
 returns-3 : tie.Need-returns-3
-returns-3 c = rows-wrong (c .before .before .before .before .before .before .args .table .now) (c .before .before .before .before .if1 .left) (λ k h. c .before .before .before .before .before .shared-slice-known .given k .fits) (sym (c .before .before .before .blocks-right .ensures) ∙ not-false (c .before .before .before .blocks-right .result) (c .before .before .if2 .left)) (sym (c .before .rows-right .ensures) ∙ not-true (c .before .rows-right .result) (c .if3 .taken))
+returns-3 c =
+    let args = c .before .before .before .before .before .before .args in
+    let shared-slice-known = c .before .before .before .before .before .shared-slice-known in
+    let if1 = c .before .before .before .before .if1 in
+    let blocks-right = c .before .before .before .blocks-right in
+    let if2 = c .before .before .if2 in
+    let rows-right = c .before .rows-right in
+    rows-wrong (args .table .now) (if1 .left) (λ k h. shared-slice-known .given k .fits) (sym (blocks-right .ensures) ∙ not-false (blocks-right .result) (if2 .left)) (sym (rows-right .ensures) ∙ not-true (rows-right .result) (c .if3 .taken))
 
 text-length-requires : tie.Need-text-length-requires
-text-length-requires c κs = sane-blocks (c .before .before .before .before .before .before .args .table .now) (c .before .before .before .before .if1 .left) (sym (c .before .before .before .blocks-right .ensures) ∙ not-false (c .before .before .before .blocks-right .result) (c .before .before .if2 .left))
+text-length-requires c κs =
+    let args = c .before .before .before .before .before .before .args in
+    let if1 = c .before .before .before .before .if1 in
+    let blocks-right = c .before .before .before .blocks-right in
+    let if2 = c .before .before .if2 in
+    sane-blocks (args .table .now) (if1 .left) (sym (blocks-right .ensures) ∙ not-false (blocks-right .result) (if2 .left))
 
 returns-4 : tie.Need-returns-4
-returns-4 c = ap (λ n. leb n maxBytes) (c .text-length .ensures) ∙ by-length (c .before .before .before .before .before .before .before .args .table .now) (c .before .before .before .before .before .if1 .left) (λ k h. c .before .before .before .before .before .before .shared-slice-known .given k .fits) (sym (c .before .before .before .before .blocks-right .ensures) ∙ not-false (c .before .before .before .before .blocks-right .result) (c .before .before .before .if2 .left)) (sym (c .before .before .rows-right .ensures) ∙ not-false (c .before .before .rows-right .result) (c .before .if3 .left))
+returns-4 c =
+    let args = c .before .before .before .before .before .before .before .args in
+    let shared-slice-known = c .before .before .before .before .before .before .shared-slice-known in
+    let if1 = c .before .before .before .before .before .if1 in
+    let blocks-right = c .before .before .before .before .blocks-right in
+    let if2 = c .before .before .before .if2 in
+    let rows-right = c .before .before .rows-right in
+    ap (λ n. leb n maxBytes) (c .text-length .ensures)
+    ∙ by-length (args .table .now) (if1 .left) (λ k h. shared-slice-known .given k .fits) (sym (blocks-right .ensures) ∙ not-false (blocks-right .result) (if2 .left)) (sym (rows-right .ensures) ∙ not-false (rows-right .result) (c .before .if3 .left))
 
 pub recognise-spec : {M : Type 1} → statement M
 recognise-spec =

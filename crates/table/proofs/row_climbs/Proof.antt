@@ -18,7 +18,15 @@ action-at-requires-2 : tie.Need-action-at-requires-2
 action-at-requires-2 c κs = search needs
 
 returns : tie.Need-returns
-returns c s = ap₂ ltb (c .before .before .action-at .ensures) (c .before .action-at2 .ensures) ∙ by-action (actionAt (c .before .before .before .before .args .t .now) (c .before .before .before .before .args .r)) (actionAt (c .before .before .before .before .args .t .now) (c .before .before .before .before .args .r + 1)) (guardAt (c .before .before .before .before .args .t .now) (c .before .before .before .before .args .r)) (guardAt (c .before .before .before .before .args .t .now) (c .before .before .before .before .args .r + 1)) (resetsAt (c .before .before .before .before .args .t .now) (c .before .before .before .before .args .r)) (resetsAt (c .before .before .before .before .args .t .now) (c .before .before .before .before .args .r + 1)) (targetAt (c .before .before .before .before .args .t .now) (c .before .before .before .before .args .r)) (targetAt (c .before .before .before .before .args .t .now) (c .before .before .before .before .args .r + 1)) (λ q. c .if1 .taken (c .before .before .action-at .ensures ∙ q ∙ sym (c .before .action-at2 .ensures))) ∙ climbs-is (c .before .before .before .before .args .t .now) s (c .before .before .before .before .args .r)
+returns c s =
+    let args = c .before .before .before .before .args in
+    let action-at = c .before .before .action-at in
+    let action-at2 = c .before .action-at2 in
+    let r = args .r in
+    let t = args .t .now in
+    ap₂ ltb (action-at .ensures) (action-at2 .ensures)
+    ∙ by-action (actionAt t r) (actionAt t (r + 1)) (guardAt t r) (guardAt t (r + 1)) (resetsAt t r) (resetsAt t (r + 1)) (targetAt t r) (targetAt t (r + 1)) (λ q. c .if1 .taken (action-at .ensures ∙ q ∙ sym (action-at2 .ensures)))
+    ∙ climbs-is t s r
 
 guard-at-requires : tie.Need-guard-at-requires
 guard-at-requires c κs = search needs
@@ -30,7 +38,18 @@ guard-at-requires-2 : tie.Need-guard-at-requires-2
 guard-at-requires-2 c κs = search needs
 
 returns-2 : tie.Need-returns-2
-returns-2 c s = ap₂ ltb (c .before .before .guard-at .ensures) (c .before .guard-at2 .ensures) ∙ by-guard (actionAt (c .before .before .before .before .before .before .before .args .t .now) (c .before .before .before .before .before .before .before .args .r)) (actionAt (c .before .before .before .before .before .before .before .args .t .now) (c .before .before .before .before .before .before .before .args .r + 1)) (guardAt (c .before .before .before .before .before .before .before .args .t .now) (c .before .before .before .before .before .before .before .args .r)) (guardAt (c .before .before .before .before .before .before .before .args .t .now) (c .before .before .before .before .before .before .before .args .r + 1)) (resetsAt (c .before .before .before .before .before .before .before .args .t .now) (c .before .before .before .before .before .before .before .args .r)) (resetsAt (c .before .before .before .before .before .before .before .args .t .now) (c .before .before .before .before .before .before .before .args .r + 1)) (targetAt (c .before .before .before .before .before .before .before .args .t .now) (c .before .before .before .before .before .before .before .args .r)) (targetAt (c .before .before .before .before .before .before .before .args .t .now) (c .before .before .before .before .before .before .before .args .r + 1)) (sym (c .before .before .before .before .before .action-at .ensures) ∙ c .before .before .before .if1 .left ∙ c .before .before .before .before .action-at2 .ensures) (λ q. c .if2 .taken (c .before .before .guard-at .ensures ∙ q ∙ sym (c .before .guard-at2 .ensures))) ∙ climbs-is (c .before .before .before .before .before .before .before .args .t .now) s (c .before .before .before .before .before .before .before .args .r)
+returns-2 c s =
+    let args = c .before .before .before .before .before .before .before .args in
+    let action-at = c .before .before .before .before .before .action-at in
+    let action-at2 = c .before .before .before .before .action-at2 in
+    let if1 = c .before .before .before .if1 in
+    let guard-at = c .before .before .guard-at in
+    let guard-at2 = c .before .guard-at2 in
+    let r = args .r in
+    let t = args .t .now in
+    ap₂ ltb (guard-at .ensures) (guard-at2 .ensures)
+    ∙ by-guard (actionAt t r) (actionAt t (r + 1)) (guardAt t r) (guardAt t (r + 1)) (resetsAt t r) (resetsAt t (r + 1)) (targetAt t r) (targetAt t (r + 1)) (sym (action-at .ensures) ∙ if1 .left ∙ action-at2 .ensures) (λ q. c .if2 .taken (guard-at .ensures ∙ q ∙ sym (guard-at2 .ensures)))
+    ∙ climbs-is t s r
 
 resets-at-requires : tie.Need-resets-at-requires
 resets-at-requires c κs = search needs
@@ -42,7 +61,21 @@ resets-at-requires-2 : tie.Need-resets-at-requires-2
 resets-at-requires-2 c κs = search needs
 
 returns-3 : tie.Need-returns-3
-returns-3 c s = ap₂ ltb (c .before .before .resets-at .ensures) (c .before .resets-at2 .ensures) ∙ by-resets (actionAt (c .before .before .before .before .before .before .before .before .before .before .args .t .now) (c .before .before .before .before .before .before .before .before .before .before .args .r)) (actionAt (c .before .before .before .before .before .before .before .before .before .before .args .t .now) (c .before .before .before .before .before .before .before .before .before .before .args .r + 1)) (guardAt (c .before .before .before .before .before .before .before .before .before .before .args .t .now) (c .before .before .before .before .before .before .before .before .before .before .args .r)) (guardAt (c .before .before .before .before .before .before .before .before .before .before .args .t .now) (c .before .before .before .before .before .before .before .before .before .before .args .r + 1)) (resetsAt (c .before .before .before .before .before .before .before .before .before .before .args .t .now) (c .before .before .before .before .before .before .before .before .before .before .args .r)) (resetsAt (c .before .before .before .before .before .before .before .before .before .before .args .t .now) (c .before .before .before .before .before .before .before .before .before .before .args .r + 1)) (targetAt (c .before .before .before .before .before .before .before .before .before .before .args .t .now) (c .before .before .before .before .before .before .before .before .before .before .args .r)) (targetAt (c .before .before .before .before .before .before .before .before .before .before .args .t .now) (c .before .before .before .before .before .before .before .before .before .before .args .r + 1)) (sym (c .before .before .before .before .before .before .before .before .action-at .ensures) ∙ c .before .before .before .before .before .before .if1 .left ∙ c .before .before .before .before .before .before .before .action-at2 .ensures) (sym (c .before .before .before .before .before .guard-at .ensures) ∙ c .before .before .before .if2 .left ∙ c .before .before .before .before .guard-at2 .ensures) (λ q. c .if3 .taken (c .before .before .resets-at .ensures ∙ q ∙ sym (c .before .resets-at2 .ensures))) ∙ climbs-is (c .before .before .before .before .before .before .before .before .before .before .args .t .now) s (c .before .before .before .before .before .before .before .before .before .before .args .r)
+returns-3 c s =
+    let args = c .before .before .before .before .before .before .before .before .before .before .args in
+    let action-at = c .before .before .before .before .before .before .before .before .action-at in
+    let action-at2 = c .before .before .before .before .before .before .before .action-at2 in
+    let if1 = c .before .before .before .before .before .before .if1 in
+    let guard-at = c .before .before .before .before .before .guard-at in
+    let guard-at2 = c .before .before .before .before .guard-at2 in
+    let if2 = c .before .before .before .if2 in
+    let resets-at = c .before .before .resets-at in
+    let resets-at2 = c .before .resets-at2 in
+    let r = args .r in
+    let t = args .t .now in
+    ap₂ ltb (resets-at .ensures) (resets-at2 .ensures)
+    ∙ by-resets (actionAt t r) (actionAt t (r + 1)) (guardAt t r) (guardAt t (r + 1)) (resetsAt t r) (resetsAt t (r + 1)) (targetAt t r) (targetAt t (r + 1)) (sym (action-at .ensures) ∙ if1 .left ∙ action-at2 .ensures) (sym (guard-at .ensures) ∙ if2 .left ∙ guard-at2 .ensures) (λ q. c .if3 .taken (resets-at .ensures ∙ q ∙ sym (resets-at2 .ensures)))
+    ∙ climbs-is t s r
 
 target-at-requires : tie.Need-target-at-requires
 target-at-requires c κs = search needs
@@ -54,7 +87,22 @@ target-at-requires-2 : tie.Need-target-at-requires-2
 target-at-requires-2 c κs = search needs
 
 returns-4 : tie.Need-returns-4
-returns-4 c s = ap₂ ltb (c .before .target-at .ensures) (c .target-at2 .ensures) ∙ by-target (actionAt (c .before .before .before .before .before .before .before .before .before .before .before .before .args .t .now) (c .before .before .before .before .before .before .before .before .before .before .before .before .args .r)) (actionAt (c .before .before .before .before .before .before .before .before .before .before .before .before .args .t .now) (c .before .before .before .before .before .before .before .before .before .before .before .before .args .r + 1)) (guardAt (c .before .before .before .before .before .before .before .before .before .before .before .before .args .t .now) (c .before .before .before .before .before .before .before .before .before .before .before .before .args .r)) (guardAt (c .before .before .before .before .before .before .before .before .before .before .before .before .args .t .now) (c .before .before .before .before .before .before .before .before .before .before .before .before .args .r + 1)) (resetsAt (c .before .before .before .before .before .before .before .before .before .before .before .before .args .t .now) (c .before .before .before .before .before .before .before .before .before .before .before .before .args .r)) (resetsAt (c .before .before .before .before .before .before .before .before .before .before .before .before .args .t .now) (c .before .before .before .before .before .before .before .before .before .before .before .before .args .r + 1)) (targetAt (c .before .before .before .before .before .before .before .before .before .before .before .before .args .t .now) (c .before .before .before .before .before .before .before .before .before .before .before .before .args .r)) (targetAt (c .before .before .before .before .before .before .before .before .before .before .before .before .args .t .now) (c .before .before .before .before .before .before .before .before .before .before .before .before .args .r + 1)) (sym (c .before .before .before .before .before .before .before .before .before .before .action-at .ensures) ∙ c .before .before .before .before .before .before .before .before .if1 .left ∙ c .before .before .before .before .before .before .before .before .before .action-at2 .ensures) (sym (c .before .before .before .before .before .before .before .guard-at .ensures) ∙ c .before .before .before .before .before .if2 .left ∙ c .before .before .before .before .before .before .guard-at2 .ensures) (sym (c .before .before .before .before .resets-at .ensures) ∙ c .before .before .if3 .left ∙ c .before .before .before .resets-at2 .ensures) ∙ climbs-is (c .before .before .before .before .before .before .before .before .before .before .before .before .args .t .now) s (c .before .before .before .before .before .before .before .before .before .before .before .before .args .r)
+returns-4 c s =
+    let args = c .before .before .before .before .before .before .before .before .before .before .before .before .args in
+    let action-at = c .before .before .before .before .before .before .before .before .before .before .action-at in
+    let action-at2 = c .before .before .before .before .before .before .before .before .before .action-at2 in
+    let if1 = c .before .before .before .before .before .before .before .before .if1 in
+    let guard-at = c .before .before .before .before .before .before .before .guard-at in
+    let guard-at2 = c .before .before .before .before .before .before .guard-at2 in
+    let if2 = c .before .before .before .before .before .if2 in
+    let resets-at = c .before .before .before .before .resets-at in
+    let resets-at2 = c .before .before .before .resets-at2 in
+    let if3 = c .before .before .if3 in
+    let r = args .r in
+    let t = args .t .now in
+    ap₂ ltb (c .before .target-at .ensures) (c .target-at2 .ensures)
+    ∙ by-target (actionAt t r) (actionAt t (r + 1)) (guardAt t r) (guardAt t (r + 1)) (resetsAt t r) (resetsAt t (r + 1)) (targetAt t r) (targetAt t (r + 1)) (sym (action-at .ensures) ∙ if1 .left ∙ action-at2 .ensures) (sym (guard-at .ensures) ∙ if2 .left ∙ guard-at2 .ensures) (sym (resets-at .ensures) ∙ if3 .left ∙ resets-at2 .ensures)
+    ∙ climbs-is t s r
 
 pub row-climbs-spec : {M : Type 1} → statement M
 row-climbs-spec =

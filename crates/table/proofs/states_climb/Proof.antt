@@ -29,19 +29,42 @@ loop-holds : tie.Need-loop-holds Inv-loop μ-loop
 loop-holds c = ap (all (stateClimbs (c .before .before .args .t .now) (c .before .before .args .i)) 0) (c .block-word .ensures)
 
 first-of-requires : tie.Need-first-of-requires Inv-loop μ-loop
-first-of-requires c κs = (c .before .before .before .before .pre .0 .long, c .before .before .before .before .pre .1, omega (arith, c .before .before .before .before .pre .0 .states (c .before .before .before .before .args .i) (c .before .before .before .before .pre .1)))
+first-of-requires c κs =
+    let the-pre = c .before .before .before .before .pre in
+    let args = c .before .before .before .before .args in
+    (the-pre .0 .long, the-pre .1, omega (arith, the-pre .0 .states (args .i) (the-pre .1)))
 
 add-first-of : tie.Need-add-first-of Inv-loop μ-loop
 add-first-of c = omega arith
 
 first-of-requires-2 : tie.Need-first-of-requires-2 Inv-loop μ-loop
-first-of-requires-2 c κs = (c .before .before .before .before .before .pre .0 .long, c .before .before .before .before .before .pre .1, omega (arith, c .before .before .before .before .before .pre .0 .states (c .before .before .before .before .before .args .i) (c .before .before .before .before .before .pre .1)))
+first-of-requires-2 c κs =
+    let the-pre = c .before .before .before .before .before .pre in
+    let args = c .before .before .before .before .before .args in
+    (the-pre .0 .long, the-pre .1, omega (arith, the-pre .0 .states (args .i) (the-pre .1)))
 
 range-climbs-requires : tie.Need-range-climbs-requires Inv-loop μ-loop
-range-climbs-requires c κs = (c .before .before .before .before .before .before .pre .0 .long, omega (arith, c .before .before .before .before .before .before .pre .0 .firsts (c .before .before .before .before .before .before .args .i) (c .before .before .before .loop .s) (c .before .before .before .before .before .before .pre .1) (omega (arith, c .before .before .before .before .before .before .pre .0 .states (c .before .before .before .before .before .before .args .i) (c .before .before .before .before .before .before .pre .1)))), omega (arith, c .before .before .before .before .before .before .pre .0 .firsts (c .before .before .before .before .before .before .args .i) (c .before .before .before .loop .s + 1) (c .before .before .before .before .before .before .pre .1) (omega (arith, c .before .before .before .before .before .before .pre .0 .states (c .before .before .before .before .before .before .args .i) (c .before .before .before .before .before .before .pre .1)))))
+range-climbs-requires c κs =
+    let the-pre = c .before .before .before .before .before .before .pre in
+    let args = c .before .before .before .before .before .before .args in
+    let loop = c .before .before .before .loop in
+    let i = args .i in
+    let s = loop .s in
+    (the-pre .0 .long, omega (arith, the-pre .0 .firsts i s (the-pre .1) (omega (arith, the-pre .0 .states i (the-pre .1)))), omega (arith, the-pre .0 .firsts i (s + 1) (the-pre .1) (omega (arith, the-pre .0 .states i (the-pre .1)))))
 
 returns : tie.Need-returns Inv-loop μ-loop
-returns c = all-fails (stateClimbs (c .before .before .before .before .before .before .before .before .args .t .now) (c .before .before .before .before .before .before .before .before .args .i)) (c .before .before .before .before .before .loop .s) (c .before .before .before .before .before .before .block-word .result) (c .before .before .before .before .before .loop .inv) (c .before .before .before .before .loop-test .taken) (climb-is (c .before .before .before .before .before .before .before .before .args .t .now) (c .before .before .before .before .before .before .before .before .args .i) (c .before .before .before .before .before .loop .s) (c .before .before .before .first-of .result) (c .before .before .first-of2 .result) (c .before .before .before .first-of .ensures) (c .before .before .first-of2 .ensures) ∙ sym (c .before .range-climbs .ensures (c .before .before .before .before .before .loop .s)) ∙ not-true (c .before .range-climbs .result) (c .if1 .taken))
+returns c =
+    let args = c .before .before .before .before .before .before .before .before .args in
+    let block-word = c .before .before .before .before .before .before .block-word in
+    let loop = c .before .before .before .before .before .loop in
+    let loop-test = c .before .before .before .before .loop-test in
+    let first-of = c .before .before .before .first-of in
+    let first-of2 = c .before .before .first-of2 in
+    let range-climbs = c .before .range-climbs in
+    let i = args .i in
+    let t = args .t .now in
+    let s = loop .s in
+    all-fails (stateClimbs t i) s (block-word .result) (loop .inv) (loop-test .taken) (climb-is t i s (first-of .result) (first-of2 .result) (first-of .ensures) (first-of2 .ensures) ∙ sym (range-climbs .ensures s) ∙ not-true (range-climbs .result) (c .if1 .taken))
 
 add-s : tie.Need-add-s Inv-loop μ-loop
 add-s c = omega arith
@@ -50,10 +73,25 @@ loop-less : tie.Need-loop-less Inv-loop μ-loop
 loop-less c = omega arith
 
 loop-again : tie.Need-loop-again Inv-loop μ-loop
-loop-again c = all-goes-on (stateClimbs (c .before .before .before .before .before .before .before .before .args .t .now) (c .before .before .before .before .before .before .before .before .args .i)) (c .before .before .before .before .before .loop .s) (c .before .before .before .before .before .before .block-word .result) (c .before .before .before .before .before .loop .inv) (c .before .before .before .before .loop-test .taken) (climb-is (c .before .before .before .before .before .before .before .before .args .t .now) (c .before .before .before .before .before .before .before .before .args .i) (c .before .before .before .before .before .loop .s) (c .before .before .before .first-of .result) (c .before .before .first-of2 .result) (c .before .before .before .first-of .ensures) (c .before .before .first-of2 .ensures) ∙ sym (c .before .range-climbs .ensures (c .before .before .before .before .before .loop .s)) ∙ not-false (c .before .range-climbs .result) (c .if1 .left))
+loop-again c =
+    let args = c .before .before .before .before .before .before .before .before .args in
+    let block-word = c .before .before .before .before .before .before .block-word in
+    let loop = c .before .before .before .before .before .loop in
+    let loop-test = c .before .before .before .before .loop-test in
+    let first-of = c .before .before .before .first-of in
+    let first-of2 = c .before .before .first-of2 in
+    let range-climbs = c .before .range-climbs in
+    let i = args .i in
+    let t = args .t .now in
+    let s = loop .s in
+    all-goes-on (stateClimbs t i) s (block-word .result) (loop .inv) (loop-test .taken) (climb-is t i s (first-of .result) (first-of2 .result) (first-of .ensures) (first-of2 .ensures) ∙ sym (range-climbs .ensures s) ∙ not-false (range-climbs .result) (c .if1 .left))
 
 returns-2 : tie.Need-returns-2 Inv-loop μ-loop
-returns-2 c = all-passed (stateClimbs (c .before .before .before .before .args .t .now) (c .before .before .before .before .args .i)) (c .before .loop .s) (c .before .before .block-word .result) (c .before .loop .inv) (c .loop-test .left)
+returns-2 c =
+    let args = c .before .before .before .before .args in
+    let block-word = c .before .before .block-word in
+    let loop = c .before .loop in
+    all-passed (stateClimbs (args .t .now) (args .i)) (loop .s) (block-word .result) (loop .inv) (c .loop-test .left)
 
 pub states-climb-spec : {M : Type 1} → statement M
 states-climb-spec =

@@ -1,0 +1,147 @@
+// Condition (f): the greatest sets that the start, stability and the rows allow.
+use answer::Model;
+use rows::Found;
+ghost use mathlib.Core.Path.{_≡_};
+ghost use mathlib.Core.Bool.{Bool, true, false};
+ghost use Prim.Native.Nat.{ℕ, _+_, _≤_, _<_};
+ghost use lib.ListN.{length, getD};
+ghost use Rattle.laws.specs.Fold.{tab};
+ghost use Rattle.answer.specs.Limits.{maxClocks};
+ghost use Rattle.iosa.specs.Model.{guardSet};
+ghost use Rattle.iosa.specs.Checks.{enablingOf, unstable, allowed};
+ghost use Rattle.iosa.specs.Greatest.{Greatest};
+ghost use Rattle.layout.specs.Layout.{countOf, blockWord};
+ghost use Rattle.layout.specs.Image.{Image, compOf};
+ghost use Rattle.active.specs.Narrowing.{narrowState, pass, FirstSets};
+
+// A set of clocks for each state.
+pub struct Sets {
+    pub sets: [u64; Model::STATES],
+}
+
+// The guard of a row as a set: none, or one clock.
+pub fn guard_set(g: u64) -> u64
+    requires { ⌜ g ≤ maxClocks ⌝ }
+    ensures { λ r. ⌜ r ≡ guardSet g ⌝ }
+{
+    if g == 0 { 0 } else { sets::single(g - 1) }
+}
+
+// The clocks that guard rows leaving s.
+pub fn enabling(t: &[u64], i: usize, s: usize) -> u64
+    requires { ⌜ Image (now t) × (i < countOf (now t)) × (s < blockWord (now t) i 0) ⌝ }
+    ensures { λ r. ⌜ r ≡ enablingOf (compOf (now (t .entry)) i) s ⌝ }
+{
+    let lo = layout::first_of(t, i, s);
+    let hi = layout::first_of(t, i, s + 1);
+    let mut all = 0u64;
+    for k in lo..hi {
+        all = sets::union(all, guard_set(layout::guard_at(t, k)));
+    }
+    all
+}
+
+// Whether a row with an urgent output leaves s.
+fn is_unstable(t: &[u64], i: usize, s: usize) -> bool
+    requires { ⌜ Image (now t) × (i < countOf (now t)) × (s < blockWord (now t) i 0) ⌝ }
+    ensures { λ r. ⌜ r ≡ unstable (compOf (now (t .entry)) i) s ⌝ }
+{
+    let lo = layout::first_of(t, i, s);
+    let hi = layout::first_of(t, i, s + 1);
+    let set = layout::block_word(t, i, layout::UOUTS);
+    let f = rows::find_in(t, lo, hi, set);
+    match f {
+        Found::At(_) => true,
+        Found::Nothing => false,
+    }
+}
+
+// What the start and stability allow at s.
+fn first_set(t: &[u64], i: usize, s: usize) -> u64
+    requires { ⌜ Image (now t) × (i < countOf (now t)) × (s < blockWord (now t) i 0) ⌝ }
+    ensures { λ r. ⌜ r ≡ allowed (compOf (now (t .entry)) i) s ⌝ }
+{
+    let clocks = layout::block_word(t, i, layout::CLOCKS);
+    let started = layout::block_word(t, i, layout::STARTED);
+    let start = layout::block_word(t, i, layout::START);
+    let first = if s as u64 == start { started } else { clocks };
+    let rest = if is_unstable(t, i, s) {
+        clocks
+    } else {
+        enabling(t, i, s)
+    };
+    clocks & (first & rest)
+}
+
+// The sets to begin with.
+fn first_sets(t: &[u64], i: usize) -> Sets
+    requires { ⌜ Image (now t) × (i < countOf (now t)) ⌝ }
+    ensures { λ r. ⌜ FirstSets (compOf (now (t .entry)) i) (r .sets) ⌝ }
+{
+    let states = layout::block_word(t, i, layout::STATES) as usize;
+    let mut all = Sets {
+        sets: [0; Model::STATES],
+    };
+    for s in 0..states {
+        all.sets[s] = first_set(t, i, s);
+    }
+    all
+}
+
+// Once by every row that leaves s: its target keeps what the row hands on.
+fn narrow_state(t: &[u64], i: usize, s: usize, act: Sets) -> Sets
+    requires { ⌜ Image (now t) × (i < countOf (now t)) × (s < blockWord (now t) i 0) ⌝ }
+    ensures { λ r. ⌜ r .sets ≡ narrowState (now (t .entry)) i s (act .sets) ⌝ }
+{
+    let lo = layout::first_of(t, i, s);
+    let hi = layout::first_of(t, i, s + 1);
+    let mut cur = act;
+    for k in lo..hi {
+        let to = layout::target_at(t, k) as usize;
+        let kept = sets::minus(cur.sets[s], guard_set(layout::guard_at(t, k)));
+        let held = sets::union(kept, layout::resets_at(t, k));
+        cur.sets[to] = cur.sets[to] & held;
+    }
+    cur
+}
+
+// Once by every row.
+fn pass_once(t: &[u64], i: usize, act: Sets) -> Sets
+    requires { ⌜ Image (now t) × (i < countOf (now t)) ⌝ }
+    ensures { λ r. ⌜ r .sets ≡ pass (now (t .entry)) i (act .sets) ⌝ }
+{
+    let states = layout::block_word(t, i, layout::STATES) as usize;
+    let mut cur = act;
+    for s in 0..states {
+        let next = narrow_state(t, i, s, cur);
+        cur = next;
+    }
+    cur
+}
+
+fn same(a: Sets, b: Sets) -> bool
+    ensures yes { λ r. ⌜ (r ≡ true → a .sets ≡ b .sets) ⌝ }
+    ensures no { λ r. ⌜ (r ≡ false → a .sets ≡ b .sets → ⊥) ⌝ }
+{
+    for s in 0..Model::STATES {
+        if a.sets[s] != b.sets[s] {
+            return false;
+        }
+    }
+    true
+}
+
+// The greatest sets that the rows allow.
+pub fn solve(t: &[u64], i: usize) -> Sets
+    requires { ⌜ Image (now t) × (i < countOf (now t)) ⌝ }
+    ensures { λ r. ⌜ Greatest (compOf (now (t .entry)) i) (λ s. getD (r .sets) s 0) ⌝ }
+{
+    let mut cur = first_sets(t, i);
+    loop {
+        let next = pass_once(t, i, cur);
+        if same(cur, next) {
+            return cur;
+        }
+        cur = next;
+    }
+}

@@ -1,0 +1,4 @@
+pub mod Determined
+pub mod Exactly
+pub mod EachInTurn
+pub mod AfterAccept

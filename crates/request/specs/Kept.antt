@@ -1,0 +1,52 @@
+-- What is kept of a request: its numbers as a composed state, and its budget.
+use mathlib.Core.Option.{Option, none, some}
+use mathlib.Core.Bool.{Bool, true, false, cond}
+use mathlib.Core.List.{List, [], _∷_}
+use Prim.Native.Nat.{ℕ, _+_}
+use lib.ListN.{drop, set}
+use lib.Dec.{ltb}
+use Rattle.answer.specs.Limits.{maxComponents, noState}
+use Rattle.answer.specs.declared.State.{State}
+use Rattle.iosa.specs.Reading.{Got, got}
+use Rattle.iosa.specs.Report.{Request}
+use Rattle.request.specs.declared.PartsScan.{PartsScan}
+use Rattle.request.specs.declared.Asked.{Asked}
+
+-- a number of a state fits a byte ("states (1 to 64)"); the last byte stands for every larger one
+abbrev pub byteOf : ℕ → ℕ
+byteOf n = cond (ltb n 255) n 255
+
+abbrev pub lessOf : ℕ → ℕ → ℕ
+lessOf n m = cond (ltb n m) n m
+
+-- one number more; "A model has 1 to 16 components": a 17th number, and every further one, leaves one number too many
+abbrev pub with : State → ℕ → State
+with x n =
+    cond (ltb (x .count) maxComponents)
+    (record { count = x .count + 1; parts = set (x .parts) (x .count) (byteOf n) })
+    (record { count = maxComponents + 1; parts = x .parts })
+
+unfoldable pub withAll : State → List ℕ → State
+withAll x [] = x
+withAll x (n ∷ ns) = withAll (with x n) ns
+
+-- the numbers of a request as a state
+unfoldable pub held : List ℕ → State
+held ns = withAll noState ns
+
+pub record Kept : Type 0 where
+  pub state : State
+  pub budget : ℕ
+
+abbrev pub keep : Request → Kept
+keep r = record { state = held (r .state); budget = r .budget }
+
+-- what the scans answer
+abbrev pub gotParts : List ℕ → PartsScan → Option (Got State)
+gotParts t r = cond (r .found) (got (r .state) (drop (r .at) t)) none
+
+abbrev pub asked : List ℕ → Asked → Option (Got Kept)
+asked t r = cond (r .found) (got (record { state = r .state; budget = r .budget }) (drop (r .at) t)) none
+
+abbrev pub notAsked : Asked
+notAsked = record { found = false; state = noState; budget = 0; at = 0 }

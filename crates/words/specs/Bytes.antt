@@ -1,0 +1,11 @@
+-- A composed state from the bytes that a caller lends: "a composed state is one number per component" (paper 01, "Composition").
+use mathlib.Core.List.{List}
+use Prim.Native.Nat.{ℕ}
+use lib.ListN.{length}
+use Rattle.answer.specs.Limits.{maxComponents}
+use Rattle.answer.specs.State.{numbersFrom}
+use Rattle.answer.specs.declared.State.{State}
+
+-- as many numbers as there are bytes, so that a wrong length is told by 21; places past the last are 0
+unfoldable pub stateOf : List ℕ → State
+stateOf bs = record { count = length bs; parts = numbersFrom bs 0 maxComponents }

@@ -1,0 +1,62 @@
+/* Floodneedle for C: an engine for input/output stochastic automata with urgency, its code proved.
+ *
+ * Every call takes any input whatever and returns. It keeps nothing between calls, allocates nothing and prints nothing. Every buffer is
+ * lent by the caller, with its length behind its pointer, and no two of one call may overlap. A buffer of length 0 still needs a pointer.
+ *
+ * The answer is always written. Where its kind is FLOODNEEDLE_REFUSED, `number` and the first `places` of `place` tell why and where (paper
+ * 01's table of refusal numbers), every other field is 0, and no other lent byte has changed.
+ *
+ * A table is 64-bit words at the front of a buffer (docs/TABLE.md); what lies behind the image is neither read nor changed.
+ * A set of clocks or actions is one 64-bit number, bit x for member x.
+ * A composed state is one byte for each component, in order; a wrong length or range is refused with 21.
+ */
+#ifndef FLOODNEEDLE_H
+#define FLOODNEEDLE_H
+
+#include <stdbool.h>
+#include <stddef.h>
+#include <stdint.h>
+
+#ifdef __cplusplus
+extern "C" {
+#endif
+
+/* Sizes: words of a table, bytes of the longest text, bytes of a state, and the largest budget, which is also the longest list or trace. */
+#define FLOODNEEDLE_TABLE 5265
+#define FLOODNEEDLE_TEXT 32768
+#define FLOODNEEDLE_STATE 16
+#define FLOODNEEDLE_BUDGET 4096
+#define FLOODNEEDLE_CLOCKS 64
+
+enum floodneedle_kind {
+  FLOODNEEDLE_REFUSED = 0,
+  FLOODNEEDLE_DONE = 1,
+  FLOODNEEDLE_MOVED = 2,
+  FLOODNEEDLE_STABLE = 3,
+  FLOODNEEDLE_UNSETTLED = 4,
+  FLOODNEEDLE_FIRED = 5,
+  FLOODNEEDLE_QUIET = 6
+};
+
+struct floodneedle_answer {
+  uint64_t kind;     /* an enum floodneedle_kind */
+  uint64_t number;   /* of the refusal, else 0 */
+  uint64_t places;   /* how many values the refusal's place has, 1 to 4 */
+  uint64_t place[4];
+  uint64_t count;    /* bytes written, or steps taken */
+  uint64_t action;
+  uint64_t resets;   /* a set of clocks */
+  uint64_t ticks;
+};
+
+/* Whether the table's front is the image of a model. It is not exactly where any other call on it refuses with 20. */
+bool floodneedle_recognise(const uint64_t *table, size_t table_words);
+
+/* Done exactly where the bytes are the text of a model; else 1, or 2 to 7 at the first faulty line, or 8. */
+void floodneedle_check_text(const uint8_t *text, size_t text_bytes, struct floodneedle_answer *answer);
+
+#ifdef __cplusplus
+}
+#endif
+
+#endif
