@@ -136,3 +136,35 @@ fn list_after(table: &[u64], state: State, list: &[u8], checked: Checked) -> Set
         }
     }
 }
+
+// One step by our rule: the lowest-numbered enabled urgent output.
+pub fn step(table: &[u64], state: State) -> Stepped
+    ensures { λ r. ⌜ StepCall (now (table .entry)) state r ⌝ }
+{
+    let checked = admit::accept(table);
+    step_after(table, state, checked)
+}
+
+// One step by a named action.
+pub fn step_by(table: &[u64], state: State, action: u64) -> Stepped
+    ensures { λ r. ⌜ StepByCall (now (table .entry)) state action r ⌝ }
+{
+    let checked = admit::accept(table);
+    step_by_after(table, state, action, checked)
+}
+
+// Settling by our rule, at most budget times; the actions taken at the front of the trace.
+pub fn settle(table: &[u64], state: State, budget: usize, trace: &mut [u8]) -> Settled
+    ensures { λ r. ⌜ SettleCall (now (table .entry)) state budget (now (trace .entry)) (now (trace .exit)) r ⌝ }
+{
+    let checked = admit::confluent(table);
+    settle_after(table, state, budget, trace, checked)
+}
+
+// Settling by the listed actions, in order.
+pub fn settle_list(table: &[u64], state: State, list: &[u8]) -> Settled
+    ensures { λ r. ⌜ SettleListCall (now (table .entry)) state (now (list .entry)) r ⌝ }
+{
+    let checked = admit::confluent(table);
+    list_after(table, state, list, checked)
+}
