@@ -5,3 +5,4 @@ pub mod KeepsRange
 pub mod Ready
 pub mod OneRow
 pub mod LowestOffer
+pub mod Lowest

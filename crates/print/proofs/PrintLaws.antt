@@ -1,25 +1,25 @@
 -- The fields by the parts in which they are put: digits, members, numbers behind commas.
-use mathlib.Core.Path.{_≡_, refl, sym, _∙_, ap, ap₂}
+use mathlib.Core.Path.{_≡_, refl, sym, _∙_, ap}
 use mathlib.Core.Logic.{by-cases}
-use mathlib.Core.Option.{Option, none, some}
-use mathlib.Core.Bool.{Bool, true, false, cond, _&&_, true≢false}
-use mathlib.Core.List.{List, [], _∷_, _++_, append-nil}
+use mathlib.Core.Bool.{Bool, true, false, _&&_, true≢false}
+use mathlib.Core.List.{List, [], _∷_, _++_}
 use Prim.Native.Nat.{ℕ, zero, suc, _+_, _-_, _/_, _%_, _^_, _≤_, _<_}
 use native.Mathlib.Omega.{arith}
 use native.Mathlib.Numerals.{add-one}
-use native.Mathlib.Decide.{decLt, ℕ-discrete}
-use lib.ListN.{length, getD, drop}
+use native.Mathlib.Decide.{decLt}
+use lib.ListN.{getD}
 use lib.Dec.{ltb}
 use borrow.Author.Tests.{lt-ltb, le-ltb}
-use Rattle.laws.specs.Sets.{has, only, _∖_, _∈_}
-use Rattle.laws.specs.Search.{Least, least}
-use Rattle.laws.proofs.SetLaws.{has-ext, has-without, in-one, one-in, none-in, in-without, subset-le, in-below}
-use Rattle.laws.proofs.SearchLaws.{least-none, least-some}
+use Rattle.laws.specs.Sets.{has, only, _∖_}
+use Rattle.laws.specs.Search.{Least}
+use Rattle.laws.proofs.SetLaws.{has-without, in-one, one-in, in-without, subset-le, in-below}
+use Rattle.laws.proofs.SearchLaws.{least-some}
 use Rattle.laws.proofs.TestLaws.{not-so}
 use Rattle.answer.specs.Limits.{maxClocks}
 use Rattle.answer.specs.declared.State.{State}
 use Rattle.answer.specs.State.{numbersFrom, partsOf}
-use Rattle.sets.specs.Members.{wordBits, orEnd, lowestOf}
+use Rattle.sets.specs.Members.{wordBits, lowestOf}
+use Rattle.sets.proofs.MemberLaws.{lowest-found}
 use Rattle.iosa.specs.Text.{byte0, comma, dash, digitsOf, decimal, joined, members, guardField, setField}
 use Rattle.iosa.proofs.Reading.Members.{members-same, members-none}
 use Rattle.print.specs.Put.{leading}
@@ -154,15 +154,7 @@ first-out s t x (suc n) k p q a b f g e = by-cases (decLt k x)
 
 module _ (s : ℕ) (inhabited : s ≡ 0 → ⊥) (fits : s < 2 ^ wordBits) where
   lowest-least : Least (has s) wordBits (lowestOf s)
-  unfolding lowestOf
-  lowest-least = go (least (has s) wordBits) refl
-    where
-      outside : least (has s) wordBits ≡ none → (x : ℕ) → x ∈ s → x ∈ 0
-      outside e x h = absurd (true≢false (sym h ∙ least-none (has s) wordBits e x (in-below wordBits s x fits h)))
-
-      go : (o : Option ℕ) → least (has s) wordBits ≡ o → Least (has s) wordBits (orEnd o wordBits)
-      go none e = absurd (inhabited (has-ext s 0 (λ x. not-so (has s x) (λ h. none-in x (outside e x h)) ∙ sym (not-so (has 0 x) (none-in x)))))
-      go (some x) e = least-some (has s) wordBits x e
+  lowest-least = least-some (has s) wordBits (lowestOf s) (lowest-found s (λ x h. in-below wordBits s x fits h) inhabited)
 
   pub lowest-below : lowestOf s < wordBits
   lowest-below = lowest-least .below

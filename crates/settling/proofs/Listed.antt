@@ -26,7 +26,7 @@ use Rattle.moves.proofs.StepsByOffers.{offered-step, no-offer-no-step}
 use Rattle.moves.proofs.Along.{drop-out}
 use Rattle.settling.specs.Gives.{Ready, SettlingGives}
 use Rattle.settling.proofs.Reached.{Reached, reached-first, next-parts, reached-next}
-use Rattle.settling.proofs.Lowest.{lowest-here, lowest-nowhere}
+use Rattle.moves.proofs.Lowest.{lowest-here, lowest-nowhere}
 
 -- k listed actions done, with resets r, before what d says
 unfoldable pub plusListed : ℕ → ℕ → Answer (Settling (List ℕ)) → Answer (Settling (List ℕ))

@@ -23,7 +23,7 @@ use Rattle.layout.specs.Image.{modelOf}
 use Rattle.moves.specs.Moves.{resetAll, afterAll, movedAll, lowestAll}
 use Rattle.settling.specs.Gives.{Ready, traced}
 use Rattle.settling.proofs.Reached.{Reached, reached-first, next-parts, reached-next}
-use Rattle.settling.proofs.Lowest.{lowest-here, lowest-nowhere}
+use Rattle.moves.proofs.Lowest.{lowest-here, lowest-nowhere}
 use Rattle.settling.proofs.Plus.{plus, plus-nothing, plus-step, settle-rests, settle-out}
 
 -- k steps of a run from x are done, with these resets, and cur is reached; the trace was old

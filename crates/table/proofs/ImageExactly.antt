@@ -7,8 +7,9 @@ use Prim.Native.Nat.{ℕ}
 use lib.ListN.{take}
 use Rattle.answer.specs.Told.{Answer}
 use Rattle.iosa.specs.Model.{Model}
+use Rattle.iosa.specs.WellFormed.{WellFormed}
 use Rattle.layout.specs.Layout.{imageWords}
-use Rattle.layout.specs.Image.{modelOf, Image}
+use Rattle.layout.specs.Image.{imageOf, modelOf, Image}
 use Rattle.layout.proofs.RowsOfRange.{image-front, well-formed}
 use Rattle.layout.proofs.ModelOfImage.{model-is, image-by-front}
 use Rattle.table.specs.IsImage.{isImage}
@@ -46,3 +47,7 @@ module _ (t t′ : List ℕ) (same : take imageWords t ≡ take imageWords t′)
           let im = recognised-image t e in
           on-image t f e ∙ ap f (sym (model-is (modelOf t) t′ (well-formed t im) (sym same ∙ image-front t im))) ∙ sym (on-image t′ f (sym front-decides ∙ e))
       go false e = on-no-image t f e ∙ sym (on-no-image t′ f (sym front-decides ∙ e))
+
+-- a table whose front was written as the image of a well-formed model
+pub written-recognised : (m : Model) (t : List ℕ) → WellFormed m → take imageWords t ≡ imageOf m → (isImage t ≡ true) × (modelOf t ≡ m)
+written-recognised m t w front = (image-recognised t (record { model = m; well = w; front = front }), model-is m t w front)

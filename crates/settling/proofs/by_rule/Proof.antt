@@ -19,7 +19,7 @@ use Rattle.moves.specs.Moves.{resetAll, afterAll, movedAll}
 use Rattle.moves.specs.Standing.{Standing}
 use Rattle.moves.proofs.Ready.{count-few}
 use Rattle.settling.specs.Gives.{Ready, traced}
-use Rattle.settling.proofs.Lowest.{lowest-here, lowest-nowhere}
+use Rattle.moves.proofs.Lowest.{lowest-here, lowest-nowhere}
 use Rattle.settling.proofs.Plus.{plus, plus-nothing, plus-step, settle-rests, settle-out}
 use Rattle.settling.proofs.Onward.{Runs, begin, onward, ends-stable, ends-unsettled}
 use Rattle.settling.proofs.by_rule.Statement.{statement}

@@ -14,7 +14,7 @@ use Rattle.iosa.specs.Step.{taken, Stepping}
 use Rattle.layout.specs.Image.{modelOf}
 use Rattle.moves.proofs.Ready.{count-few}
 use Rattle.settling.specs.Gives.{byRuleOf}
-use Rattle.settling.proofs.Lowest.{lowest-here, lowest-nowhere}
+use Rattle.moves.proofs.Lowest.{lowest-here, lowest-nowhere}
 use Rattle.settling.proofs.rule_step.Statement.{statement}
 use Rattle.settling.proofs.rule_step.Tie as tie
 use Rattle.settling.proofs.rule_step.Reads as reads

@@ -1,0 +1,3 @@
+pub mod Fired
+pub mod Choices
+pub mod Shots

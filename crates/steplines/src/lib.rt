@@ -1,0 +1,86 @@
+// A run, printed as it goes: a line for each step, then the last line (paper 01, "The program and its example"). The table is an image of a confluent model.
+use answer::Model;
+use answer::Place;
+use answer::Refusal;
+use answer::State;
+ghost use mathlib.Core.Path.{_≡_};
+ghost use mathlib.Core.Option.{none};
+ghost use mathlib.Core.List.{[], _∷_};
+ghost use Prim.Native.Nat.{_≤_};
+ghost use lib.ListN.{length};
+ghost use Rattle.answer.specs.Limits.{maxBudget};
+ghost use Rattle.answer.specs.State.{partsOf};
+ghost use Rattle.answer.specs.Told.{tell};
+ghost use Rattle.iosa.specs.Checks.{confluentOf};
+ghost use Rattle.iosa.specs.Settle.{settleOf};
+ghost use Rattle.iosa.specs.Report.{refusedLine, answerLines};
+ghost use Rattle.layout.specs.Image.{Image, modelOf};
+ghost use Rattle.settling.specs.Gives.{Ready};
+ghost use Rattle.print.specs.Put.{Put};
+ghost use Rattle.steplines.specs.Run.{mostBytes, runText};
+
+// No printed line is longer.
+pub const LINE: usize = 512;
+
+// No report is longer: a line for each step of the largest budget, and the last line.
+pub const REPORT: usize = LINE * (State::BUDGET + 1);
+
+// One step after the other, each printed as it is taken.
+pub fn put_run(t: &[u64], x: State, budget: usize, out: &mut [u8]) -> usize
+    requires { ⌜ Ready (now t) x × (budget ≤ maxBudget) × (mostBytes ≤ length (now out)) ⌝ }
+    ensures { λ r. ⌜ Put (now (out .entry)) 0 (runText (modelOf (now (t .entry))) (partsOf x) budget) (now (out .exit)) r ⌝ }
+{
+    let mut cur = x;
+    let mut resets = 0u64;
+    let mut steps = 0usize;
+    let mut at = 0usize;
+    while steps < budget {
+        let a = moves::lowest_all(t, cur);
+        if Model::ACTIONS as u64 <= a {
+            return tell::put_last(out, at, true, steps, resets, cur);
+        }
+        let m = moves::move_all(t, cur, a);
+        let next = m.state;
+        at = tell::put_step(out, at, steps + 1, a, m.resets, next);
+        resets = sets::union(resets, m.resets);
+        cur = next;
+        steps += 1;
+    }
+    let a = moves::lowest_all(t, cur);
+    if Model::ACTIONS as u64 <= a {
+        return tell::put_last(out, at, true, steps, resets, cur);
+    }
+    tell::put_last(out, at, false, steps, resets, cur)
+}
+
+// A refusal whose place is the whole.
+pub fn put_whole(out: &mut [u8], number: u8) -> usize
+    requires { ⌜ mostBytes ≤ length (now out) ⌝ }
+    ensures { λ r. ⌜ Put (now (out .entry)) 0 (refusedLine (tell number (0 ∷ []))) (now (out .exit)) r ⌝ }
+{
+    tell::put_refused(
+        out,
+        0,
+        Refusal {
+            number,
+            place: Place::Whole,
+        },
+    )
+}
+
+// "then the call's own, ascending": 21, 22, and else the run.
+pub fn put_settled(t: &[u64], x: State, budget: u64, out: &mut [u8]) -> usize
+    requires { ⌜ Image (now t) × (confluentOf (modelOf (now t)) ≡ none) × (mostBytes ≤ length (now out)) ⌝ }
+    ensures { λ r.
+        ⌜ Put (now (out .entry)) 0
+        (answerLines (modelOf (now (t .entry))) (partsOf x) (settleOf (modelOf (now (t .entry))) (partsOf x) budget budget))
+        (now (out .exit)) r ⌝ }
+{
+    if !moves::in_range(t, x) {
+        return put_whole(out, 21);
+    }
+    if (State::BUDGET as u64) < budget {
+        return put_whole(out, 22);
+    }
+    put_run(t, x, budget as usize, out)
+}

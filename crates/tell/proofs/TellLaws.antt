@@ -1,0 +1,80 @@
+-- The printed lines by the parts in which they are put.
+use mathlib.Core.Path.{_≡_, refl, sym, _∙_, ap}
+use mathlib.Core.Option.{Option, none, some, Option·some-inj}
+use mathlib.Core.Bool.{Bool, true, false, cond}
+use mathlib.Core.List.{List, [], _∷_, _++_}
+use Prim.Native.Nat.{ℕ}
+use native.Mathlib.Omega.{arith}
+use Rattle.answer.specs.Told.{Told, tell, shapeOf, shapeAt, same-shape, valuesAt, told}
+use Rattle.answer.specs.declared.Refusal.{Refusal}
+use Rattle.iosa.specs.Text.{tab, lf, comma, decimal, joined, setField, fieldsAfter}
+use Rattle.iosa.specs.Step.{Gone}
+use Rattle.iosa.specs.Settle.{Settling}
+use Rattle.iosa.specs.Report.{stepWord, stableWord, unsettledWord, refusedWord, stepLine, lastLine, refusedLine}
+use Rattle.print.specs.Put.{Room, Put}
+use Rattle.print.proofs.LaidLaws.{Left, left-all, left-room, left-next}
+use Rattle.tell.specs.Tell.{tailOf, verdictWord, refusedText}
+
+pub tail-parts : (r : ℕ) (s : List ℕ) → tailOf r s ≡ (tab ∷ []) ++ (setField r ++ ((tab ∷ []) ++ (joined s ++ (lf ∷ []))))
+unfolding tailOf fieldsAfter
+tail-parts r s = refl
+
+pub step-parts : (n a : ℕ) (g : Gone (List ℕ)) → stepLine n a g ≡ stepWord ++ ((tab ∷ decimal n) ++ ((tab ∷ decimal a) ++ tailOf (g .resets) (g .after)))
+unfolding stepLine tailOf fieldsAfter
+step-parts n a g = refl
+
+pub last-parts : (d : Settling (List ℕ)) → lastLine d ≡ verdictWord (d .stable) ++ ((tab ∷ decimal (d .steps)) ++ tailOf (d .resets) (d .state))
+unfolding lastLine tailOf fieldsAfter
+last-parts d = refl
+
+pub refused-parts : (r : Refusal) → refusedText r ≡ refusedWord ++ ((tab ∷ decimal (r .number)) ++ ((tab ∷ []) ++ (joined (valuesAt (r .place)) ++ (lf ∷ []))))
+unfolding refusedText refusedLine fieldsAfter
+refused-parts r = refl
+
+pub one-part : (n : ℕ) → joined (n ∷ []) ≡ decimal n ++ []
+unfolding joined
+one-part n = refl
+
+pub three-parts : (i j k : ℕ) → joined (i ∷ j ∷ k ∷ []) ≡ decimal i ++ ((comma ∷ decimal j) ++ ((comma ∷ decimal k) ++ []))
+unfolding joined
+three-parts i j k = refl
+
+pub four-parts : (i j k n : ℕ) → joined (i ∷ j ∷ k ∷ n ∷ []) ≡ decimal i ++ ((comma ∷ decimal j) ++ ((comma ∷ decimal k) ++ ((comma ∷ decimal n) ++ [])))
+unfolding joined
+four-parts i j k n = refl
+
+-- ---- parts put one after the other
+pub left-parts : {whole : List ℕ} (old : List ℕ) (at : ℕ) (parts : List ℕ) → whole ≡ parts → Room old at whole → Left old at whole old at parts
+left-parts {whole} old at parts e h = same (left-all old at whole h) e
+  where
+    same : {rest : List ℕ} → Left old at whole old at rest → rest ≡ parts → Left old at whole old at parts
+    same l e = rw e at l
+
+module _ {old : List ℕ} {at : ℕ} {whole now : List ℕ} {here : ℕ} (a r : List ℕ) (l : Left old at whole now here (a ++ r)) where
+  pub part-room : Room now here a
+  part-room = left-room {a = a} {b = r} (record { both = l })
+
+  pub part-put : {new : List ℕ} {next : ℕ} → Put now here a new next → Left old at whole new next r
+  part-put p = left-next {a = a} {b = r} (record { both = l }) p
+
+pub room-as : {a b : List ℕ} (old : List ℕ) (at : ℕ) → a ≡ b → Room old at a → Room old at b
+room-as old at e h = rw e at h
+
+pub put-as : {old : List ℕ} {at : ℕ} {a b new : List ℕ} {next : ℕ} → a ≡ b → Put old at a new next → Put old at b new next
+put-as e p = rw e at p
+
+pub verdict-stable : (b : Bool) → b ≡ true → verdictWord b ≡ stableWord
+verdict-stable b e = ap verdictWord e
+
+pub verdict-unsettled : (b : Bool) → b ≡ false → verdictWord b ≡ unsettledWord
+verdict-unsettled b e = ap verdictWord e
+
+-- ---- what a refusal tells is its line
+pub told-text : (r : Refusal) (t : Told) → told r ≡ some t → refusedText r ≡ refusedLine t
+unfolding refusedText told
+told-text r t e = go (same-shape (shapeOf (r .number)) (shapeAt (r .place))) e
+  where
+    go : (d : Dec (shapeOf (r .number) ≡ shapeAt (r .place))) → elim d as (λ _. Option Told) [ yes p ↦ some (tell (r .number) (valuesAt (r .place))) | no n ↦ none ] ≡ some t
+        → refusedLine (tell (r .number) (valuesAt (r .place))) ≡ refusedLine t
+    go (yes p) e = ap refusedLine (Option·some-inj .0 e)
+    go (no n) e = let z : _≡_ {A = ℕ} 0 1 = cc in absurd (omega arith)

@@ -1,0 +1,63 @@
+-- `tell::put_four` meets its contract.
+use mathlib.Core.Path.{refl}
+use mathlib.Core.List.{[], _∷_, _++_}
+use denote.Ref.{now}
+use Rattle.iosa.specs.Text.{comma, decimal}
+use Rattle.print.proofs.LaidLaws.{left-none}
+use Rattle.tell.proofs.TellLaws.{four-parts, left-parts, part-room, part-put}
+use borrow.Author.Needs.{needs}
+use Rattle.tell.proofs.put_four.Statement.{statement}
+use Rattle.tell.proofs.put_four.Tie as tie
+
+put-decimal-requires : tie.Need-put-decimal-requires
+put-decimal-requires c κs =
+    let a = c .before .before .args in
+    let l0 = left-parts (now (a .out)) (a .at) ((decimal (a .i)) ++ ((comma ∷ decimal (a .j)) ++ ((comma ∷ decimal (a .k)) ++ ((comma ∷ decimal (a .n)) ++ ([]))))) (four-parts (a .i) (a .j) (a .k) (a .n)) (c .before .before .pre) in
+    part-room (decimal (a .i)) ((comma ∷ decimal (a .j)) ++ ((comma ∷ decimal (a .k)) ++ ((comma ∷ decimal (a .n)) ++ ([])))) l0
+
+put-behind-requires : tie.Need-put-behind-requires
+put-behind-requires c κs =
+    let a = c .before .before .before .before .before .before .args in
+    let l0 = left-parts (now (a .out)) (a .at) ((decimal (a .i)) ++ ((comma ∷ decimal (a .j)) ++ ((comma ∷ decimal (a .k)) ++ ((comma ∷ decimal (a .n)) ++ ([]))))) (four-parts (a .i) (a .j) (a .k) (a .n)) (c .before .before .before .before .before .before .pre) in
+    let l1 = part-put (decimal (a .i)) ((comma ∷ decimal (a .j)) ++ ((comma ∷ decimal (a .k)) ++ ((comma ∷ decimal (a .n)) ++ ([])))) l0 (c .before .before .before .put-decimal .ensures) in
+    part-room (comma ∷ decimal (a .j)) ((comma ∷ decimal (a .k)) ++ ((comma ∷ decimal (a .n)) ++ ([]))) l1
+
+put-behind-requires-2 : tie.Need-put-behind-requires-2
+put-behind-requires-2 c κs =
+    let a = c .before .before .before .before .before .before .before .before .before .before .args in
+    let l0 = left-parts (now (a .out)) (a .at) ((decimal (a .i)) ++ ((comma ∷ decimal (a .j)) ++ ((comma ∷ decimal (a .k)) ++ ((comma ∷ decimal (a .n)) ++ ([]))))) (four-parts (a .i) (a .j) (a .k) (a .n)) (c .before .before .before .before .before .before .before .before .before .before .pre) in
+    let l1 = part-put (decimal (a .i)) ((comma ∷ decimal (a .j)) ++ ((comma ∷ decimal (a .k)) ++ ((comma ∷ decimal (a .n)) ++ ([])))) l0 (c .before .before .before .before .before .before .before .put-decimal .ensures) in
+    let l2 = part-put (comma ∷ decimal (a .j)) ((comma ∷ decimal (a .k)) ++ ((comma ∷ decimal (a .n)) ++ ([]))) l1 (c .before .before .before .put-behind .ensures) in
+    part-room (comma ∷ decimal (a .k)) ((comma ∷ decimal (a .n)) ++ ([])) l2
+
+put-behind-requires-3 : tie.Need-put-behind-requires-3
+put-behind-requires-3 c κs =
+    let a = c .before .before .before .before .before .before .before .before .before .before .before .before .before .before .args in
+    let l0 = left-parts (now (a .out)) (a .at) ((decimal (a .i)) ++ ((comma ∷ decimal (a .j)) ++ ((comma ∷ decimal (a .k)) ++ ((comma ∷ decimal (a .n)) ++ ([]))))) (four-parts (a .i) (a .j) (a .k) (a .n)) (c .before .before .before .before .before .before .before .before .before .before .before .before .before .before .pre) in
+    let l1 = part-put (decimal (a .i)) ((comma ∷ decimal (a .j)) ++ ((comma ∷ decimal (a .k)) ++ ((comma ∷ decimal (a .n)) ++ ([])))) l0 (c .before .before .before .before .before .before .before .before .before .before .before .put-decimal .ensures) in
+    let l2 = part-put (comma ∷ decimal (a .j)) ((comma ∷ decimal (a .k)) ++ ((comma ∷ decimal (a .n)) ++ ([]))) l1 (c .before .before .before .before .before .before .before .put-behind .ensures) in
+    let l3 = part-put (comma ∷ decimal (a .k)) ((comma ∷ decimal (a .n)) ++ ([])) l2 (c .before .before .before .put-behind2 .ensures) in
+    part-room (comma ∷ decimal (a .n)) ([]) l3
+
+same-length : tie.Need-same-length
+same-length c = search needs
+
+returns : tie.Need-returns
+returns c =
+    let a = c .before .before .before .before .before .before .before .before .before .before .before .before .before .before .before .before .before .args in
+    let l0 = left-parts (now (a .out)) (a .at) ((decimal (a .i)) ++ ((comma ∷ decimal (a .j)) ++ ((comma ∷ decimal (a .k)) ++ ((comma ∷ decimal (a .n)) ++ ([]))))) (four-parts (a .i) (a .j) (a .k) (a .n)) (c .before .before .before .before .before .before .before .before .before .before .before .before .before .before .before .before .before .pre) in
+    let l1 = part-put (decimal (a .i)) ((comma ∷ decimal (a .j)) ++ ((comma ∷ decimal (a .k)) ++ ((comma ∷ decimal (a .n)) ++ ([])))) l0 (c .before .before .before .before .before .before .before .before .before .before .before .before .before .before .put-decimal .ensures) in
+    let l2 = part-put (comma ∷ decimal (a .j)) ((comma ∷ decimal (a .k)) ++ ((comma ∷ decimal (a .n)) ++ ([]))) l1 (c .before .before .before .before .before .before .before .before .before .before .put-behind .ensures) in
+    let l3 = part-put (comma ∷ decimal (a .k)) ((comma ∷ decimal (a .n)) ++ ([])) l2 (c .before .before .before .before .before .before .put-behind2 .ensures) in
+    left-none (part-put (comma ∷ decimal (a .n)) [] l3 (c .before .before .put-behind3 .ensures)) refl
+
+pub put-four-spec : {M : Type 1} → statement M
+put-four-spec =
+    tie.close
+    (tie.spec
+    put-decimal-requires
+    put-behind-requires
+    put-behind-requires-2
+    put-behind-requires-3
+    same-length
+    returns)

@@ -1,0 +1,76 @@
+-- `tell::put_tail` meets its contract.
+use mathlib.Core.List.{[], _∷_, _++_}
+use native.Mathlib.Omega.{arith}
+use denote.Ref.{now}
+use Rattle.answer.specs.State.{partsOf}
+use Rattle.iosa.specs.Text.{tab, lf, joined, setField}
+use Rattle.print.proofs.LaidLaws.{left-last, last-room}
+use Rattle.tell.proofs.TellLaws.{tail-parts, left-parts, part-room, part-put}
+use borrow.Author.Needs.{needs}
+use Rattle.tell.proofs.put_tail.Statement.{statement}
+use Rattle.tell.proofs.put_tail.Tie as tie
+
+put-byte-requires : tie.Need-put-byte-requires
+put-byte-requires c κs =
+    let a = c .before .before .args in
+    let l0 = left-parts (now (a .out)) (a .at) ((tab ∷ []) ++ ((setField (a .resets)) ++ ((tab ∷ []) ++ ((joined (partsOf (a .x))) ++ (lf ∷ []))))) (tail-parts (a .resets) (partsOf (a .x))) (c .before .before .pre .1) in
+    omega (arith, part-room (tab ∷ []) ((setField (a .resets)) ++ ((tab ∷ []) ++ ((joined (partsOf (a .x))) ++ (lf ∷ [])))) l0)
+
+put-set-requires : tie.Need-put-set-requires
+put-set-requires c κs =
+    let a = c .before .before .before .before .before .before .args in
+    let l0 = left-parts (now (a .out)) (a .at) ((tab ∷ []) ++ ((setField (a .resets)) ++ ((tab ∷ []) ++ ((joined (partsOf (a .x))) ++ (lf ∷ []))))) (tail-parts (a .resets) (partsOf (a .x))) (c .before .before .before .before .before .before .pre .1) in
+    let l1 = part-put (tab ∷ []) ((setField (a .resets)) ++ ((tab ∷ []) ++ ((joined (partsOf (a .x))) ++ (lf ∷ [])))) l0 (c .before .before .before .put-byte .ensures) in
+    part-room (setField (a .resets)) ((tab ∷ []) ++ ((joined (partsOf (a .x))) ++ (lf ∷ []))) l1
+
+put-byte-requires-2 : tie.Need-put-byte-requires-2
+put-byte-requires-2 c κs =
+    let a = c .before .before .before .before .before .before .before .before .before .before .args in
+    let l0 = left-parts (now (a .out)) (a .at) ((tab ∷ []) ++ ((setField (a .resets)) ++ ((tab ∷ []) ++ ((joined (partsOf (a .x))) ++ (lf ∷ []))))) (tail-parts (a .resets) (partsOf (a .x))) (c .before .before .before .before .before .before .before .before .before .before .pre .1) in
+    let l1 = part-put (tab ∷ []) ((setField (a .resets)) ++ ((tab ∷ []) ++ ((joined (partsOf (a .x))) ++ (lf ∷ [])))) l0 (c .before .before .before .before .before .before .before .put-byte .ensures) in
+    let l2 = part-put (setField (a .resets)) ((tab ∷ []) ++ ((joined (partsOf (a .x))) ++ (lf ∷ []))) l1 (c .before .before .before .put-set .ensures) in
+    omega (arith, part-room (tab ∷ []) ((joined (partsOf (a .x))) ++ (lf ∷ [])) l2)
+
+put-state-requires : tie.Need-put-state-requires
+put-state-requires c κs =
+    let a = c .before .before .before .before .before .before .before .before .before .before .before .before .before .before .args in
+    let l0 = left-parts (now (a .out)) (a .at) ((tab ∷ []) ++ ((setField (a .resets)) ++ ((tab ∷ []) ++ ((joined (partsOf (a .x))) ++ (lf ∷ []))))) (tail-parts (a .resets) (partsOf (a .x))) (c .before .before .before .before .before .before .before .before .before .before .before .before .before .before .pre .1) in
+    let l1 = part-put (tab ∷ []) ((setField (a .resets)) ++ ((tab ∷ []) ++ ((joined (partsOf (a .x))) ++ (lf ∷ [])))) l0 (c .before .before .before .before .before .before .before .before .before .before .before .put-byte .ensures) in
+    let l2 = part-put (setField (a .resets)) ((tab ∷ []) ++ ((joined (partsOf (a .x))) ++ (lf ∷ []))) l1 (c .before .before .before .before .before .before .before .put-set .ensures) in
+    let l3 = part-put (tab ∷ []) ((joined (partsOf (a .x))) ++ (lf ∷ [])) l2 (c .before .before .before .put-byte2 .ensures) in
+    (c .before .before .before .before .before .before .before .before .before .before .before .before .before .before .pre .0, part-room (joined (partsOf (a .x))) (lf ∷ []) l3)
+
+put-byte-requires-3 : tie.Need-put-byte-requires-3
+put-byte-requires-3 c κs =
+    let a = c .before .before .before .before .before .before .before .before .before .before .before .before .before .before .before .before .before .before .args in
+    let l0 = left-parts (now (a .out)) (a .at) ((tab ∷ []) ++ ((setField (a .resets)) ++ ((tab ∷ []) ++ ((joined (partsOf (a .x))) ++ (lf ∷ []))))) (tail-parts (a .resets) (partsOf (a .x))) (c .before .before .before .before .before .before .before .before .before .before .before .before .before .before .before .before .before .before .pre .1) in
+    let l1 = part-put (tab ∷ []) ((setField (a .resets)) ++ ((tab ∷ []) ++ ((joined (partsOf (a .x))) ++ (lf ∷ [])))) l0 (c .before .before .before .before .before .before .before .before .before .before .before .before .before .before .before .put-byte .ensures) in
+    let l2 = part-put (setField (a .resets)) ((tab ∷ []) ++ ((joined (partsOf (a .x))) ++ (lf ∷ []))) l1 (c .before .before .before .before .before .before .before .before .before .before .before .put-set .ensures) in
+    let l3 = part-put (tab ∷ []) ((joined (partsOf (a .x))) ++ (lf ∷ [])) l2 (c .before .before .before .before .before .before .before .put-byte2 .ensures) in
+    let l4 = part-put (joined (partsOf (a .x))) (lf ∷ []) l3 (c .before .before .before .put-state .ensures) in
+    omega (arith, last-room l4)
+
+same-length : tie.Need-same-length
+same-length c = search needs
+
+returns : tie.Need-returns
+returns c =
+    let a = c .before .before .before .before .before .before .before .before .before .before .before .before .before .before .before .before .before .before .before .before .before .args in
+    let l0 = left-parts (now (a .out)) (a .at) ((tab ∷ []) ++ ((setField (a .resets)) ++ ((tab ∷ []) ++ ((joined (partsOf (a .x))) ++ (lf ∷ []))))) (tail-parts (a .resets) (partsOf (a .x))) (c .before .before .before .before .before .before .before .before .before .before .before .before .before .before .before .before .before .before .before .before .before .pre .1) in
+    let l1 = part-put (tab ∷ []) ((setField (a .resets)) ++ ((tab ∷ []) ++ ((joined (partsOf (a .x))) ++ (lf ∷ [])))) l0 (c .before .before .before .before .before .before .before .before .before .before .before .before .before .before .before .before .before .before .put-byte .ensures) in
+    let l2 = part-put (setField (a .resets)) ((tab ∷ []) ++ ((joined (partsOf (a .x))) ++ (lf ∷ []))) l1 (c .before .before .before .before .before .before .before .before .before .before .before .before .before .before .put-set .ensures) in
+    let l3 = part-put (tab ∷ []) ((joined (partsOf (a .x))) ++ (lf ∷ [])) l2 (c .before .before .before .before .before .before .before .before .before .before .put-byte2 .ensures) in
+    let l4 = part-put (joined (partsOf (a .x))) (lf ∷ []) l3 (c .before .before .before .before .before .before .put-state .ensures) in
+    left-last l4 (c .before .before .put-byte3 .ensures)
+
+pub put-tail-spec : {M : Type 1} → statement M
+put-tail-spec =
+    tie.close
+    (tie.spec
+    put-byte-requires
+    put-set-requires
+    put-byte-requires-2
+    put-state-requires
+    put-byte-requires-3
+    same-length
+    returns)
