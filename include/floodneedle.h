@@ -55,6 +55,25 @@ bool floodneedle_recognise(const uint64_t *table, size_t table_words);
 /* Done exactly where the bytes are the text of a model; else 1, or 2 to 7 at the first faulty line, or 8. */
 void floodneedle_check_text(const uint8_t *text, size_t text_bytes, struct floodneedle_answer *answer);
 
+/* Writes the one text of the table's model to the buffer's front; `count` is its length. Reading it again gives the same image.
+ * Refuses: 20, 24 (bytes needed). */
+void floodneedle_write(const uint64_t *table, size_t table_words, uint8_t *text, size_t text_bytes, struct floodneedle_answer *answer);
+
+/* Done exactly where every component meets (a) to (f) and the house rule, and the components are compatible.
+ * Refuses: 20; 10 to 14 for each component in turn; 15, 16, 17. */
+void floodneedle_accept(const uint64_t *table, size_t table_words, struct floodneedle_answer *answer);
+
+/* Done exactly where the model is accepted and every component is confluent.
+ * Refuses: as accept, then 18. */
+void floodneedle_confluent(const uint64_t *table, size_t table_words, struct floodneedle_answer *answer);
+
+/* In a stable state the enabling clock with the least value fires: fired, with that value as `ticks`, action and resets, and `after` the
+ * state after its row; every declared clock falls by it, down to -2^40 at the lowest, and undeclared places stay. With no enabling clock
+ * it is quiet and nothing changes. Storing new samples for the clocks in `resets` is the caller's work.
+ * Refuses: as accept, then 21, 27, 28, 29, 30. */
+void floodneedle_timed_step(const uint64_t *table, size_t table_words, const uint8_t *state, size_t parts,
+                            int64_t *clocks, size_t clock_values, uint8_t after[FLOODNEEDLE_STATE], struct floodneedle_answer *answer);
+
 #ifdef __cplusplus
 }
 #endif

@@ -7,21 +7,12 @@ use native.Mathlib.Numerals.{add-one}
 use lib.ListN.{length, getD, drop}
 use lib.Seq.{drop-cons}
 use lib.Bits.{or-zero-r}
-use Rattle.laws.specs.Sets.{_∪_, only}
+use Rattle.laws.specs.Sets.{_∪_}
 use Rattle.laws.proofs.SetLaws.{or-assoc}
-use Rattle.iosa.specs.Model.{Comp, Model, noComp, compAt, guardSet, declared}
+use Rattle.iosa.specs.Model.{Comp, Model, noComp, compAt, declared}
 use Rattle.iosa.specs.Checks.{enablingOf}
 use Rattle.iosa.specs.Timed.{enablingAll}
-use Rattle.layout.specs.Layout.{firstOf}
 use Rattle.moves.proofs.Along.{heads, drop-out}
-
--- a row below the end of a state's range
-pub within-range : (k : ℕ) (t : List ℕ) (i s : ℕ) {hi : ℕ} → hi ≡ firstOf t i (s + 1) → k < hi → k < firstOf t i (suc s)
-within-range k t i s e h = rw add-one at (rw e at h)
-
-pub guard-less : (g : ℕ) → (g ≡ 0 → ⊥) → only (g - 1) ≡ guardSet g
-guard-less zero n = absurd (n refl)
-guard-less (suc g) n = ap only (let e : suc g - 1 ≡ g = omega arith in e)
 
 module _ (m : Model) (i : ℕ) (p : i < length m) where
   pub enabling-next : (ss : List ℕ) → i < length ss → (r : ℕ)

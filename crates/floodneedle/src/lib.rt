@@ -1,11 +1,15 @@
 // The C library: the engine's calls over plain numbers and lent buffers (include/floodneedle.h says each call's promise in words).
 // An answer comes back as words, always written; a refusal leaves every other buffer as it was.
+use answer::State;
 use words::Words;
 ghost use mathlib.Core.Path.{_≡_};
-ghost use Rattle.words.specs.Words.{checkedWords};
+ghost use Rattle.words.specs.Words.{checkedWords, writtenWords};
+ghost use Rattle.text.specs.Write.{writeOn, textAfter};
 ghost use Rattle.iosa.specs.Reading.{readOf};
 ghost use Rattle.survey.specs.Survey.{checkedOf};
 ghost use Rattle.table.specs.IsImage.{isImage};
+ghost use Rattle.words.specs.Bytes.{stateOf};
+ghost use Rattle.floodneedle.specs.Told.{acceptOn, confluentOn, timedOn, TimingTold};
 
 // Whether the buffer's front is the image of a model.
 #[no_mangle]
@@ -22,4 +26,61 @@ pub extern "C" fn floodneedle_check_text(text: &[u8], answer: &mut [u64; Words::
 {
     let checked = survey::check_text(text);
     *answer = words::checked_words(checked);
+}
+
+// Writes the one text of the table's model.
+#[no_mangle]
+pub extern "C" fn floodneedle_write(
+    table: &[u64],
+    text: &mut [u8],
+    answer: &mut [u64; Words::COUNT],
+)
+    ensures answer { λ _. ⌜ now (answer .exit) ≡ writtenWords (writeOn (now (table .entry)) (now (text .entry))) ⌝ }
+    ensures buffer { λ _. ⌜ now (text .exit) ≡ textAfter (writeOn (now (table .entry)) (now (text .entry))) (now (table .entry)) (now (text .entry)) ⌝ }
+{
+    let written = text::write(table, text);
+    *answer = words::written_words(written);
+}
+
+// Whether the table's model meets (a) to (f), the house rule and compatibility.
+#[no_mangle]
+pub extern "C" fn floodneedle_accept(table: &[u64], answer: &mut [u64; Words::COUNT])
+    ensures { λ _. ⌜ now (answer .exit) ≡ checkedWords (acceptOn (now (table .entry))) ⌝ }
+{
+    let checked = admit::accept(table);
+    *answer = words::checked_words(checked);
+}
+
+// Whether every component is confluent too.
+#[no_mangle]
+pub extern "C" fn floodneedle_confluent(table: &[u64], answer: &mut [u64; Words::COUNT])
+    ensures { λ _. ⌜ now (answer .exit) ≡ checkedWords (confluentOn (now (table .entry))) ⌝ }
+{
+    let checked = admit::confluent(table);
+    *answer = words::checked_words(checked);
+}
+
+// One timed step.
+#[no_mangle]
+pub extern "C" fn floodneedle_timed_step(
+    table: &[u64],
+    state: &[u8],
+    clocks: &mut [i64],
+    after: &mut [u8; State::PARTS],
+    answer: &mut [u64; Words::COUNT],
+)
+    ensures { λ _. ⌜ TimingTold (timedOn (now (table .entry)) (stateOf (now (state .entry))) (now (clocks .entry)))
+        (stateOf (now (state .entry)))
+        (now (clocks .entry))
+        (now (clocks .exit))
+        (now (after .exit))
+        (now (answer .exit)) ⌝ }
+{
+    let given = words::state_of(state);
+    let r = timed::timed_step(table, given, clocks);
+    let next = r.state;
+    let firing = r.firing;
+    let parts = next.parts;
+    *after = parts;
+    *answer = words::fired_words(firing);
 }

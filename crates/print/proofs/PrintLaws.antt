@@ -1,16 +1,16 @@
 -- The fields by the parts in which they are put: digits, members, numbers behind commas.
-use mathlib.Core.Path.{_≡_, refl, sym, _∙_, ap, ap₂}
+use mathlib.Core.Path.{_≡_, refl, sym, _∙_, ap}
 use mathlib.Core.Logic.{by-cases}
-use mathlib.Core.Bool.{Bool, true, false, cond, _&&_, true≢false}
-use mathlib.Core.List.{List, [], _∷_, _++_, append-nil}
+use mathlib.Core.Bool.{Bool, true, false, _&&_, true≢false}
+use mathlib.Core.List.{List, [], _∷_, _++_}
 use Prim.Native.Nat.{ℕ, zero, suc, _+_, _-_, _/_, _%_, _^_, _≤_, _<_}
 use native.Mathlib.Omega.{arith}
 use native.Mathlib.Numerals.{add-one}
-use native.Mathlib.Decide.{decLt, ℕ-discrete}
-use lib.ListN.{length, getD, drop}
+use native.Mathlib.Decide.{decLt}
+use lib.ListN.{getD}
 use lib.Dec.{ltb}
 use borrow.Author.Tests.{lt-ltb, le-ltb}
-use Rattle.laws.specs.Sets.{has, only, _∖_, _∈_}
+use Rattle.laws.specs.Sets.{has, only, _∖_}
 use Rattle.laws.specs.Search.{Least}
 use Rattle.laws.proofs.SetLaws.{has-without, in-one, one-in, in-without, subset-le, in-below}
 use Rattle.laws.proofs.SearchLaws.{least-some}

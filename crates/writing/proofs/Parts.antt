@@ -1,8 +1,8 @@
 -- The text by the parts in which it is put: each line by its fields, and the lines one after the other.
-use mathlib.Core.Path.{_≡_, refl, sym, _∙_, ap, ap₂}
+use mathlib.Core.Path.{_≡_, refl, sym, _∙_, ap}
 use mathlib.Core.Bool.{Bool, true, false, cond}
 use mathlib.Core.List.{List, [], _∷_, _++_, append-assoc}
-use Prim.Native.Nat.{ℕ, zero, suc, _+_, _-_, _≤_, _<_}
+use Prim.Native.Nat.{ℕ, _+_, _-_, _≤_, _<_}
 use native.Mathlib.Omega.{arith}
 use native.Mathlib.Numerals.{add-one}
 use lib.ListN.{length}
@@ -10,12 +10,12 @@ use Rattle.laws.specs.Sets.{has}
 use Rattle.laws.specs.Fold.{tab, spread}
 use Rattle.laws.proofs.TabLaws.{tab-next, tab-done, spread-next, spread-done}
 use Rattle.answer.specs.Limits.{maxActions, maxClocks}
-use Rattle.iosa.specs.Model.{Row, Comp, Model, acts}
+use Rattle.iosa.specs.Model.{Row, Comp, acts}
 use Rattle.iosa.specs.Text.{tab as tabByte, lf, compWord, actWord, clkWord, rowWord, in-kind, out-kind, uin-kind, uout-kind, kindWord, decimal, guardField, setField, fieldsAfter, compLine, actLine, clkLine, rowLine, kindOf, actPart, clkPart, rowLines, compText, textOf}
 use Rattle.layout.specs.Layout.{countOf, blockWord, firstOf, actionAt, guardAt, resetsAt, targetAt}
 use Rattle.layout.specs.Image.{rowIn, rowsLeaving, compOf, modelOf}
 use Rattle.measure.specs.Measure.{actLines, clkLines}
-use Rattle.print.specs.Put.{laid, Room, Put}
+use Rattle.print.specs.Put.{Room, Put}
 use Rattle.print.proofs.LaidLaws.{Left, laid-length}
 
 pub left-is : {old : List ℕ} {at : ℕ} {whole now : List ℕ} {here : ℕ} {rest : List ℕ} → Left old at whole now here rest → (other : List ℕ) → rest ≡ other → Left old at whole now here other

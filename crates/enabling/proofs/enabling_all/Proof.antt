@@ -27,11 +27,14 @@ abbrev μ-loop : tie.MeasureT-loop
 loop-holds : tie.Need-loop-holds Inv-loop μ-loop
 loop-holds c = (search needs, refl)
 
-element-copy-out-enabling-in : tie.Need-element-copy-out-enabling-in Inv-loop μ-loop
-element-copy-out-enabling-in c = omega (arith, count-few _ _ (c .before .before .before .pre))
+element-copy-out-enabling : tie.Need-element-copy-out-enabling Inv-loop μ-loop
+element-copy-out-enabling c = omega (arith, count-few _ _ (c .before .before .before .pre))
 
-enabling-in-requires : tie.Need-enabling-in-requires Inv-loop μ-loop
-enabling-in-requires c κs =
+cast-enabling : tie.Need-cast-enabling Inv-loop μ-loop
+cast-enabling c = search needs
+
+enabling-requires : tie.Need-enabling-requires Inv-loop μ-loop
+enabling-requires c κs =
     let s0 = c .before .before .before .before in
     let i = c .before .before .loop .i in
     let h : i < s0 .args .t2 .count = omega arith in
@@ -53,8 +56,8 @@ loop-again c =
     let t = now (s0 .args .t) in
     let x = s0 .args .t2 in
     let h : l .i < x .count = omega arith in
-    let one : c .before .enabling-in .result ≡ enablingOf (compAt (modelOf t) (l .i)) (getD (partsOf x) (l .i) 0) =
-    c .before .enabling-in .ensures ∙ sym (ap₂ enablingOf (comp-is t x (s0 .pre) (l .i) h) (parts-at x (l .i) h)) in (
+    let one : c .before .enabling .result ≡ enablingOf (compAt (modelOf t) (l .i)) (getD (partsOf x) (l .i) 0) =
+    c .before .enabling .ensures ∙ sym (ap₂ enablingOf (comp-is t x (s0 .pre) (l .i) h) (parts-at x (l .i) h)) in (
       omega arith,
       ap (λ r. r ∪ enablingAll (drop (l .i + 1) (modelOf t)) (drop (l .i + 1) (partsOf x))) (c .union .ensures ∙ ap (λ r. l .set ∪ r) one)
           ∙ sym (enabling-next (modelOf t) (l .i) (in-model t x (s0 .pre) (l .i) h) (partsOf x) (in-parts t x (s0 .pre) (l .i) h) (l .set))
@@ -76,8 +79,9 @@ enabling-all-spec =
     Inv-loop
     μ-loop
     loop-holds
-    element-copy-out-enabling-in
-    enabling-in-requires
+    element-copy-out-enabling
+    cast-enabling
+    enabling-requires
     union-requires
     add-i
     loop-less

@@ -1,15 +1,10 @@
 -- `writing::put_comp` meets its contract: "first its `act` lines, then `clk`, then `row`".
-use mathlib.Core.Path.{_≡_, refl, sym, _∙_, ap, ap₂}
-use mathlib.Core.Bool.{Bool, true, false, cond, not}
-use mathlib.Core.List.{List, [], _∷_, _++_}
-use Prim.Native.Nat.{ℕ, _+_, _-_, _≤_, _<_}
-use native.Mathlib.Omega.{arith}
-use lib.ListN.{length}
-use borrow.Author.Tests.{not-true, not-false}
+use mathlib.Core.Path.{refl}
+use mathlib.Core.List.{List, _++_}
+use Prim.Native.Nat.{ℕ}
 use denote.Ref.{now}
-use Rattle.laws.specs.Sets.{has}
 use Rattle.print.specs.Put.{Room, Put}
-use Rattle.print.proofs.LaidLaws.{Left, Next, left-all, left-as, left-room, left-next, left-none, left-last, last-room, put-as, nothing-put}
+use Rattle.print.proofs.LaidLaws.{Left, Next, left-all, left-as, left-room, left-next, left-last, last-room}
 use Rattle.iosa.specs.Model.{Comp}
 use Rattle.iosa.specs.Text.{compLine, rowLines, compText}
 use Rattle.layout.specs.Image.{compOf}

@@ -1,16 +1,9 @@
 -- `writing::put_kind` meets its contract: the first of the four sets that has the action.
-use mathlib.Core.Path.{_≡_, refl, sym, _∙_, ap, ap₂}
-use mathlib.Core.Bool.{Bool, true, false, cond, not}
-use mathlib.Core.List.{List, [], _∷_, _++_}
-use Prim.Native.Nat.{ℕ, _+_, _-_, _≤_, _<_}
+use mathlib.Core.Path.{sym, ap}
 use native.Mathlib.Omega.{arith}
 use lib.ListN.{length}
-use borrow.Author.Tests.{not-true, not-false}
 use denote.Ref.{now}
-use Rattle.laws.specs.Sets.{has}
-use Rattle.print.specs.Put.{Room, Put}
-use Rattle.print.proofs.LaidLaws.{Left, Next, left-all, left-as, left-room, left-next, left-none, left-last, last-room, put-as, nothing-put}
-use Rattle.layout.specs.Layout.{blockWord}
+use Rattle.print.proofs.LaidLaws.{put-as}
 use Rattle.layout.specs.Image.{compOf}
 use Rattle.writing.proofs.Parts.{has-word, kind-in, kind-out, kind-uin, kind-uout}
 use borrow.Author.Needs.{needs}

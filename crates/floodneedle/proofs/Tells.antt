@@ -1,0 +1,42 @@
+-- What a call's contract says of its answer is what the caller in C is told.
+use mathlib.Core.Path.{_≡_, sym, _∙_, ap, ap₂}
+use mathlib.Core.Option.{some}
+use mathlib.Core.Bool.{Bool}
+use mathlib.Core.List.{List}
+use Prim.Native.Nat.{ℕ}
+use lib.IntN.{ℤ}
+use Rattle.answer.specs.Told.{Answer, answered, refused, Step, Shot, saysOutcome, saysVerdict, saysFiring}
+use Rattle.answer.specs.declared.State.{State}
+use Rattle.answer.specs.declared.Stepped.{Stepped}
+use Rattle.answer.specs.declared.Settled.{Settled}
+use Rattle.answer.specs.declared.Timed.{Timed}
+use Rattle.iosa.specs.Step.{Stepping}
+use Rattle.iosa.specs.Settle.{Settling}
+use Rattle.iosa.specs.Timed.{Timing}
+use Rattle.firing.specs.Shots.{TimingAnswers}
+use Rattle.settling.specs.Gives.{StepAnswers, SettleAnswers}
+use Rattle.words.specs.Words.{steppedWords, settledWords, firedWords}
+use Rattle.floodneedle.specs.Told.{StepTold, SettlingTold, stepSaid, stepBytes, settlingWords, settlingBytes, TimingTold, shotSaid, timingBytes, timingValues}
+
+pub step-told : (v : Answer Stepping) (x : State) (r : Stepped) (w : List ℕ) → StepAnswers v x r
+    → ((a : Answer Step) → saysOutcome (r .outcome) ≡ some a → w ≡ steppedWords a) → StepTold v x (r .state .parts) w
+step-told (answered v) x r w g h = record { words = h (answered (v .step)) (g .outcome); state = ap (λ s. s .parts) (g .state) }
+step-told (refused t) x r w g h = record { words = h (refused t) (g .0); state = ap (λ s. s .parts) (g .1) }
+
+pub settling-told : (v : Answer (Settling (List ℕ))) (x : State) (r : Settled) (w : List ℕ) → SettleAnswers v x r
+    → ((a : Answer Bool) → saysVerdict (r .verdict) ≡ some a → w ≡ settledWords a (r .steps) (r .resets)) → SettlingTold v x (r .state .parts) w
+settling-told (answered d) x r w g h =
+    record {
+      words = h (answered (d .stable)) (g .verdict) ∙ ap₂ (settledWords (answered (d .stable))) (g .steps) (g .resets);
+      state = ap (λ s. s .parts) (g .state);
+    }
+settling-told (refused t) x r w g h =
+    record {
+      words = h (refused t) (g .0) ∙ ap₂ (settledWords (refused t)) (g .1) (g .2);
+      state = ap (λ s. s .parts) (g .3);
+    }
+
+pub timing-told : (v : Answer Timing) (x : State) (was : List ℤ) (r : Timed) (vs : List ℤ) (w : List ℕ) → TimingAnswers v x was r vs
+    → ((a : Answer Shot) → saysFiring (r .firing) ≡ some a → w ≡ firedWords a) → TimingTold v x was vs (r .state .parts) w
+timing-told (answered d) x was r vs w g h = record { words = h (answered (d .shot)) (g .firing); state = ap (λ s. s .parts) (g .state); values = g .values }
+timing-told (refused t) x was r vs w g h = record { words = h (refused t) (g .firing); state = ap (λ s. s .parts) (g .state); values = g .values }

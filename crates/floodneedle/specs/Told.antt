@@ -1,0 +1,70 @@
+-- What a caller in C is told: the answer's words, and the state after in sixteen bytes.
+use mathlib.Core.Path.{_≡_}
+use mathlib.Core.List.{List}
+use Prim.Native.Nat.{ℕ}
+use Rattle.answer.specs.Limits.{noState}
+use lib.IntN.{ℤ}
+use Rattle.answer.specs.State.{partsOf, withParts}
+use Rattle.answer.specs.Told.{Answer, answered, refused, Step, Shot}
+use Rattle.answer.specs.declared.State.{State}
+use Rattle.iosa.specs.Checks.{acceptOf, confluentOf}
+use Rattle.iosa.specs.Step.{Stepping, unless}
+use Rattle.iosa.specs.Settle.{Settling}
+use Rattle.iosa.specs.Timed.{Timing, timedOf}
+use Rattle.table.specs.OnTable.{onTable}
+use Rattle.words.specs.Words.{steppedWords, settledWords, firedWords}
+
+-- "Tables: 20; then 10 to 14 for each component in turn; then 15 to 17; then 18 where .. the confluence check is called"
+abbrev pub acceptOn : List ℕ → Answer (Unit {0})
+acceptOn t = onTable t (λ m. unless (acceptOf m) tt)
+
+abbrev pub confluentOn : List ℕ → Answer (Unit {0})
+confluentOn t = onTable t (λ m. unless (confluentOf m) tt)
+
+abbrev pub stepSaid : Answer Stepping → Answer Step
+stepSaid (answered v) = answered (v .step)
+stepSaid (refused t) = refused t
+
+-- "it answers the outcome and, unless refused, the state": beside a refusal the sixteen bytes are 0
+abbrev pub stepBytes : State → Answer Stepping → List ℕ
+stepBytes x (answered v) = withParts x (v .state) .parts
+stepBytes x (refused t) = noState .parts
+
+pub record StepTold (v : Answer Stepping) (x : State) (after told : List ℕ) : Type 0 where
+  pub words : told ≡ steppedWords (stepSaid v)
+  pub state : after ≡ stepBytes x v
+
+-- "answers stable or unsettled, steps taken, clocks reset at least once, and the state"
+abbrev pub settlingWords : Answer (Settling (List ℕ)) → List ℕ
+settlingWords (answered d) = settledWords (answered (d .stable)) (d .steps) (d .resets)
+settlingWords (refused t) = settledWords (refused t) 0 0
+
+abbrev pub settlingBytes : State → Answer (Settling (List ℕ)) → List ℕ
+settlingBytes x (answered d) = withParts x (d .state) .parts
+settlingBytes x (refused t) = noState .parts
+
+pub record SettlingTold (v : Answer (Settling (List ℕ))) (x : State) (after told : List ℕ) : Type 0 where
+  pub words : told ≡ settlingWords v
+  pub state : after ≡ settlingBytes x v
+
+-- "The answer gives v, action, resets, state"
+abbrev pub timedOn : List ℕ → State → List ℤ → Answer Timing
+timedOn t x was = onTable t (λ m. timedOf m (partsOf x) was)
+
+abbrev pub shotSaid : Answer Timing → Answer Shot
+shotSaid (answered d) = answered (d .shot)
+shotSaid (refused t) = refused t
+
+abbrev pub timingBytes : State → Answer Timing → List ℕ
+timingBytes x (answered d) = withParts x (d .state) .parts
+timingBytes x (refused t) = noState .parts
+
+-- "every declared clock falls by v .. undeclared places stay"; "A refusal .. changes no lent byte"
+abbrev pub timingValues : List ℤ → Answer Timing → List ℤ
+timingValues was (answered d) = d .values
+timingValues was (refused t) = was
+
+pub record TimingTold (v : Answer Timing) (x : State) (was vs : List ℤ) (after told : List ℕ) : Type 0 where
+  pub words : told ≡ firedWords (shotSaid v)
+  pub state : after ≡ timingBytes x v
+  pub values : vs ≡ timingValues was v

@@ -1,0 +1,4 @@
+pub mod WriteLaws
+pub mod WrittenFixes
+pub mod WriteDetermined
+pub mod ReadBack
