@@ -1,0 +1,62 @@
+-- `report::put_answer` meets its contract.
+use native.Mathlib.Omega.{arith}
+use denote.Ref.{now}
+use Rattle.answer.specs.State.{partsOf}
+use Rattle.layout.specs.Image.{modelOf}
+use Rattle.tell.proofs.TellLaws.{put-as}
+use Rattle.steplines.proofs.Most.{refused-most}
+use Rattle.report.proofs.ReportLaws.{checked-image, checked-fine, checked-refused}
+use borrow.Author.Needs.{needs}
+use Rattle.report.proofs.put_answer.Statement.{statement}
+use Rattle.report.proofs.put_answer.Tie as tie
+
+confluent-requires : tie.Need-confluent-requires
+confluent-requires c κs = search needs
+
+enum-known-checked : tie.Need-enum-known-checked
+enum-known-checked c = search needs
+
+put-refused-requires : tie.Need-put-refused-requires
+put-refused-requires c κs = omega (arith, refused-most (c .before .before .checked .given .0 .0), c .before .before .before .before .before .before .before .pre .1)
+
+enum-told : tie.Need-enum-told
+enum-told c = search needs
+
+put-settled-requires : tie.Need-put-settled-requires
+put-settled-requires c κs =
+    let s0 = c .before .before .before .before .before .before in
+    let t = now (s0 .args .t) in
+    let r = c .before .before .before .confluent .result in
+    let e = checked-image t r (s0 .pre .0) (c .before .before .before .confluent .ensures) in
+    (s0 .pre .0, checked-fine (modelOf t) r e (c .before .enum-told .given .1), s0 .pre .1)
+
+same-length : tie.Need-same-length
+same-length c = search needs
+
+returns : tie.Need-returns
+returns c =
+    let s0 = c .before .before .before .before .before .before .before .before .before .before in
+    let t = now (s0 .args .t) in
+    let r = c .before .before .before .before .before .before .before .confluent .result in
+    let e = checked-image t r (s0 .pre .0) (c .before .before .before .before .before .before .before .confluent .ensures) in
+    put-as (checked-refused (modelOf t) r e (c .before .before .before .before .before .checked .given .0 .0) (c .before .before .before .before .before .checked .given .1) (partsOf (s0 .args .x)) (s0 .args .budget)) (c .before .before .put-refused .ensures)
+
+same-length-2 : tie.Need-same-length-2
+same-length-2 c = search needs
+
+returns-2 : tie.Need-returns-2
+returns-2 c = search needs
+
+pub put-answer-spec : {M : Type 1} → statement M
+put-answer-spec =
+    tie.close
+    (tie.spec
+    confluent-requires
+    enum-known-checked
+    put-refused-requires
+    enum-told
+    put-settled-requires
+    same-length
+    returns
+    same-length-2
+    returns-2)

@@ -1,0 +1,7 @@
+pub mod Answers
+pub mod Ready
+pub mod StepCalls
+pub mod SettleCalls
+pub mod SaysFixes
+pub mod Determined
+pub mod Demand3
