@@ -3,3 +3,4 @@ pub mod Runs
 pub mod TurnsOfPair
 pub mod PairStep
 pub mod ByNumber
+pub mod FewRows
