@@ -1,2 +1,4 @@
 pub mod ReportLaws
 pub mod Determined
+pub mod Filled
+pub mod AfterRead
