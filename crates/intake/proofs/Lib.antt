@@ -1,1 +1,2 @@
 pub mod LineTaken
+pub mod Built

@@ -74,7 +74,7 @@ fn take_in(table: &mut [u64], p: Progress, l: Line)
 // Every line in turn. No `else` way is ever gone: there the text would be refused.
 pub fn build(text: &[u8], table: &mut [u64])
     requires { ⌜ (imageWords ≤ length (now table)) × ((m : TheModel) × (readOf (now text) ≡ answered m)) ⌝ }
-    ensures { λ _. ⌜ (m : TheModel) × (readOf (now (text .entry)) ≡ answered m) × (now (table .exit) ≡ imageOf m ++ drop imageWords (now (table .entry))) ⌝ }
+    ensures { λ _. ⌜ ((m : TheModel) × (readOf (now (text .entry)) ≡ answered m) × (now (table .exit) ≡ imageOf m ++ drop imageWords (now (table .entry)))) ⌝ }
 {
     reading::fill_words(table, 0, layout::WORDS, 0);
     let mut p = judge::at_start();
