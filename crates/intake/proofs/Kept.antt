@@ -4,7 +4,7 @@ use mathlib.Core.List.{List, [], _∷_}
 use Prim.Native.Nat.{ℕ, suc, _+_, _-_, _≤_, _<_}
 use native.Mathlib.Omega.{arith}
 use lib.ListN.{length, getD, set, drop, length-set, length-drop}
-use lib.Seq.{sets, length-sets, drop-set-lt, getD-drop, ext-getD}
+use lib.Seq.{sets, drop-set-lt, getD-drop, ext-getD}
 use Rattle.laws.specs.Sets.{_∪_, only}
 use Rattle.fields.specs.declared.Kind.{Kind}
 use Rattle.fields.specs.declared.Kind.the-variants as OfKind

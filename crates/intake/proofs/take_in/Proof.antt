@@ -1,13 +1,13 @@
 -- `intake::take_in` meets its contract: each kind of line by the call that changes its words.
-use mathlib.Core.Path.{_≡_, refl, sym, subst}
-use mathlib.Core.List.{List, [], _∷_}
+use mathlib.Core.Path.{refl, sym, subst}
+use mathlib.Core.List.{[], _∷_}
 use Prim.Native.Nat.{ℕ, _-_}
 use native.Mathlib.Omega.{arith}
 use denote.Ref.{now}
 use borrow.Author.Tests.{eq-eqb, ne-eqb}
 use Rattle.reading.specs.Changes.{Joined, blockAt, RowPut}
 use Rattle.layout.specs.Layout.{imageWords}
-use Rattle.intake.specs.Change.{setWord, Begins, Change, Fits}
+use Rattle.intake.specs.Change.{Begins, Change, Fits}
 use Rattle.intake.proofs.Kept.{set-word-most, joined-kept}
 use borrow.Author.Needs.{needs}
 use Rattle.intake.proofs.take_in.Statement.{statement}
