@@ -1,24 +1,17 @@
 -- `intake::take_in` meets its contract: each kind of line by the call that changes its words.
-use mathlib.Core.Path.{_≡_, refl, sym, subst}
-use mathlib.Core.List.{List, [], _∷_}
-use Prim.Native.Nat.{ℕ, _-_, _≤_}
+use mathlib.Core.Path.{refl, sym, subst}
+use mathlib.Core.List.{[], _∷_}
+use Prim.Native.Nat.{ℕ, _-_}
 use native.Mathlib.Omega.{arith}
 use denote.Ref.{now}
 use borrow.Author.Tests.{eq-eqb, ne-eqb}
-use Rattle.fields.specs.declared.Kind.{Kind}
-use Rattle.fields.specs.declared.Kind.the-variants as OfKind
 use Rattle.reading.specs.Changes.{Joined, blockAt, RowPut}
-use Rattle.intake.specs.Change.{setWord, Begins, Change, Fits}
-use Rattle.intake.proofs.Kept.{joined-long}
+use Rattle.layout.specs.Layout.{imageWords}
+use Rattle.intake.specs.Change.{Begins, Change, Fits}
+use Rattle.intake.proofs.Kept.{set-word-most, joined-kept}
 use borrow.Author.Needs.{needs}
 use Rattle.intake.proofs.take_in.Statement.{statement}
 use Rattle.intake.proofs.take_in.Tie as tie
-
-set-word-most : (k : Kind) → setWord k ≤ 5
-set-word-most OfKind.In = omega arith
-set-word-most OfKind.Out = omega arith
-set-word-most OfKind.Uin = omega arith
-set-word-most OfKind.Uout = omega arith
 
 enum-known-l : tie.Need-enum-known-l
 enum-known-l c = search needs
@@ -107,7 +100,7 @@ add-member-requires-3 : tie.Need-add-member-requires-3
 add-member-requires-3 c κs =
     let s = c .before .before .before .before .before .before .before .before .before .before .before in
     let f = subst (Fits (now (s .args .table)) (s .args .p)) (c .before .before .before .before .before .before .before .before .l3 .given .1) (s .pre) in
-    (omega (arith, f .0, f .1, joined-long (c .before .before .before .before .add-member2 .ensures)), f .2)
+    (omega (arith, f .0, f .1, joined-kept {n = imageWords} (c .before .before .before .before .add-member2 .ensures) (omega (arith, f .1)) .long), f .2)
 
 enum-known-l-4 : tie.Need-enum-known-l-4
 enum-known-l-4 c = search needs
