@@ -1,0 +1,75 @@
+// Whether the product of two neighbours fits, before anything is written: refusal 26 of the call `merge`.
+use answer::Model;
+use product::Tally;
+ghost use mathlib.Core.Path.{_≡_};
+ghost use Prim.Native.Nat.{ℕ, _+_, _≤_, _<_};
+ghost use lib.ListN.{length, take};
+ghost use Rattle.iosa.specs.Model.{rowCount};
+ghost use Rattle.iosa.specs.Text.{compText, rowLines, textOf};
+ghost use Rattle.iosa.specs.Merge.{productRows, merged, mergedAt};
+ghost use Rattle.layout.specs.Layout.{imageWords, countOf};
+ghost use Rattle.layout.specs.Image.{Image, compOf, modelOf};
+ghost use Rattle.sizing.specs.Sized.{Sized};
+
+pub struct Size {
+    pub fits: bool,
+    pub new: usize,
+}
+
+// The lines of the product of components i and j beside its rows.
+fn head_width(t: &[u64], i: usize, j: usize) -> usize
+    requires { ⌜ Image (now t) × (i < countOf (now t)) × (j < countOf (now t)) ⌝ }
+    ensures { λ r. ⌜ r + length (rowLines (productRows (compOf (now (t .entry)) i) (compOf (now (t .entry)) j))) ≡ length (compText (merged (compOf (now (t .entry)) i) (compOf (now (t .entry)) j))) ⌝ }
+{
+    let wide = layout::block_word(t, j, layout::STATES);
+    let states = layout::block_word(t, i, layout::STATES) * wide;
+    let start = layout::block_word(t, i, layout::START) * wide
+        + layout::block_word(t, j, layout::START);
+    let outs = merging::union_of(t, i, j, layout::OUTS);
+    let uouts = merging::union_of(t, i, j, layout::UOUTS);
+    let ins = sets::minus(merging::union_of(t, i, j, layout::INS), outs);
+    let uins = sets::minus(merging::union_of(t, i, j, layout::UINS), uouts);
+    let clocks = merging::union_of(t, i, j, layout::CLOCKS);
+    measure::head_width(states, start, ins, outs, uins, uouts, clocks)
+}
+
+// The bytes of the merged model beside the product's rows.
+fn beside(t: &[u64], i: usize) -> usize
+    requires { ⌜ Image (now t) × (i + 1 < countOf (now t)) ⌝ }
+    ensures { λ r. ⌜ r + length (rowLines (productRows (compOf (now (t .entry)) i) (compOf (now (t .entry)) (i + 1)))) ≡ length (textOf (mergedAt (modelOf (now (t .entry))) i)) ⌝ }
+{
+    measure::text_length(t) - measure::comp_width(t, i) - measure::comp_width(t, i + 1)
+        + head_width(t, i, i + 1)
+}
+
+// The rows of the merged model, where those of the product end before row `new`.
+fn merged_rows(t: &[u64], i: usize, new: usize) -> usize
+    requires { ⌜ Image (now t) × (i + 1 < countOf (now t)) × (new ≡ rowCount (take i (modelOf (now t))) + length (productRows (compOf (now t) i) (compOf (now t) (i + 1)))) ⌝ }
+    ensures { λ r. ⌜ r ≡ rowCount (mergedAt (modelOf (now (t .entry))) i) ⌝ }
+{
+    let count = layout::count_of(t) as usize;
+    new + (merging::end_of(t, count - 1) - merging::end_of(t, i + 1))
+}
+
+// `into` is only lent on to the walk that counts: nothing is written.
+pub fn size_of(t: &[u64], i: usize, into: &mut [u64]) -> Size
+    requires { ⌜ Image (now t) × (i + 1 < countOf (now t)) × (imageWords ≤ length (now into)) ⌝ }
+    ensures { λ r. ⌜ Sized (now (t .entry)) i r × (now (into .exit) ≡ now (into .entry)) ⌝ }
+{
+    let tall = layout::block_word(t, i, layout::STATES) as usize;
+    let wide = layout::block_word(t, i + 1, layout::STATES) as usize;
+    if Model::STATES < tall * wide {
+        return Size {
+            fits: false,
+            new: 0,
+        };
+    }
+    let start = merging::start_of(t, i);
+    let bytes = beside(t, i);
+    let n = product::emit_product(t, i, i + 1, into, 0, Tally { rows: start, bytes });
+    let rows = merged_rows(t, i, n.rows);
+    Size {
+        fits: rows <= Model::ROWS && n.bytes <= Model::BYTES,
+        new: n.rows,
+    }
+}
