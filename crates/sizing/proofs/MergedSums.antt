@@ -1,5 +1,5 @@
 -- The rows and the bytes of the merged model, as they are summed before anything is written.
-use mathlib.Core.Path.{_≡_, refl, sym, _∙_, ap}
+use mathlib.Core.Path.{_≡_, refl, sym, _∙_, ap, ap₂}
 use mathlib.Core.Bool.{Bool, true, false, _&&_}
 use mathlib.Core.List.{List, [], _∷_}
 use Prim.Native.Nat.{ℕ, suc, _+_, _*_, _-_, _≤_, _<_}
@@ -131,11 +131,14 @@ module _ (t : List ℕ) (im : Image t) (i : ℕ) (h : i + 1 < countOf t) where
   unfolding compOf
   pairs-are = ap (λ c. c .states * compAt m (suc i) .states) first-is ∙ ap (λ d. blockWord t i 0 * d .states) second-is
 
-  pub many-states : (new : ℕ) → maxStates < pairs → Sized t i (record { fits = false; new = new })
-  many-states new b = record { fits = λ e. absurd (let z : _≡_ {A = ℕ} 0 1 = cc in omega arith); big = λ _ f. omega (arith, f .states, pairs-are) }
+  pub many-states : (tall wide : ℕ) → tall ≡ blockWord t i 0 → wide ≡ blockWord t (i + 1) 0 → maxStates < tall * wide → Sized t i (record { fits = false; new = 0 })
+  many-states tall wide et ew b = record { fits = λ e. absurd (let z : _≡_ {A = ℕ} 0 1 = cc in omega arith); big = λ _ f. omega (arith, f .states, pairs-are, ap₂ _*_ et ew) }
 
   -- ---- the walk, where the states are few
-  module _ (few : pairs ≤ maxStates) where
+  module _ (tall wide : ℕ) (et : tall ≡ blockWord t i 0) (ew : wide ≡ blockWord t (i + 1) 0) (low : tall * wide ≤ maxStates) where
+    few : pairs ≤ maxStates
+    few = omega (arith, ap₂ _*_ et ew)
+
     product-rows-few : length (productRows C D) ≤ mostRows
     unfolding compOf
     product-rows-few = product-few C D (omega (arith, rows-fit t im i here)) (omega (arith, rows-fit t im (i + 1) h)) few
@@ -178,7 +181,7 @@ module _ (t : List ℕ) (im : Image t) (i : ℕ) (h : i + 1 < countOf t) where
               fit y =
                   let p = and-true (leb (start + n .rows + behind) maxRows) (leb (n .bytes) maxBytes) y in
                   record {
-                    states = omega (arith, pairs-are);
+                    states = omega (arith, pairs-are, few);
                     rows = omega (arith, leb-true (start + n .rows + behind) maxRows (p .0), rows-summed);
                     bytes = omega (arith, leb-true (n .bytes) maxBytes (p .1), bytes-now);
                   }

@@ -1,78 +1,63 @@
+-- `sizing::size_of`: states, then what the walk counts and measures.
+use mathlib.Core.Path.{refl}
+use Prim.Native.Nat.{_+_}
+use native.Mathlib.Omega.{arith}
+use Rattle.layout.proofs.ImageIsSane.{image-long, count-below, comp-ranges}
+use Rattle.product.proofs.WalkLaws.{pair-fits}
+use Rattle.sizing.proofs.MergedSums.{many-states, room, sum-few, few-states, as-lent}
 use borrow.Author.Needs.{needs}
 use Rattle.sizing.proofs.size_of.Statement.{statement}
 use Rattle.sizing.proofs.size_of.Tie as tie
-use Rattle.sizing.proofs.size_of.Reads as reads
-use Rattle.sizing.proofs.size_of.Lts as lts
-use Rattle.layout.proofs.block_word.Reads as block-word-reads
-use Rattle.merging.proofs.start_of.Reads as start-of-reads
-use Rattle.product.proofs.emit_product.Reads as emit-product-reads
-use Rattle.sizing.proofs.bytes_beside.Reads as bytes-beside-reads
-use Rattle.sizing.proofs.fits.Reads as fits-reads
-use Rattle.sizing.proofs.rows_behind.Reads as rows-behind-reads
 
--- src/lib.rt:70:9
 block-word-requires : tie.Need-block-word-requires
-block-word-requires c κs = ?
+block-word-requires c κs = let s = c .before .before in (image-long _ (s .pre .0), omega (arith, s .pre .1, count-below _ (s .pre .0)), omega arith)
 
--- src/lib.rt:71:38
 add-block-word : tie.Need-add-block-word
-add-block-word c = ?
+add-block-word c = let s = c .before .before .before in omega (arith, s .pre .1, count-below _ (s .pre .0))
 
--- src/lib.rt:71:9
 block-word-requires-2 : tie.Need-block-word-requires-2
-block-word-requires-2 c κs = ?
+block-word-requires-2 c κs = let s = c .before .before .before in (image-long _ (s .pre .0), omega (arith, s .pre .1, count-below _ (s .pre .0)), omega arith)
 
--- src/lib.rt:72:8
 mul-if1 : tie.Need-mul-if1
-mul-if1 c = ?
+mul-if1 c = let s = c .before .before .before .before in pair-fits _ _ 0 (omega (arith, c .before .block-word .ensures, comp-ranges _ (s .pre .0) (s .args .i) (omega (arith, s .pre .1)) .states)) (omega (arith, c .block-word2 .ensures, comp-ranges _ (s .pre .0) (s .args .i + 1) (s .pre .1) .states)) (omega arith)
 
--- src/lib.rt:73:9
 returns : tie.Need-returns
-returns c = ?
+returns c = let s = c .before .before .before .before .before in (many-states _ (s .pre .0) (s .args .i) (s .pre .1) _ _ (c .before .before .block-word .ensures) (c .before .block-word2 .ensures) (c .if1 .taken), refl)
 
--- src/lib.rt:78:9
 bytes-beside-requires : tie.Need-bytes-beside-requires
 bytes-beside-requires c κs = search needs
 
--- src/lib.rt:79:41
 add-emit-product : tie.Need-add-emit-product
-add-emit-product c = ?
+add-emit-product c = let s = c .before .before .before .before .before .before in omega (arith, s .pre .1, count-below _ (s .pre .0))
 
--- src/lib.rt:79:9
 emit-product-requires : tie.Need-emit-product-requires
-emit-product-requires c κs = ?
+emit-product-requires c κs = let s = c .before .before .before .before .before .before .before in (s .pre .0, omega (arith, s .pre .1), s .pre .1, omega arith, room _ (s .pre .0) (s .args .i) (s .pre .1) _ _ (c .before .before .before .before .block-word .ensures) (c .before .before .before .block-word2 .ensures) (c .before .before .if1 .left) _ (c .before .bytes-beside .ensures) (s .args .into .now) (s .pre .2))
 
--- src/lib.rt:80:15
 start-of-requires : tie.Need-start-of-requires
 start-of-requires c κs = search needs
 
--- src/lib.rt:80:15
 add-new : tie.Need-add-new
-add-new c = ?
+add-new c = let s = c .before .before .before .before .before .before .before .before .before .before .before .before in omega (arith, sum-few _ (s .pre .0) (s .args .i) (s .pre .1) _ _ (c .before .before .before .before .before .before .before .before .before .block-word .ensures) (c .before .before .before .before .before .before .before .before .block-word2 .ensures) (c .before .before .before .before .before .before .before .if1 .left) _ (c .before .before .before .before .before .before .bytes-beside .ensures) (s .args .into .now) (c .before .before .before .before .emit-product .result) (c .before .before .before .before .emit-product .last .1 .1 .1 .0) (c .before .before .before .before .emit-product .ensures) _ _ (c .before .start-of .ensures) refl)
 
--- src/lib.rt:81:37
 add-rows-behind : tie.Need-add-rows-behind
-add-rows-behind c = ?
+add-rows-behind c = let s = c .before .before .before .before .before .before .before .before .before .before .before .before in omega (arith, s .pre .1, count-below _ (s .pre .0))
 
--- src/lib.rt:81:22
 rows-behind-requires : tie.Need-rows-behind-requires
 rows-behind-requires c κs = search needs
 
--- src/lib.rt:81:16
 add-rows : tie.Need-add-rows
-add-rows c = ?
+add-rows c = let s = c .before .before .before .before .before .before .before .before .before .before .before .before .before in omega (arith, sum-few _ (s .pre .0) (s .args .i) (s .pre .1) _ _ (c .before .before .before .before .before .before .before .before .before .before .block-word .ensures) (c .before .before .before .before .before .before .before .before .before .block-word2 .ensures) (c .before .before .before .before .before .before .before .before .if1 .left) _ (c .before .before .before .before .before .before .before .bytes-beside .ensures) (s .args .into .now) (c .before .before .before .before .before .emit-product .result) (c .before .before .before .before .before .emit-product .last .1 .1 .1 .0) (c .before .before .before .before .before .emit-product .ensures) _ _ (c .before .before .start-of .ensures) (c .rows-behind .ensures))
 
--- src/lib.rt:83:15
 fits-requires : tie.Need-fits-requires
 fits-requires c κs = search needs
 
--- src/lib.rt:66:1
 same-length : tie.Need-same-length
 same-length c = search needs
 
--- src/lib.rt:66:1
 returns-2 : tie.Need-returns-2
-returns-2 c = ?
+returns-2 c =
+    let s = c .before .before .before .before .before .before .before .before .before .before .before .before .before .before in
+    (few-states _ (s .pre .0) (s .args .i) (s .pre .1) _ _ (c .before .before .before .before .before .before .before .before .before .before .before .block-word .ensures) (c .before .before .before .before .before .before .before .before .before .before .block-word2 .ensures) (c .before .before .before .before .before .before .before .before .before .if1 .left) _ (c .before .before .before .before .before .before .before .before .bytes-beside .ensures) (s .args .into .now) (c .before .before .before .before .before .before .emit-product .result) (c .before .before .before .before .before .before .emit-product .last .1 .1 .1 .0) (c .before .before .before .before .before .before .emit-product .ensures) _ _ (c .before .before .before .start-of .ensures) (c .before .rows-behind .ensures) _ (c .fits2 .ensures), as-lent _ (s .pre .0) (s .args .i) (s .pre .1) _ _ (c .before .before .before .before .before .before .before .before .before .before .before .block-word .ensures) (c .before .before .before .before .before .before .before .before .before .before .block-word2 .ensures) (c .before .before .before .before .before .before .before .before .before .if1 .left) _ (c .before .before .before .before .before .before .before .before .bytes-beside .ensures) (s .args .into .now) (c .before .before .before .before .before .before .emit-product .result) (c .before .before .before .before .before .before .emit-product .last .1 .1 .1 .0) (c .before .before .before .before .before .before .emit-product .ensures))
 
 pub size-of-spec : {M : Type 1} → statement M
 size-of-spec =
