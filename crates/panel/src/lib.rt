@@ -1,0 +1,39 @@
+// A composed state behind `&mut`, advanced by one urgent step.
+use answer::Outcome;
+use answer::State;
+use answer::Stepped;
+ghost use Rattle.panel.specs.Advance.{AdvanceCall};
+
+// The step by value, with the state as given where nothing moves.
+fn advanced(table: &[u64], given: State) -> Stepped
+    ensures { λ r. ⌜ AdvanceCall (now (table .entry)) given (r .state) (r .outcome) ⌝ }
+{
+    let stepped = run::step(table, given);
+    let outcome = stepped.outcome;
+    let next = stepped.state;
+    match outcome {
+        Outcome::Moved { .. } => Stepped {
+            outcome,
+            state: next,
+        },
+        Outcome::Stable => Stepped {
+            outcome,
+            state: given,
+        },
+        Outcome::Refused(_) => Stepped {
+            outcome,
+            state: given,
+        },
+    }
+}
+
+// One urgent step by our rule, of a state that is lent: on stable and on refusal it is as it was.
+pub fn advance(table: &[u64], state: &mut State) -> Outcome
+    ensures { λ r. ⌜ AdvanceCall (now (table .entry)) (now (state .entry)) (now (state .exit)) r ⌝ }
+{
+    let given = *state;
+    let stepped = advanced(table, given);
+    let next = stepped.state;
+    *state = next;
+    stepped.outcome
+}
