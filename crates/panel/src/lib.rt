@@ -5,7 +5,7 @@ use answer::Stepped;
 ghost use Rattle.panel.specs.Advance.{AdvanceCall};
 
 // The step by value, with the state as given where nothing moves.
-fn advanced(table: &[u64], given: State) -> Stepped
+fn kept_step(table: &[u64], given: State) -> Stepped
     ensures { λ r. ⌜ AdvanceCall (now (table .entry)) given (r .state) (r .outcome) ⌝ }
 {
     let stepped = run::step(table, given);
@@ -32,8 +32,17 @@ pub fn advance(table: &[u64], state: &mut State) -> Outcome
     ensures { λ r. ⌜ AdvanceCall (now (table .entry)) (now (state .entry)) (now (state .exit)) r ⌝ }
 {
     let given = *state;
-    let stepped = advanced(table, given);
+    let stepped = kept_step(table, given);
     let next = stepped.state;
     *state = next;
     stepped.outcome
+}
+
+// The same of a state that the caller holds by value: it is lent to `advance` here.
+pub fn advanced(table: &[u64], given: State) -> Stepped
+    ensures { λ r. ⌜ AdvanceCall (now (table .entry)) given (r .state) (r .outcome) ⌝ }
+{
+    let mut state = given;
+    let outcome = advance(table, &mut state);
+    Stepped { outcome, state }
 }
