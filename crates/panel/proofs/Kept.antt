@@ -4,7 +4,7 @@ use mathlib.Core.Option.{Option, none, some}
 use Prim.Native.Nat.{ℕ}
 use native.Mathlib.Omega.{arith}
 use Rattle.answer.specs.Told.{Told, told, Answer, answered, refused, asRefused, Step, moved, stable, saysOutcome}
-use Rattle.answer.specs.State.{withParts}
+use Rattle.answer.specs.declared.Outcome.{Outcome}
 use Rattle.answer.specs.declared.Outcome.the-variants.{Moved, Stable, Refused}
 use Rattle.answer.specs.declared.Refusal.{Refusal}
 use Rattle.answer.specs.declared.State.{State}
@@ -27,19 +27,19 @@ where-moved (refused f) x r a n g e =
     let s : _≡_ {A = Option (Answer Step)} (some (answered (moved a n))) (some (refused f)) = sym (ap saysOutcome e) ∙ g .0 in
     let z : _≡_ {A = ℕ} 0 1 = cc in absurd (omega arith)
 
-pub where-stable : (v : Answer Stepping) (x : State) (r : Stepped) → StepAnswers v x r → r .outcome ≡ Stable → x ≡ stateAfter x v
+pub where-stable : (v : Answer Stepping) (x : State) (o : Outcome) → saysOutcome o ≡ some (outcomeOf v) → o ≡ Stable → x ≡ stateAfter x v
 unfolding saysOutcome
-where-stable (answered v) x r g e =
-    let s : _≡_ {A = Option (Answer Step)} (some (answered stable)) (some (answered (v .step))) = sym (ap saysOutcome e) ∙ g .outcome in
+where-stable (answered v) x o g e =
+    let s : _≡_ {A = Option (Answer Step)} (some (answered stable)) (some (answered (v .step))) = sym (ap saysOutcome e) ∙ g in
     let q : stable ≡ v .step = cc in
     ap (λ w. movedTo x w (v .state)) q
-where-stable (refused f) x r g e = refl
+where-stable (refused f) x o g e = refl
 
 no-value : (o : Option Told) (w : Step) → _≡_ {A = Option (Answer Step)} (asRefused o) (some (answered w)) → ⊥
 no-value none w e = let z : _≡_ {A = ℕ} 0 1 = cc in absurd (omega arith)
 no-value (some f) w e = let z : _≡_ {A = ℕ} 0 1 = cc in absurd (omega arith)
 
-pub where-refused : (v : Answer Stepping) (x : State) (r : Stepped) (q : Refusal) → StepAnswers v x r → r .outcome ≡ Refused q → x ≡ stateAfter x v
+pub where-refused : (v : Answer Stepping) (x : State) (o : Outcome) (q : Refusal) → saysOutcome o ≡ some (outcomeOf v) → o ≡ Refused q → x ≡ stateAfter x v
 unfolding saysOutcome
-where-refused (answered v) x r q g e = absurd (no-value (told q) (v .step) (sym (ap saysOutcome e) ∙ g .outcome))
-where-refused (refused f) x r q g e = refl
+where-refused (answered v) x o q g e = absurd (no-value (told q) (v .step) (sym (ap saysOutcome e) ∙ g))
+where-refused (refused f) x o q g e = refl

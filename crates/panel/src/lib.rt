@@ -11,20 +11,12 @@ fn kept_step(table: &[u64], given: State) -> Stepped
     let stepped = run::step(table, given);
     let outcome = stepped.outcome;
     let next = stepped.state;
-    match outcome {
-        Outcome::Moved { .. } => Stepped {
-            outcome,
-            state: next,
-        },
-        Outcome::Stable => Stepped {
-            outcome,
-            state: given,
-        },
-        Outcome::Refused(_) => Stepped {
-            outcome,
-            state: given,
-        },
-    }
+    let state = match outcome {
+        Outcome::Moved { .. } => next,
+        Outcome::Stable => given,
+        Outcome::Refused(_) => given,
+    };
+    Stepped { outcome, state }
 }
 
 // One urgent step by our rule, of a state that is lent: on stable and on refusal it is as it was.

@@ -26,7 +26,7 @@ use denote.RattleType.{owns}
 use denote.Laws.{Is, shows}
 use denote.Memory.{mem}
 use denote.Builtin.{u64}
-use denote.Ref.{RefT, MutRef, now, ptr-vals, mut-tells}
+use denote.Ref.{RefT, MutRef, ptr-vals, mut-tells}
 use denote.Signature.{plain}
 use denote.Slice.{sliceVal, slice-vals, ShrSlice, shr-slice-tells, shr-slice-lawful, shr-slice-copy}
 use denote.Steps.{only, opens, closes, owned, peeks, heard, nothing}
@@ -41,7 +41,6 @@ use denote.Triple.Table.{entered, cited}
 use denote.Triple.Walked.{says, Stays, stay-none-slice, stay-ref, walkOf, AllGo, goes-none-slice, goes-ref, Walks, ends-at, walked, walk-meets}
 use denote.Triple.Clauses.{ensured, lasts}
 use denote.Exit.{yes}
-use Rattle.answer.specs.declared.Outcome.{Outcome}
 use Rattle.answer.specs.declared.State.{State}
 use Rattle.answer.specs.declared.Stepped.{Stepped}
 use Rattle.answer.proofs.Outcome as O

@@ -22,21 +22,24 @@ returns c =
     let x = c .before .before .before .before .before .args .given in
     let v = stepOn (c .before .before .before .before .before .args .table .now) x in
     let s = c .before .before .before .step in
-    record { outcome = said v x (s .result) (s .ensures .answer); state = where-moved v x (s .result) _ _ (s .ensures .answer) (c .enum-told .given .1) }
+    let o = said v x (s .result) (s .ensures .answer) in
+    record { outcome = o; state = where-moved v x (s .result) _ _ (s .ensures .answer) (c .enum-told .given .1) }
 
 returns-2 : tie.Need-returns-2
 returns-2 c =
     let x = c .before .before .before .before .before .args .given in
     let v = stepOn (c .before .before .before .before .before .args .table .now) x in
     let s = c .before .before .before .step in
-    record { outcome = said v x (s .result) (s .ensures .answer); state = where-stable v x (s .result) (s .ensures .answer) (c .enum-told2 .given .1) }
+    let o = said v x (s .result) (s .ensures .answer) in
+    record { outcome = o; state = where-stable v x (s .result .outcome) o (c .enum-told2 .given .1) }
 
 returns-3 : tie.Need-returns-3
 returns-3 c =
     let x = c .before .before .before .before .before .args .given in
     let v = stepOn (c .before .before .before .before .before .args .table .now) x in
     let s = c .before .before .before .step in
-    record { outcome = said v x (s .result) (s .ensures .answer); state = where-refused v x (s .result) _ (s .ensures .answer) (c .enum-told3 .given .1) }
+    let o = said v x (s .result) (s .ensures .answer) in
+    record { outcome = o; state = where-refused v x (s .result .outcome) _ o (c .enum-told3 .given .1) }
 
 pub kept-step-spec : {M : Type 1} → statement M
 kept-step-spec =
