@@ -36,18 +36,25 @@ module _ {S : Type 0} (step : S → ℕ → Option (Gone S)) where
   unfolding settle
   settle-go n s w e = rw (e, settle)
 
+  pub settle-rests : (n : ℕ) (s : S) → lowest step s ≡ none → settle step n s ≡ resting true s
+  unfolding settle
+  settle-rests zero s e = rw (e, settle)
+  settle-rests (suc n) s e = rw (e, settle)
+
+  pub settle-out : (n : ℕ) (s : S) (w : Went S) → n ≡ 0 → lowest step s ≡ some w → settle step n s ≡ resting false s
+  unfolding settle
+  settle-out n s w z e = rw z (rw (e, settle))
+
   -- no step is left, or the budget is used up
   pub settle-ends : (n : ℕ) (s : S) → (isSome (lowest step s) ≡ true → n ≡ 0) → settle step n s ≡ resting (not (isSome (lowest step s))) s
-  unfolding settle
   settle-ends n s h = go (lowest step s) refl
     where
+      rested : (o : Option (Went S)) → lowest step s ≡ o → resting (not (isSome o)) s ≡ resting (not (isSome (lowest step s))) s
+      rested o e = ap (λ v. resting (not (isSome v)) s) (sym e)
+
       go : (o : Option (Went S)) → lowest step s ≡ o → settle step n s ≡ resting (not (isSome (lowest step s))) s
-      go none e = at-rest n
-        where
-          at-rest : (k : ℕ) → settle step k s ≡ resting (not (isSome (lowest step s))) s
-          at-rest zero = rw (e, settle)
-          at-rest (suc k) = rw (e, settle)
-      go (some w) e = rw (h (ap isSome e)) (rw (e, settle))
+      go none e = settle-rests n s e ∙ rested none e
+      go (some w) e = settle-out n s w (h (ap isSome e)) e ∙ rested (some w) e
 
   -- one step more, of those that the budget still allows
   pub plus-step : (budget k r : ℕ) (l : List ℕ) (s : S) (w : Went S) → k < budget → lowest step s ≡ some w
