@@ -175,29 +175,6 @@ Table image(const Text& text) {
   return table;
 }
 
-Text tabbed(Text text) {
-  for (char& byte : text) {
-    if (byte == ' ') byte = '\t';
-    else if (byte == '_') byte = ' ';
-  }
-  return text;
-}
-
-const Text m = tabbed(
-    "comp 2 0\n"
-    "act 0 out\n"
-    "act 1 uout\n"
-    "clk 0 1\n"
-    "row 0 0 0 - 1\n"
-    "row 1 - 1 0 0\n"
-    "comp 3 0\n"
-    "act 1 uin\n"
-    "act 2 uout\n"
-    "row 0 - 1 - 1\n"
-    "row 1 - 1 - 1\n"
-    "row 1 - 2 - 2\n"
-    "row 2 - 1 - 2\n");
-
 Text m_with(const Text& piece, const Text& other) {
   Text text = m;
   const std::size_t at = text.find(tabbed(piece));

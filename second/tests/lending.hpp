@@ -8,8 +8,8 @@
 #include <vector>
 
 #include "second.hpp"
+#include "texts.hpp"
 
-using Text = std::string;
 using Table = std::vector<std::uint64_t>;
 using Part = std::vector<std::uint8_t>;
 using Clocks = std::vector<std::int64_t>;
@@ -35,12 +35,6 @@ second::State state_of(const Part& parts);
 
 // A model's text as its image; fails the test where it isn't read.
 Table image(const Text& text);
-
-// Spaces to tabs and `_` to spaces, so that texts in the tests can be read.
-Text tabbed(Text text);
-
-// Model M of paper 01.
-extern const Text m;
 
 // M with one piece of its text replaced by another.
 Text m_with(const Text& piece, const Text& other);

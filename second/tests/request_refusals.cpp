@@ -1,60 +1,10 @@
 // The program's request line: 9, what is no 9, and the order of refusals behind it.
 #include "check.hpp"
 #include "lending.hpp"
+#include "request_cases.hpp"
 #include "tests.hpp"
 
 namespace {
-
-struct RequestCase {
-  Text request;  // spaces stand for tabs
-  second::Refusal refusal;
-};
-
-using second::refuse;
-
-// Each before model M.
-const RequestCase cases[] = {
-    {"from 1,0 100\n", {}},
-    {"from 0,2 0\n", {}},
-    {"from 1,0 4096\n", {}},
-    {"from 1,0 4097\n", refuse(22, {0})},
-    {"from 1,0 99999\n", refuse(22, {0})},
-    {"from 1,0 100000\n", refuse(9, {0})},
-    {"from 1,0 05\n", refuse(9, {0})},
-    {"from 1,0 +5\n", refuse(9, {0})},
-    {"from 1,0 -\n", refuse(9, {0})},
-    {"from 1,0 \n", refuse(9, {0})},
-    {"from 1,0\n", refuse(9, {0})},
-    {"from 1,0 1 1\n", refuse(9, {0})},
-    {"from 1,0 1 \n", refuse(9, {0})},
-    {"from 1,0 1\r\n", refuse(9, {0})},
-    {" from 1,0 1\n", refuse(9, {0})},
-    {"From 1,0 1\n", refuse(9, {0})},
-    {"from_1,0_1\n", refuse(9, {0})},
-    {"from  1,0 1\n", refuse(9, {0})},
-    {"\n", refuse(9, {0})},
-    {"", refuse(9, {0})},
-    {"from - 1\n", refuse(9, {0})},
-    {"from  1\n", refuse(9, {0})},
-    {"from 1, 1\n", refuse(9, {0})},
-    {"from ,1 1\n", refuse(9, {0})},
-    {"from 1,,0 1\n", refuse(9, {0})},
-    {"from 1,-0 1\n", refuse(9, {0})},
-    {"from 1,00 1\n", refuse(9, {0})},
-    {"from 1,100000 1\n", refuse(9, {0})},
-    {"from 1,_0 1\n", refuse(9, {0})},
-    {"from 2,0 1\n", refuse(21, {0})},
-    {"from 1,3 1\n", refuse(21, {0})},
-    {"from 1,64 1\n", refuse(21, {0})},
-    {"from 257,0 1\n", refuse(21, {0})},
-    {"from 1,256 1\n", refuse(21, {0})},
-    {"from 65537,0 1\n", refuse(21, {0})},
-    {"from 99999,0 1\n", refuse(21, {0})},
-    {"from 1 1\n", refuse(21, {0})},
-    {"from 1,0,0 1\n", refuse(21, {0})},
-    {"from 0,0,0,0,0,0,0,0,0,0,0,0,0,0,0,0,0,0 1\n", refuse(21, {0})},
-    {"from 1,3 4097\n", refuse(21, {0})},
-};
 
 // A well shaped request of just this length with its LF.
 Text long_request(unsigned length) {
@@ -67,7 +17,7 @@ Text long_request(unsigned length) {
 }  // namespace
 
 void test_request_refusals() {
-  for (const RequestCase& entry : cases) {
+  for (const cases::RequestCase& entry : cases::request_cases) {
     const second::Refusal refusal = refusal_in(lend_report(tabbed(entry.request) + m));
     check(refusal == entry.refusal, shown(refusal) + " for the request\n" + entry.request);
   }

@@ -1,0 +1,38 @@
+// Every call of the engine, made by the proved engine and by the second program on the same loan.
+#pragma once
+
+#include <set>
+#include <string>
+
+#include "loan.hpp"
+
+struct Call {
+  const char* name;
+  Said (*engine)(Lent&);  // null while the engine does not export the call
+  Said (*second)(Lent&);
+  std::set<std::string> outcomes;  // every one that there is
+};
+
+namespace calls {
+
+extern const Call recognise, check_text, read, write, accept, confluent, step, step_by, settle, settle_list, timed_step, merge, report, advance;
+
+// In the order of the header.
+extern const Call* const all[14];
+
+}  // namespace calls
+
+struct Comparison {
+  Said engine;
+  Said second;
+  bool buffers_agree;  // every lent byte and every guard
+  Lent left;           // as the second program left it
+};
+
+// The call made by both.
+Comparison made_by_both(const Call& call, const Loan& loan);
+
+// The outcome in a word: the refusal's number, or the answer's kind.
+std::string outcome(const floodneedle_answer& answer);
+
+void print(const char* whose, const Said& said);

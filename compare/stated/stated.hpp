@@ -1,0 +1,44 @@
+// Tests with stated answers: inputs at the edges, and what paper 01 says of each, by number and place. Both programs are held to it.
+#pragma once
+
+#include <initializer_list>
+
+#include "../tally.hpp"
+#include "texts.hpp"
+
+// Each is a file of its own.
+void stated_paper();
+void stated_texts();
+void stated_tables();
+void stated_models();
+void stated_runs();
+void stated_clocks();
+void stated_merges();
+
+// ---- what may be stated
+
+Said refused(std::uint64_t number, std::initializer_list<std::uint64_t> place);
+Said done(std::uint64_t count = 0);
+Said moved(std::uint64_t action, std::uint64_t resets, const Bytes& after);
+// Of a step.
+Said stable(const Bytes& after);
+Said settled(floodneedle_kind verdict, std::uint64_t steps, std::uint64_t resets, const Bytes& after);
+Said fired(std::uint64_t ticks, std::uint64_t action, std::uint64_t resets, const Bytes& after);
+Said quiet(const Bytes& after);
+
+// ---- what is lent
+
+constexpr std::uint64_t largest = ~std::uint64_t{0};
+
+// The image of a model's text; no word at all where it is not read, so that each test on it fails.
+Table image(const Text& text);
+Bytes bytes_of(const Text& text);
+// A text with one piece of it replaced, both with spaces for tabs.
+Text with(Text text, const Text& piece, const Text& other);
+Text repeated(const Text& piece, unsigned times);
+
+Loan lent_table(const Table& table);
+Loan lent_state(const Table& table, const Bytes& state);
+
+// Both checks on a table, and every other call that makes them, whose own refusals all come later.
+void expect_checks(const std::string& why, const Table& table, const Said& accepted, const Said& confluent);

@@ -1,0 +1,20 @@
+// What was tried, by call and outcome, and how many tests passed and failed.
+#pragma once
+
+#include "calls.hpp"
+
+// One input to a call, by both programs; a difference is told in full the first few times. `where` says which input it was.
+// Answers what the second program left and said, for the next call in a sequence.
+Comparison compare(const Call& call, const Loan& loan, const std::string& where);
+
+// How many inputs were compared so far.
+std::uint64_t inputs();
+
+// A test whose answer is stated: both programs must say `expected` and leave the loan as `left`.
+void expect(const std::string& why, const Call& call, const Loan& loan, const Said& expected, const Loan& left);
+// The same where no lent byte changes, as with every refusal.
+void expect(const std::string& why, const Call& call, const Loan& loan, const Said& expected);
+
+// Counts by call and outcome, a line for each call that differed or, where `all`, missed an outcome; then 'N passed, M failed'.
+// Answers the exit status.
+int conclude(bool all);
