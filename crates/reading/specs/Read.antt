@@ -6,7 +6,7 @@ use mathlib.Core.List.{List, [], _∷_, _++_}
 use Prim.Native.Nat.{ℕ, _*_}
 use lib.ListN.{length, drop}
 use lib.Dec.{ltb}
-use Rattle.answer.specs.Told.{Told, tell, Answer, answered, refused, saysChecked}
+use Rattle.answer.specs.Told.{Told, tell, Answer, answered, refused, saysChecked, doneOf}
 use Rattle.answer.specs.declared.Checked.{Checked}
 use Rattle.iosa.specs.Model.{Model}
 use Rattle.iosa.specs.Reading.{readOf}
@@ -29,15 +29,11 @@ roomFor room (answered m) = elim (ltb room imageWords) [ true ↦ refused tableT
 unfoldable pub readOn : List ℕ → List ℕ → Answer Model
 readOn t old = roomFor (length old) (readOf t)
 
-abbrev pub withoutModel : Answer Model → Answer (Unit {0})
-withoutModel (answered m) = answered tt
-withoutModel (refused f) = refused f
-
 -- the image at the front of the table, the rest as it was; "A refusal .. changes no lent byte"
 abbrev pub tableAfter : Answer Model → List ℕ → List ℕ
 tableAfter (answered m) old = imageOf m ++ drop imageWords old
 tableAfter (refused f) old = old
 
 pub record ReadCall (t old new : List ℕ) (r : Checked) : Type 0 where
-  pub answer : saysChecked r ≡ some (withoutModel (readOn t old))
+  pub answer : saysChecked r ≡ some (doneOf (readOn t old))
   pub table : new ≡ tableAfter (readOn t old) old
