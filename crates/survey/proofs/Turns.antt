@@ -95,9 +95,15 @@ module _ {t : List ℕ} {q : Progress} {p : CodeProgress} {at n : ℕ} (s : Stan
         let w = fault-number (fault-some q (drop at t) (r .it) (drop to t) (r .here) f h .fault) in
         (sym (s .same) ∙ lines-fault n q (r .it) (drop to t) (length (drop at t)) (drop at t) f (le-refl _) (r .here) h, w .0, w .1)
 
+    line-judged : (p′ : CodeProgress) → stepOf p l ≡ Taken p′ → (faultOf q (r .it) ≡ none) × (p′ ≡ standing (next q (r .it)))
+    line-judged p′ e = judged-taken (faultOf q (r .it)) (next q (r .it)) p′ (sym judged ∙ e)
+
+    pub line-faultless : (p′ : CodeProgress) → stepOf p l ≡ Taken p′ → faultOf q (r .it) ≡ none
+    line-faultless p′ e = line-judged p′ e .0
+
     pub line-taken : (p′ : CodeProgress) → stepOf p l ≡ Taken p′ → Stands t (next q (r .it)) p′ to (n + 1)
     line-taken p′ e =
-        let h = judged-taken (faultOf q (r .it)) (next q (r .it)) p′ (sym judged ∙ e) in
+        let h = line-judged p′ e in
         record {
           kept = h .1;
           begun = record { some-comp = λ d x. grown (q .comps) (q .last) (r .it) (h .0) (s .begun) };

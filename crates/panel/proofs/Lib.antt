@@ -1,0 +1,4 @@
+pub mod Values
+pub mod Kept
+pub mod Determined
+pub mod AsStep

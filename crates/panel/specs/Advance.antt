@@ -1,0 +1,31 @@
+-- What the call `advance` answers, and what the lent state is then ("a composed state lent to one urgent step and advanced there").
+use mathlib.Core.Path.{_≡_}
+use mathlib.Core.Option.{some}
+use mathlib.Core.List.{List}
+use Prim.Native.Nat.{ℕ}
+use Rattle.answer.specs.Told.{Answer, answered, refused, Step, moved, stable, saysOutcome}
+use Rattle.answer.specs.State.{withParts}
+use Rattle.answer.specs.declared.Outcome.{Outcome}
+use Rattle.answer.specs.declared.State.{State}
+use Rattle.iosa.specs.Step.{Stepping}
+use Rattle.run.specs.Calls.{stepOn}
+
+-- "Each step's outcome is one of moved, stable or refused"
+abbrev pub outcomeOf : Answer Stepping → Answer Step
+outcomeOf (answered v) = answered (v .step)
+outcomeOf (refused f) = refused f
+
+-- a step's state, or the one before it where nothing moves
+abbrev pub movedTo : State → Step → List ℕ → State
+movedTo x (moved a r) ps = withParts x ps
+movedTo x stable ps = x
+
+-- "A refusal .. changes no lent byte"
+abbrev pub stateAfter : State → Answer Stepping → State
+stateAfter x (answered v) = movedTo x (v .step) (v .state)
+stateAfter x (refused f) = x
+
+-- t is the table; x is the lent state before the call, and y after it
+pub record AdvanceCall (t : List ℕ) (x y : State) (r : Outcome) : Type 0 where
+  pub outcome : saysOutcome r ≡ some (outcomeOf (stepOn t x))
+  pub state : y ≡ stateAfter x (stepOn t x)
