@@ -6,6 +6,8 @@
 #include "../tally.hpp"
 #include "texts.hpp"
 
+void try_stated();
+
 // Each is a file of its own.
 void stated_paper();
 void stated_texts();
@@ -14,6 +16,7 @@ void stated_models();
 void stated_runs();
 void stated_clocks();
 void stated_merges();
+void stated_requests();
 
 // ---- what may be stated
 
