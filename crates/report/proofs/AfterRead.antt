@@ -24,7 +24,8 @@ use Rattle.layout.specs.Layout.{imageWords}
 use Rattle.layout.specs.Image.{Image, imageOf, modelOf}
 use Rattle.layout.proofs.ReadBack.{length-of-image}
 use Rattle.layout.proofs.ModelOfImage.{model-of}
-use Rattle.reading.specs.Read.{readOn, roomFor, tableAfter, ReadCall}
+use Rattle.layout.specs.Lent.{tableAfter}
+use Rattle.reading.specs.Read.{readOn, roomFor, ReadCall}
 
 room-enough : (n : ℕ) (x : Answer Model) → imageWords ≤ n → roomFor n x ≡ x
 room-enough n (refused f) h = refl

@@ -15,7 +15,8 @@ use Rattle.iosa.specs.Model.{Model}
 use Rattle.iosa.specs.Reading.{readOf}
 use Rattle.layout.specs.Layout.{imageWords}
 use Rattle.layout.specs.Image.{imageOf}
-use Rattle.reading.specs.Read.{wordBytes, tableTooShort, roomFor, readOn, tableAfter, ReadCall}
+use Rattle.layout.specs.Lent.{wordBytes, tableTooShort, tableAfter}
+use Rattle.reading.specs.Read.{roomFor, readOn, ReadCall}
 use Rattle.answer.proofs.SaysFixes.{checked-fixed}
 
 pub says-fine : saysChecked Fine ≡ some (answered tt)

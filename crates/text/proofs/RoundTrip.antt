@@ -23,7 +23,8 @@ use Rattle.layout.proofs.RowsOfRange.{image-front, well-formed}
 use Rattle.table.specs.IsImage.{isImage}
 use Rattle.table.proofs.OnTableLaws.{on-image}
 use Rattle.table.proofs.ImageExactly.{image-exactly, written-recognised}
-use Rattle.reading.specs.Read.{tableTooShort, roomFor, readOn, tableAfter, ReadCall}
+use Rattle.layout.specs.Lent.{tableTooShort, tableAfter}
+use Rattle.reading.specs.Read.{roomFor, readOn, ReadCall}
 use Rattle.reading.proofs.ReadDetermined.{read-determined}
 use Rattle.text.specs.Write.{writeOf, writeOn, WriteCall}
 use Rattle.text.proofs.ReadLaws.{says-fine, taken-in}
