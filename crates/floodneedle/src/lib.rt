@@ -4,12 +4,13 @@ use answer::State;
 use words::Words;
 ghost use mathlib.Core.Path.{_≡_};
 ghost use Rattle.words.specs.Words.{checkedWords, writtenWords};
+ghost use Rattle.reading.specs.Read.{readOn, withoutModel, tableAfter};
 ghost use Rattle.text.specs.Write.{writeOn, textAfter};
 ghost use Rattle.iosa.specs.Reading.{readOf};
 ghost use Rattle.survey.specs.Survey.{checkedOf};
 ghost use Rattle.table.specs.IsImage.{isImage};
 ghost use Rattle.words.specs.Bytes.{stateOf};
-ghost use Rattle.floodneedle.specs.Told.{acceptOn, confluentOn, timedOn, TimingTold, StepTold, SettlingTold};
+ghost use Rattle.floodneedle.specs.Told.{acceptOn, confluentOn, timedOn, TimingTold, StepTold, AdvanceTold, SettlingTold};
 ghost use Rattle.run.specs.Calls.{stepOn, stepByOn, settleOn, settleListOn, traceAfter};
 
 // Whether the buffer's front is the image of a model.
@@ -26,6 +27,16 @@ pub extern "C" fn floodneedle_check_text(text: &[u8], answer: &mut [u64; Words::
     ensures { λ _. ⌜ now (answer .exit) ≡ checkedWords (checkedOf (readOf (now (text .entry)))) ⌝ }
 {
     let checked = survey::check_text(text);
+    *answer = words::checked_words(checked);
+}
+
+// Reads a text into the table.
+#[no_mangle]
+pub extern "C" fn floodneedle_read(text: &[u8], table: &mut [u64], answer: &mut [u64; Words::COUNT])
+    ensures answer { λ _. ⌜ now (answer .exit) ≡ checkedWords (withoutModel (readOn (now (text .entry)) (now (table .entry)))) ⌝ }
+    ensures buffer { λ _. ⌜ now (table .exit) ≡ tableAfter (readOn (now (text .entry)) (now (table .entry))) (now (table .entry)) ⌝ }
+{
+    let checked = text::read(text, table);
     *answer = words::checked_words(checked);
 }
 
@@ -102,6 +113,23 @@ pub extern "C" fn floodneedle_step(
     let outcome = r.outcome;
     let parts = next.parts;
     *after = parts;
+    *answer = words::stepped_words(outcome);
+}
+
+// The same on a state that is lent, and advanced there.
+#[no_mangle]
+pub extern "C" fn floodneedle_advance(
+    table: &[u64],
+    state: &mut [u8],
+    answer: &mut [u64; Words::COUNT],
+)
+    ensures { λ _. ⌜ AdvanceTold (stepOn (now (table .entry)) (stateOf (now (state .entry)))) (now (state .entry)) (now (state .exit)) (now (answer .exit)) ⌝ }
+{
+    let given = words::state_of(state);
+    let r = panel::advanced(table, given);
+    let next = r.state;
+    let outcome = r.outcome;
+    words::put_state(state, next);
     *answer = words::stepped_words(outcome);
 }
 
