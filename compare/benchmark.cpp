@@ -1,219 +1,218 @@
-// Times of the proved engine beside the second program and a bare loop, all in one program and one run, as ratios.
-// usage: benchmark [MILLISECONDS]    time for each measurement
+// Times of the proved engine beside the second program and a bare loop, all in one program and one run. Prints the tables of docs/BENCHMARK.md.
+// Each number is the least of many short rounds, in which all that stand in one table take turns: what else the machine does then disturbs
+// all of them alike.
+// usage: benchmark [times]    with the engine's own times, which mean something only where the processor runs the program itself
 #include <chrono>
 #include <cstdio>
-#include <cstdlib>
 #include <functional>
 
 #include "bare.h"
-#include "confluence.hpp"
-#include "engine.hpp"
-#include "generate.hpp"
-#include "text_writing.hpp"
+#include "subjects.hpp"
 
 namespace {
 
-using second::Model;
-using second::Random;
+constexpr double round_seconds = 200e-6;
+constexpr unsigned rounds = 200;
 
-double milliseconds = 40;
+bool with_times = false;
+std::uint64_t kept = 0;  // what the bare loops compute, so that they are not left out
 
 double now() { return std::chrono::duration<double>(std::chrono::steady_clock::now().time_since_epoch()).count(); }
 
-// Seconds for one call: the best of five rounds, each long enough to time.
-double cost(const std::function<void()>& call) {
-  std::uint64_t times = 1;
-  double best = 1e9;
-  for (unsigned round = 0; round < 5;) {
-    const double start = now();
-    for (std::uint64_t t = 0; t < times; ++t) call();
-    const double took = now() - start;
-    if (took < milliseconds / 1000 / 5) {
-      times *= 2;
-      continue;
-    }
-    best = std::min(best, took / static_cast<double>(times));
-    ++round;
+using Work = std::function<void()>;
+
+double seconds_for(const Work& work, std::uint64_t times) {
+  const double start = now();
+  for (std::uint64_t t = 0; t < times; ++t) work();
+  return now() - start;
+}
+
+// The least seconds for one go of each.
+std::vector<double> least(const std::vector<Work>& works) {
+  std::vector<std::uint64_t> times;
+  for (const Work& work : works) {
+    std::uint64_t enough = 1;
+    while (seconds_for(work, enough) < round_seconds) enough *= 2;
+    times.push_back(enough);
   }
+  std::vector<double> best(works.size(), 1e9);
+  for (unsigned round = 0; round < rounds; ++round)
+    for (std::size_t w = 0; w < works.size(); ++w) best[w] = std::min(best[w], seconds_for(works[w], times[w]) / static_cast<double>(times[w]));
   return best;
 }
 
-struct Subject {
-  const char* name;
-  Model model;
-  Bytes text;
-  Table table;
-  Bytes state;  // unstable where the model has such a state
-  Bytes calm;
+// ---- the calls: what the engine and the second program do on a subject
+
+struct Pair {
+  const char* call;
+  Work engine, second;
 };
 
-Subject subject(const char* name, const Model& model, std::uint64_t seed) {
-  const std::string text = second::text_of_model(model);
-  Random random(seed);
-  Subject s{name, model, Bytes(text.begin(), text.end()), second::image_of_model(model), {}, {}};
-  s.calm = second::generate_calm_state(random, model);
-  for (unsigned turn = 0; turn < 50; ++turn) {
-    s.state = second::generate_state(random, model);
-    if (second::step(lent(s.table), lent(s.state)).outcome == second::StepOutcome::moved) break;
-  }
-  return s;
+struct Buffers {
+  floodneedle_answer answer;
+  After after;
+  Table into = Table(second::image_words);
+  Bytes out = Bytes(second::max_text);
+  Clocks clocks = Clocks(second::clock_values);
+} lent_out;
+
+const std::uint64_t* words(const Subject& s) { return s.table.data(); }
+
+Pair recognise(const Subject& s) {
+  return {"recognise", [&] { kept += floodneedle_recognise(words(s), s.table.size()); }, [&] { second::recognise(lent(s.table)); }};
+}
+Pair check_text(const Subject& s) {
+  return {"check_text", [&] { floodneedle_check_text(s.text.data(), s.text.size(), &lent_out.answer); },
+          [&] { second::read(lent(s.text), {lent_out.into.data(), lent_out.into.size()}); }};
+}
+#ifdef HAVE_READ
+Pair read(const Subject& s) {
+  return {"read", [&] { floodneedle_read(s.text.data(), s.text.size(), lent_out.into.data(), lent_out.into.size(), &lent_out.answer); },
+          [&] { second::read(lent(s.text), {lent_out.into.data(), lent_out.into.size()}); }};
+}
+#endif
+Pair write(const Subject& s) {
+  return {"write", [&] { floodneedle_write(words(s), s.table.size(), lent_out.out.data(), lent_out.out.size(), &lent_out.answer); },
+          [&] { second::write(lent(s.table), {lent_out.out.data(), lent_out.out.size()}); }};
+}
+Pair accept(const Subject& s) {
+  return {"accept", [&] { floodneedle_accept(words(s), s.table.size(), &lent_out.answer); }, [&] { second::accept(lent(s.table)); }};
+}
+Pair confluent(const Subject& s) {
+  return {"confluent", [&] { floodneedle_confluent(words(s), s.table.size(), &lent_out.answer); }, [&] { second::confluent(lent(s.table)); }};
+}
+Pair step(const Subject& s) {
+  return {"step",
+          [&] { floodneedle_step(words(s), s.table.size(), s.state.data(), s.state.size(), lent_out.after.data(), &lent_out.answer); },
+          [&] { second::step(lent(s.table), lent(s.state)); }};
+}
+Pair settle(const Subject& s, std::uint64_t budget) {
+  return {"settle",
+          [&s, budget] {
+            floodneedle_settle(words(s), s.table.size(), s.state.data(), s.state.size(), budget, lent_out.out.data(), lent_out.out.size(),
+                               lent_out.after.data(), &lent_out.answer);
+          },
+          [&s, budget] { second::settle(lent(s.table), lent(s.state), budget, {lent_out.out.data(), lent_out.out.size()}); }};
+}
+// Every clock has another value, so that one is the least.
+void set_clocks() {
+  for (unsigned x = 0; x < second::clock_values; ++x) lent_out.clocks[x] = 1000 - x;
+}
+Pair timed_step(const Subject& s) {
+  return {"timed_step",
+          [&] {
+            set_clocks();
+            floodneedle_timed_step(words(s), s.table.size(), s.state.data(), s.state.size(), lent_out.clocks.data(), lent_out.clocks.size(),
+                                   lent_out.after.data(), &lent_out.answer);
+          },
+          [&] {
+            set_clocks();
+            second::timed_step(lent(s.table), lent(s.state), {lent_out.clocks.data(), lent_out.clocks.size()});
+          }};
+}
+#ifdef HAVE_MERGE
+Pair merge(const Subject& s) {
+  return {"merge", [&] { floodneedle_merge(words(s), s.table.size(), 0, lent_out.into.data(), lent_out.into.size(), &lent_out.answer); },
+          [&] { second::merge(lent(s.table), 0, {lent_out.into.data(), lent_out.into.size()}); }};
+}
+#endif
+
+// ---- the tables
+
+void head(const char* title) {
+  std::printf("\n%s\n\n| Call | Model | Rows | Bytes of text | Ratio to the second program | Multiple of the line above |%s\n|---|---|---|---|---|---|%s\n", title,
+              with_times ? " Engine, microseconds |" : "", with_times ? "---|" : "");
 }
 
-// Of some hundred confluent models the one whose text is nearest to this length.
-Model nearest(std::uint64_t bytes) {
-  Random random(bytes);
-  Model best;
-  std::uint64_t off = UINT64_MAX;
-  for (unsigned turn = 0; turn < 300; ++turn) {
-    const auto family = bytes == second::max_text ? second::Family::text_32768 : turn % 2 == 0 ? second::Family::confluent : second::Family::sharing;
-    const Model model = second::generate(random, family, turn % 3 == 0 ? second::Size::medium : second::Size::large);
-    const std::uint64_t length = second::text_of_model(model).size();
-    const std::uint64_t away = length > bytes ? length - bytes : bytes - length;
-    if (away < off) {
-      off = away;
-      best = model;
-    }
+// One line for each subject; the cost is also given as a multiple of that on the line above, to show how it grows. All take turns, so that
+// lines can be compared too.
+template <class Make>
+void lines(const std::vector<Subject>& subjects, Make make) {
+  std::vector<Work> works;
+  const char* call = "";
+  for (const Subject& s : subjects) {
+    const Pair pair = make(s);
+    call = pair.call;
+    works.push_back(pair.engine);
+    works.push_back(pair.second);
+    pair.engine();
+    if (lent_out.answer.kind == FLOODNEEDLE_REFUSED) std::printf("%s is refused: ", s.name.c_str());
   }
-  return best;
-}
-
-// Of some hundred models that never settle the one with the most rows.
-Model longest_endless() {
-  Random random(1);
-  Model best;
-  for (unsigned turn = 0; turn < 200; ++turn) {
-    const Model model = second::generate(random, second::Family::endless, second::Size::large);
-    if (best.components.empty() || second::count_rows(model) > second::count_rows(best)) best = model;
+  const std::vector<double> cost = least(works);
+  for (std::size_t i = 0; i < subjects.size(); ++i) {
+    const Subject& s = subjects[i];
+    const double engine = cost[2 * i];
+    std::printf("| %s | %s | %llu | %zu | %.3f | ", call, s.name.c_str(), (unsigned long long)second::count_rows(s.model), s.text.size(),
+                engine / cost[2 * i + 1]);
+    if (i > 0) std::printf("%.2f |", engine / cost[2 * i - 2]);
+    else std::printf("|");
+    if (with_times) std::printf(" %.2f |", engine * 1e6);
+    std::printf("\n");
   }
-  return best;
-}
-
-void line(const char* call, const Subject& s, double engine, double other) {
-  std::printf("%-12s %-8s %6zu bytes %5llu rows   ratio to the second program %6.3f\n", call, s.name, s.text.size(),
-              (unsigned long long)second::count_rows(s.model), engine / other);
   std::fflush(stdout);
 }
 
-// Each call that the engine exports, on one model; returns the engine's own costs for the lines on growth.
-void measure(const Subject& s, std::vector<std::pair<std::string, double>>& costs) {
-  [[maybe_unused]] floodneedle_answer answer;
-  [[maybe_unused]] After after;
-  Table into(second::image_words), spare(second::image_words);
-  Bytes out(second::max_text), trace(second::max_budget);
-  [[maybe_unused]] const auto both = [&](const char* call, const std::function<void()>& engine, const std::function<void()>& other) {
-    const double ours = cost(engine);
-    costs.emplace_back(call, ours);
-    line(call, s, ours, cost(other));
-  };
-#ifdef HAVE_RECOGNISE
-  both("recognise", [&] { floodneedle_recognise(front(s.table), s.table.size()); }, [&] { second::recognise(lent(s.table)); });
-#endif
-#ifdef HAVE_CHECK_TEXT
-  both("check_text", [&] { floodneedle_check_text(front(s.text), s.text.size(), &answer); },
-       [&] { second::read(lent(s.text), {front(into), into.size()}); });
-#endif
-#ifdef HAVE_READ
-  both("read", [&] { floodneedle_read(front(s.text), s.text.size(), front(into), into.size(), &answer); },
-       [&] { second::read(lent(s.text), {front(into), into.size()}); });
-#endif
-#ifdef HAVE_WRITE
-  both("write", [&] { floodneedle_write(front(s.table), s.table.size(), front(out), out.size(), &answer); },
-       [&] { second::write(lent(s.table), {front(out), out.size()}); });
-#endif
-#ifdef HAVE_ACCEPT
-  both("accept", [&] { floodneedle_accept(front(s.table), s.table.size(), &answer); }, [&] { second::accept(lent(s.table)); });
-#endif
-#ifdef HAVE_CONFLUENT
-  both("confluent", [&] { floodneedle_confluent(front(s.table), s.table.size(), &answer); },
-       [&] { second::confluent(lent(s.table)); });
-#endif
-#ifdef HAVE_STEP
-  both("step", [&] { floodneedle_step(front(s.table), s.table.size(), front(s.state), s.state.size(), after.data(), &answer); },
-       [&] { second::step(lent(s.table), lent(s.state)); });
-#endif
-#ifdef HAVE_SETTLE
-  for (std::uint64_t budget : {std::uint64_t{100}, second::max_budget})
-    both(budget == 100 ? "settle 100" : "settle 4096",
-         [&] {
-           floodneedle_settle(front(s.table), s.table.size(), front(s.state), s.state.size(), budget, front(trace), trace.size(),
-                              after.data(), &answer);
-         },
-         [&] { second::settle(lent(s.table), lent(s.state), budget, {front(trace), trace.size()}); });
-#endif
-#ifdef HAVE_TIMED_STEP
-  Random random(7);
-  const Clocks start = second::generate_ticks(random);
-  Clocks clocks = start;
-  both("timed_step",
-       [&] {
-         clocks = start;
-         floodneedle_timed_step(front(s.table), s.table.size(), front(s.calm), s.calm.size(), front(clocks), clocks.size(),
-                                after.data(), &answer);
-       },
-       [&] {
-         clocks = start;
-         second::timed_step(lent(s.table), lent(s.calm), {front(clocks), clocks.size()});
-       });
-#endif
-#ifdef HAVE_MERGE
-  both("merge", [&] { floodneedle_merge(front(s.table), s.table.size(), 0, front(spare), spare.size(), &answer); },
-       [&] { second::merge(lent(s.table), 0, {front(spare), spare.size()}); });
-#endif
-}
-
-// What one more settling step costs, beside a step of the bare loop: a long run less a run of no step.
-void measure_step(const Subject& s) {
-#ifdef HAVE_SETTLE
-  floodneedle_answer answer;
-  After after;
-  Bytes trace(second::max_budget), state;
-  std::uint64_t resets = 0, steps = 0;
-  const auto run = [&](std::uint64_t budget) {
-    floodneedle_settle(front(s.table), s.table.size(), front(s.state), s.state.size(), budget, front(trace), trace.size(), after.data(),
-                       &answer);
-    steps = answer.count;
-  };
-  const double whole = cost([&] { run(second::max_budget); });
-  const double taken = static_cast<double>(steps);
-  const double none = cost([&] { run(0); });
-  const double bare = cost([&] {
-    state = s.state;
-    bare_settle(front(s.table), front(state), second::max_budget, front(trace), &resets);
-  });
-  if (taken >= 1000)
-    std::printf("%-12s %-8s %6.0f steps              ratio to the bare loop      %6.3f\n", "one step", s.name, taken,
-                (whole - none) / bare);
-#else
-  (void)s;
-#endif
+// What one more settling step costs: a run of 4,096 steps less a run of none, by each program, and the bare loop's run.
+void step_lines(const std::vector<Subject>& subjects) {
+  std::printf("\nOne settling step\n\n| Model | Rows | Ratio to the second program | Ratio to the bare loop |%s\n|---|---|---|---|%s\n",
+              with_times ? " Engine, nanoseconds |" : "", with_times ? "---|" : "");
+  std::vector<Work> works;
+  for (const Subject& s : subjects) {
+    const Pair whole = settle(s, second::max_budget), none = settle(s, 0);
+    const Work bare = [&s] {
+      Bytes state = s.state;
+      kept += bare_settle(words(s), state.data(), second::max_budget, lent_out.out.data(), &kept);
+    };
+    works.insert(works.end(), {whole.engine, none.engine, whole.second, none.second, bare});
+  }
+  const std::vector<double> costs = least(works);
+  for (std::size_t i = 0; i < subjects.size(); ++i) {
+    const double* cost = costs.data() + 5 * i;
+    const double engine = cost[0] - cost[1];
+    std::printf("| %s | %llu | %.3f | %.2f |", subjects[i].name.c_str(), (unsigned long long)second::count_rows(subjects[i].model),
+                engine / (cost[2] - cost[3]), engine / cost[4]);
+    if (with_times) std::printf(" %.1f |", engine / second::max_budget * 1e9);
+    std::printf("\n");
+  }
+  std::fflush(stdout);
 }
 
 }  // namespace
 
-int main(int count, char** words) {
-  if (count > 1) milliseconds = std::atof(words[1]);
-  std::vector<Subject> subjects;
-  subjects.push_back(subject("1 KB", nearest(1024), 1));
-  subjects.push_back(subject("8 KB", nearest(8192), 2));
-  subjects.push_back(subject("32 KB", nearest(second::max_text), 3));
-  Random random(3);
-  subjects.push_back(subject("rows", second::generate(random, second::Family::rows_1024, second::Size::large), 4));
-  subjects.push_back(subject("endless", longest_endless(), 5));
-  std::vector<std::vector<std::pair<std::string, double>>> costs(subjects.size());
-  for (std::size_t i = 0; i < subjects.size(); ++i) {
-    measure(subjects[i], costs[i]);
-    measure_step(subjects[i]);
-  }
-  std::printf("\nthe engine's own cost, as a multiple of that on the first model\n%-12s", "");
-  for (const Subject& s : subjects) std::printf(" %9s", s.name);
-  std::printf("\n%-12s", "rows");
-  for (const Subject& s : subjects) std::printf(" %9llu", (unsigned long long)second::count_rows(s.model));
-  std::printf("\n%-12s", "bytes");
-  for (const Subject& s : subjects) std::printf(" %9zu", s.text.size());
-  for (std::size_t c = 0; c < costs[0].size(); ++c) {
-    std::printf("\n%-12s", costs[0][c].first.c_str());
-    for (const auto& column : costs) std::printf(" %9.2f", column[c].second / costs[0][c].second);
-  }
-  std::printf("\n");
-  return 0;
+int main(int count, char** arguments) {
+  with_times = count > 1 && std::string(arguments[1]) == "times";
+
+  const std::vector<Subject> texts = {long_rows(2), long_rows(16), long_rows(64)};
+  head("Texts of 1 KB, 8 KB and 32 KB");
+  lines(texts, check_text);
+#ifdef HAVE_READ
+  lines(texts, read);
+#endif
+  lines(texts, write);
+  lines(texts, recognise);
+
+  const std::vector<Subject> sizes = {paper_model(),     one_component(8),    one_component(16), one_component(32),
+                                      one_component(64), many_components(16), slow_sets()};
+  head("The checks: small, from 128 to 1,024 rows in one component, 1,024 rows in 16 components, and sets that shrink slowly");
+  lines(sizes, recognise);
+  lines(sizes, accept);
+  lines(sizes, confluent);
+
+  const std::vector<Subject> running = {paper_model(), many_components(2), many_components(8), many_components(16)};
+  head("One step, and settling with a budget of 100");
+  lines(running, step);
+  lines(running, [](const Subject& s) { return settle(s, 100); });
+
+  step_lines({few_move(2), few_move(8), few_move(16), all_move(2), all_move(8), all_move(16)});
+
+  const std::vector<Subject> timing = {waiting(1), waiting(4), waiting(16)};
+  head("The timed step");
+  lines(timing, timed_step);
+
+#ifdef HAVE_MERGE
+  const std::vector<Subject> merging = {paper_model(), to_merge(4), to_merge(8)};
+  head("Merging components 0 and 1, into 8, 256 and 1,024 rows");
+  lines(merging, merge);
+#endif
+  return kept == 1 ? 1 : 0;
 }

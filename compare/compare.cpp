@@ -16,16 +16,6 @@ constexpr std::uint64_t least = 800;  // models enough to meet every outcome of 
 
 std::uint64_t number(const char* word) { return std::strtoull(word, nullptr, 10); }
 
-void try_stated() {
-  stated_paper();
-  stated_texts();
-  stated_tables();
-  stated_models();
-  stated_runs();
-  stated_clocks();
-  stated_merges();
-}
-
 // The models from `first` on, until `enough` says so.
 template <class Enough>
 void try_models(std::uint64_t seed, std::uint64_t first, Enough enough) {

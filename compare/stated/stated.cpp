@@ -16,6 +16,16 @@ Said of_kind(floodneedle_kind kind, const Bytes& after) {
 
 }  // namespace
 
+void try_stated() {
+  stated_paper();
+  stated_texts();
+  stated_tables();
+  stated_models();
+  stated_runs();
+  stated_clocks();
+  stated_merges();
+}
+
 Said refused(std::uint64_t number, std::initializer_list<std::uint64_t> place) {
   Said said = of_kind(FLOODNEEDLE_REFUSED);
   said.answer.number = number;

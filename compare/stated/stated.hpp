@@ -6,6 +6,8 @@
 #include "../tally.hpp"
 #include "texts.hpp"
 
+void try_stated();
+
 // Each is a file of its own.
 void stated_paper();
 void stated_texts();

@@ -1,5 +1,5 @@
 -- How long the text of a sane table can be: no sum of lengths comes near the machine's limit.
-use mathlib.Core.Path.{_≡_, ap}
+use mathlib.Core.Path.{_≡_, sym}
 use mathlib.Core.List.{List}
 use Prim.Native.Nat.{ℕ, zero, suc, _+_, _*_, _-_, _≤_, _<_}
 use native.Mathlib.Numerals.{add-one}
@@ -10,13 +10,12 @@ use Rattle.laws.specs.Sets.{_∪_, _∖_}
 use Rattle.laws.proofs.FoldLaws.{tab-length}
 use Rattle.laws.proofs.TabLaws.{spread-length, sum-at-most}
 use Rattle.answer.specs.Limits.{maxStates, maxRows, maxComponents}
-use Rattle.iosa.specs.Model.{Comp}
-use Rattle.iosa.specs.Text.{decimal, compLine, rowLines, compText, textOf}
+use Rattle.iosa.specs.Text.{rowLines, compText, textOf}
 use Rattle.layout.specs.Layout.{countOf, blockWord, firstOf}
 use Rattle.layout.specs.Image.{rowIn, rowsLeaving, compOf, modelOf, Sane}
-use Rattle.measure.specs.Measure.{actLines, clkLines, perMember}
+use Rattle.measure.specs.Measure.{bare}
 use Rattle.measure.proofs.Fields.{width-most, members-most}
-use Rattle.measure.proofs.Lines.{comp-line, clks-width, acts-width, rows-most, comp-width, text-more, no-text}
+use Rattle.measure.proofs.Lines.{rows-most, bare-width, comp-by-head, text-more, no-text}
 
 -- bytes of a component beside its rows
 abbrev pub headBytes : ℕ
@@ -26,20 +25,18 @@ headBytes = 5000
 abbrev pub compBytes : ℕ
 compBytes = headBytes + 512 * (maxRows * maxStates)
 
-pub head-most : (c : Comp) → length (compLine c) + length (actLines c) + length (clkLines c) ≤ headBytes
-head-most c =
+pub bare-most : (states start ins outs uins uouts clocks : ℕ) → length (compText (bare states start ins outs uins uouts clocks)) ≤ headBytes
+bare-most states start ins outs uins uouts clocks =
     omega (
       arith,
-      comp-line c,
-      width-most (c .states),
-      width-most (c .start),
-      acts-width c,
-      members-most (c .ins) 8,
-      members-most (c .outs ∖ c .ins) 9,
-      members-most (c .uins ∖ (c .ins ∪ c .outs)) 9,
-      members-most (c .uouts ∖ (c .ins ∪ c .outs ∪ c .uins)) 10,
-      clks-width c,
-      members-most (c .clocks) 7,
+      bare-width states start ins outs uins uouts clocks,
+      width-most states,
+      width-most start,
+      members-most ins 8,
+      members-most (outs ∖ ins) 9,
+      members-most (uins ∖ (ins ∪ outs)) 9,
+      members-most (uouts ∖ (ins ∪ outs ∪ uins)) 10,
+      members-most clocks 7,
     )
 
 module _ (t : List ℕ) (ok : Sane t) where
@@ -58,7 +55,9 @@ module _ (t : List ℕ) (ok : Sane t) where
       )
 
   pub comp-most : (i : ℕ) → i < maxComponents → length (compText (compOf t i)) ≤ compBytes
-  comp-most i h = omega (arith, comp-width (compOf t i), head-most (compOf t i), rows-most (compOf t i .rows), rows-few i h)
+  comp-most i h =
+      let c = compOf t i in
+      omega (arith, comp-by-head c, bare-most (c .states) (c .start) (c .ins) (c .outs) (c .uins) (c .uouts) (c .clocks), rows-most (c .rows), rows-few i h)
 
   pub comps-most : (k n : ℕ) → k + n ≤ maxComponents → length (textOf (tab (compOf t) k n)) ≤ compBytes * n
   comps-most k zero h = omega (arith, no-text)
@@ -80,20 +79,8 @@ pub all-comps : (t : List ℕ) (count : ℕ) → count ≡ countOf t → length 
 unfolding modelOf
 all-comps t count p = let e : count - 0 ≡ countOf t = omega arith in rw e
 
-pub comp-counted : (t : List ℕ) (i p q r a b d n m : ℕ) → p ≡ blockWord t i 0 → q ≡ blockWord t i 1 → r ≡ blockWord t i 6
-    → a ≡ length (decimal p) → b ≡ length (decimal q) → d ≡ perMember r 7 → n ≡ length (actLines (compOf t i)) → m ≡ length (rowLines (compOf t i .rows))
-    → 7 + a + b + n + d + m ≡ length (compText (compOf t i))
+pub comp-counted : (t : List ℕ) (i p q ins outs uins uouts r n m : ℕ)
+    → p ≡ blockWord t i 0 → q ≡ blockWord t i 1 → ins ≡ blockWord t i 2 → outs ≡ blockWord t i 3 → uins ≡ blockWord t i 4 → uouts ≡ blockWord t i 5 → r ≡ blockWord t i 6
+    → n ≡ length (compText (bare p q ins outs uins uouts r)) → m ≡ length (rowLines (compOf t i .rows)) → n + m ≡ length (compText (compOf t i))
 unfolding compOf
-comp-counted t i p q r a b d n m hp hq hr ha hb hd hn hm =
-    omega (
-      arith,
-      comp-width (compOf t i),
-      comp-line (compOf t i),
-      clks-width (compOf t i),
-      ha,
-      hb,
-      hd,
-      ap (λ n. length (decimal n)) hp,
-      ap (λ n. length (decimal n)) hq,
-      ap (λ n. perMember n 7) hr,
-    )
+comp-counted t i p q ins outs uins uouts r n m hp hq hi ho hu hv hr hn hm = rw (hn, hm, hp, hq, hi, ho, hu, hv, hr) (sym (comp-by-head (compOf t i)))

@@ -13,7 +13,7 @@ use Rattle.laws.proofs.TabLaws.{tab-same, tab-next, tab-done, spread-next, spre
 use Rattle.answer.specs.Limits.{maxActions, maxClocks}
 use Rattle.iosa.specs.Model.{Row, Comp, Model}
 use Rattle.iosa.specs.Text.{Kind, in-kind, out-kind, uin-kind, uout-kind, kindWord, decimal, guardField, setField, fieldsAfter, compLine, actLine, clkLine, rowLine, kindOf, actPart, clkPart, rowLines, compText, textOf}
-use Rattle.measure.specs.Measure.{actLines, clkLines, perMember}
+use Rattle.measure.specs.Measure.{actLines, clkLines, perMember, kindsWidth, bare}
 use Rattle.measure.proofs.Fields.{width-1, width-most, set-most, guard-most}
 
 -- ---- lines
@@ -95,11 +95,7 @@ module _ (i o u v : ℕ) where
   abbrev uouts : ℕ → ℕ
   uouts a = cond (has (v ∖ (i ∪ o ∪ u)) a) (10 + length (decimal a)) 0
 
-  -- each kind's lines, by the members that no earlier kind has
-  abbrev pub kindsWidth : ℕ
-  kindsWidth = perMember i 8 + perMember (o ∖ i) 9 + perMember (u ∖ (i ∪ o)) 9 + perMember (v ∖ (i ∪ o ∪ u)) 10
-
-  four-sums : sum (tab (λ a. ins a + outs a + uins a + uouts a) 0 maxActions) ≡ kindsWidth
+  four-sums : sum (tab (λ a. ins a + outs a + uins a + uouts a) 0 maxActions) ≡ kindsWidth i o u v
   unfolding perMember
   four-sums =
       sum-add (λ a. ins a + outs a + uins a) uouts 0 maxActions
@@ -144,6 +140,19 @@ pub comp-width : (c : Comp) → length (compText c)
     ≡ length (compLine c) + length (actLines c) + length (clkLines c) + length (rowLines (c .rows))
 unfolding compText actLines clkLines
 comp-width c = four-parts (compLine c) (spread (actPart c) 0 maxActions) (spread (clkPart c) 0 maxClocks) (rowLines (c .rows))
+
+module _ (states start ins outs uins uouts clocks : ℕ) where
+  pub bare-width : length (compText (bare states start ins outs uins uouts clocks))
+      ≡ 7 + length (decimal states) + length (decimal start) + kindsWidth ins outs uins uouts + perMember clocks 7
+  unfolding bare
+  bare-width =
+      let c = bare states start ins outs uins uouts clocks in
+      omega (arith, comp-width c, comp-line c, acts-width c, clks-width c, no-rows)
+
+-- a component is its lines beside the rows, and its rows
+pub comp-by-head : (c : Comp) → length (compText c) ≡ length (compText (bare (c .states) (c .start) (c .ins) (c .outs) (c .uins) (c .uouts) (c .clocks))) + length (rowLines (c .rows))
+comp-by-head c =
+    omega (arith, bare-width (c .states) (c .start) (c .ins) (c .outs) (c .uins) (c .uouts) (c .clocks), comp-width c, comp-line c, acts-width c, clks-width c)
 
 pub text-more : (c : Comp) (m : Model) → length (textOf (c ∷ m)) ≡ length (compText c) + length (textOf m)
 unfolding textOf

@@ -1,9 +1,9 @@
 -- Bytes by the members of a set (01, "The model text").
 use mathlib.Core.Bool.{cond}
-use mathlib.Core.List.{List}
+use mathlib.Core.List.{List, []}
 use Prim.Native.Nat.{ℕ, _+_}
 use lib.ListN.{length}
-use Rattle.laws.specs.Sets.{has}
+use Rattle.laws.specs.Sets.{has, _∪_, _∖_}
 use Rattle.laws.specs.Fold.{tab, spread, sum}
 use Rattle.sets.specs.Members.{wordBits}
 use Rattle.answer.specs.Limits.{maxActions, maxClocks}
@@ -24,3 +24,12 @@ mostBeside = 10
 -- the bytes of all members of s in decimal, with e bytes beside each
 unfoldable pub perMember : ℕ → ℕ → ℕ
 perMember s e = sum (tab (λ x. cond (has s x) (e + length (decimal x)) 0) 0 wordBits)
+
+-- each kind's lines, by the members that no earlier kind has
+abbrev pub kindsWidth : ℕ → ℕ → ℕ → ℕ → ℕ
+kindsWidth i o u v = perMember i 8 + perMember (o ∖ i) 9 + perMember (u ∖ (i ∪ o)) 9 + perMember (v ∖ (i ∪ o ∪ u)) 10
+
+-- a component with no rows, and no clock started: its text is the lines beside the rows
+unfoldable pub bare : ℕ → ℕ → ℕ → ℕ → ℕ → ℕ → ℕ → Comp
+bare states start ins outs uins uouts clocks =
+    record { states = states; start = start; ins = ins; outs = outs; uins = uins; uouts = uouts; clocks = clocks; started = 0; rows = [] }

@@ -7,7 +7,7 @@ ghost use Rattle.answer.specs.Limits.{maxComponents, maxRows};
 ghost use Rattle.iosa.specs.Text.{decimal, guardField, setField, rowLine, rowLines, compText, textOf};
 ghost use Rattle.layout.specs.Layout.{imageWords};
 ghost use Rattle.layout.specs.Image.{rowIn, compOf, modelOf, Sane};
-ghost use Rattle.measure.specs.Measure.{actLines, mostBeside, perMember};
+ghost use Rattle.measure.specs.Measure.{mostBeside, perMember, kindsWidth, bare};
 
 // The numbers of one digit, as a set.
 const LOW: u64 = 1023;
@@ -110,15 +110,10 @@ fn states_width(t: &[u64], i: usize) -> usize
     sum
 }
 
-// The `act` lines: an action in two sets, which no image has, would count for the first.
-fn acts_width(t: &[u64], i: usize) -> usize
-    requires { ⌜ (imageWords ≤ length (now t)) × (i < maxComponents) ⌝ }
-    ensures { λ n. ⌜ n ≡ length (actLines (compOf (now (t .entry)) i)) ⌝ }
+// The `act` lines by the four sets: an action in two of them, which no image has, would count for the first.
+fn kinds_width(ins: u64, outs: u64, uins: u64, uouts: u64) -> usize
+    ensures { λ n. ⌜ n ≡ kindsWidth ins outs uins uouts ⌝ }
 {
-    let ins = layout::block_word(t, i, layout::INS);
-    let outs = layout::block_word(t, i, layout::OUTS);
-    let uins = layout::block_word(t, i, layout::UINS);
-    let uouts = layout::block_word(t, i, layout::UOUTS);
     let two = sets::union(ins, outs);
     let three = sets::union(two, uins);
     per_member(ins, ACT_IN)
@@ -127,14 +122,37 @@ fn acts_width(t: &[u64], i: usize) -> usize
         + per_member(sets::minus(uouts, three), ACT_UOUT)
 }
 
-fn comp_width(t: &[u64], i: usize) -> usize
+// The lines of a component beside its rows, by its numbers and sets.
+pub fn head_width(
+    states: u64,
+    start: u64,
+    ins: u64,
+    outs: u64,
+    uins: u64,
+    uouts: u64,
+    clocks: u64,
+) -> usize
+    ensures { λ n. ⌜ n ≡ length (compText (bare states start ins outs uins uouts clocks)) ⌝ }
+{
+    COMP
+        + width(states)
+        + width(start)
+        + kinds_width(ins, outs, uins, uouts)
+        + per_member(clocks, CLK)
+}
+
+pub fn comp_width(t: &[u64], i: usize) -> usize
     requires { ⌜ Sane (now t) × (i < maxComponents) ⌝ }
     ensures { λ n. ⌜ n ≡ length (compText (compOf (now (t .entry)) i)) ⌝ }
 {
-    let states = width(layout::block_word(t, i, layout::STATES));
-    let start = width(layout::block_word(t, i, layout::START));
-    let clocks = per_member(layout::block_word(t, i, layout::CLOCKS), CLK);
-    COMP + states + start + acts_width(t, i) + clocks + states_width(t, i)
+    let states = layout::block_word(t, i, layout::STATES);
+    let start = layout::block_word(t, i, layout::START);
+    let ins = layout::block_word(t, i, layout::INS);
+    let outs = layout::block_word(t, i, layout::OUTS);
+    let uins = layout::block_word(t, i, layout::UINS);
+    let uouts = layout::block_word(t, i, layout::UOUTS);
+    let clocks = layout::block_word(t, i, layout::CLOCKS);
+    head_width(states, start, ins, outs, uins, uouts, clocks) + states_width(t, i)
 }
 
 // The length of the text of the table's model.

@@ -4,8 +4,7 @@ use mathlib.Core.Option.{Option, none, some, Option·some-inj}
 use mathlib.Core.List.{List}
 use Prim.Native.Nat.{ℕ}
 use native.Mathlib.Omega.{arith}
-use Rattle.answer.specs.Told.{Told, told, Answer, answered, refused, asRefused, saysChecked}
-use Rattle.answer.specs.declared.Refusal.{Refusal}
+use Rattle.answer.specs.Told.{Told, told, Answer, refused, asRefused, saysChecked}
 use Rattle.answer.specs.declared.Checked.{Checked}
 use Rattle.answer.specs.declared.Checked.the-variants.{Fine, Refused}
 use Rattle.answer.proofs.ToldFixes.{told-fixes}

@@ -1,2 +1,4 @@
+pub mod Called
 pub mod Determined
+pub mod Exactly
 pub mod Written

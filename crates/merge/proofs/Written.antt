@@ -1,11 +1,10 @@
 -- What the contract of `merge` says where it answers: the front of the buffer is the image of the model with the product in the place of the two, and the rest is as it was.
-use mathlib.Core.Path.{_≡_, refl, sym, _∙_, ap}
+use mathlib.Core.Path.{_≡_, sym, _∙_, ap}
 use mathlib.Core.List.{List, _++_}
 use Prim.Native.Nat.{ℕ}
-use native.Mathlib.Omega.{arith}
 use lib.ListN.{length, take, drop}
 use lib.Seq.{take-at, drop-at}
-use Rattle.answer.specs.Told.{Answer, answered, refused}
+use Rattle.answer.specs.Told.{answered}
 use Rattle.answer.specs.declared.Checked.{Checked}
 use Rattle.iosa.specs.Model.{Model}
 use Rattle.iosa.specs.Merge.{mergeOf}
@@ -15,7 +14,6 @@ use Rattle.layout.specs.Layout.{imageWords}
 use Rattle.layout.specs.Image.{imageOf, modelOf, Image}
 use Rattle.layout.proofs.ReadBack.{length-of-image}
 use Rattle.layout.proofs.RowsOfRange.{well-formed}
-use Rattle.table.specs.OnTable.{onTable}
 use Rattle.table.proofs.OnTableLaws.{on-image}
 use Rattle.table.proofs.ImageExactly.{image-exactly}
 use Rattle.merge.specs.Merging.{roomFault, mergeOn, writtenOf, Merging}

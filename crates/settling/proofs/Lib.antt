@@ -1,4 +1,5 @@
 pub mod Plus
 pub mod Reached
+pub mod Rests
 pub mod Onward
 pub mod Listed

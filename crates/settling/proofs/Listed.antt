@@ -1,5 +1,5 @@
 -- Settling by a list: the actions done, before what the rest of the list does.
-use mathlib.Core.Path.{_≡_, refl, sym, ap, ap₂, _∙_}
+use mathlib.Core.Path.{_≡_, refl, sym, ap, ap₂, subst, _∙_}
 use mathlib.Core.Bool.{Bool, true, false, not}
 use mathlib.Core.Option.{Option, none, some}
 use mathlib.Core.List.{List, [], _∷_}
@@ -15,6 +15,7 @@ use Rattle.laws.proofs.SetLaws.{or-assoc}
 use Rattle.answer.specs.Limits.{maxActions, maxComponents}
 use Rattle.answer.specs.Told.{Told, tell, Answer, answered, refused}
 use Rattle.answer.specs.declared.State.{State}
+use Rattle.answer.specs.declared.Settled.{Settled}
 use Rattle.answer.specs.State.{partsOf, withParts}
 use Rattle.iosa.specs.Model.{Model}
 use Rattle.iosa.specs.Automaton.{Conforming, Joinable}
@@ -24,9 +25,8 @@ use Rattle.layout.specs.Image.{modelOf}
 use Rattle.moves.specs.Moves.{resetAll, afterAll, movedAll, offersAll, lowestAll}
 use Rattle.moves.proofs.StepsByOffers.{offered-step, no-offer-no-step}
 use Rattle.moves.proofs.Along.{drop-out}
-use Rattle.settling.specs.Gives.{Ready, SettlingGives}
+use Rattle.settling.specs.Gives.{Ready, EndsAt, SettlingGives, SettleAnswers}
 use Rattle.settling.proofs.Reached.{Reached, reached-first, next-parts, reached-next}
-use Rattle.moves.proofs.Lowest.{lowest-here, lowest-nowhere}
 
 -- k listed actions done, with resets r, before what d says
 unfoldable pub plusListed : ℕ → ℕ → Answer (Settling (List ℕ)) → Answer (Settling (List ℕ))
@@ -106,21 +106,13 @@ module _ (t list : List ℕ) (x : State) where
           ∙ ap (plusListed i resets) (play-stop (modelOf t) i list (partsOf cur) h (rw here at (no-offer-no-step (modelOf t) good fit (partsOf cur) (at .reached .standing .within) a o)))
 
     -- the end of the list
-    module _ (h : length list ≤ i) (a : ℕ) (e : a ≡ lowestAll (modelOf t) (partsOf cur)) where
-      pub plays-all : (b : Bool) → isStable (modelOf t) (partsOf cur) ≡ b
-          → play (modelOf t) 0 list (partsOf x) ≡ answered (record { stable = b; steps = i; resets = resets; trace = []; state = partsOf cur })
-      unfolding plusListed
-      plays-all b f =
-          let n : i + 0 ≡ i = omega arith in
-          let z = or-zero-r resets in
-          sym (at .run)
-          ∙ ap (plusListed i resets) (play-end (modelOf t) i list (partsOf cur) h ∙ ap (λ v. answered (resting v (partsOf cur))) f)
-          ∙ (λ j. answered (record { stable = b; steps = n j; resets = z j; trace = []; state = partsOf cur }))
-
-      pub stable-here : maxActions ≤ a → isStable (modelOf t) (partsOf cur) ≡ true
-      unfolding isStable
-      stable-here k = ap (λ o. not (isSome o)) (lowest-nowhere (modelOf t) good fit (partsOf cur) (at .reached .standing .within) a e k)
-
-      pub unstable-here : a < maxActions → isStable (modelOf t) (partsOf cur) ≡ false
-      unfolding isStable
-      unstable-here k = ap (λ o. not (isSome o)) (lowest-here (modelOf t) good fit (partsOf cur) (at .reached .standing .within) a e k)
+    pub plays-all : length list ≤ i → (r : Settled) → EndsAt (modelOf t) cur i resets r → SettleAnswers (play (modelOf t) 0 list (partsOf x)) x r
+    unfolding plusListed
+    plays-all h r e =
+        let n : i + 0 ≡ i = omega arith in
+        let z = or-zero-r resets in
+        let b = isStable (modelOf t) (partsOf cur) in
+        subst (λ (v : Answer (Settling (List ℕ))). SettleAnswers v x r)
+        (sym (ap (plusListed i resets) (play-end (modelOf t) i list (partsOf cur) h) ∙ (λ j. answered (record { stable = b; steps = n j; resets = z j; trace = []; state = partsOf cur })))
+        ∙ at .run)
+        (record { verdict = e .verdict; steps = e .steps-are; resets = e .resets-are; state = e .state ∙ sym (at .reached .same) })

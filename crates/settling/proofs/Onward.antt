@@ -1,6 +1,6 @@
 -- Where the loop that settles stands: the state reached, and the steps done before what is left.
 use mathlib.Core.Path.{_≡_, refl, sym, ap, ap₂, _∙_}
-use mathlib.Core.Bool.{Bool, true, false}
+use mathlib.Core.Bool.{Bool, true, false, not}
 use mathlib.Core.Option.{Option, none, some}
 use mathlib.Core.List.{List, [], _∷_, _++_, append-nil}
 use Prim.Native.Nat.{ℕ, zero, suc, _+_, _-_, _%_, _≤_, _<_}
@@ -12,19 +12,21 @@ use lib.Seq.{take-suc-set, drop-set-lt, drop-drop, length-take-le}
 use lib.Bits.{or-zero-r}
 use Rattle.laws.specs.Sets.{_∪_}
 use Rattle.answer.specs.Limits.{maxActions, maxComponents}
+use Rattle.answer.specs.Told.{answered}
 use Rattle.answer.specs.declared.State.{State}
+use Rattle.answer.specs.declared.Settled.{Settled}
 use Rattle.answer.specs.State.{partsOf, withParts}
 use Rattle.iosa.specs.Model.{Model}
 use Rattle.iosa.specs.Automaton.{Conforming, Joinable}
 use Rattle.iosa.specs.Product.{Within}
-use Rattle.iosa.specs.Step.{Gone, Went, urgentStep, lowest}
+use Rattle.iosa.specs.Step.{Gone, Went, urgentStep, lowest, isStable}
 use Rattle.iosa.specs.Settle.{Settling, resting, settle}
 use Rattle.layout.specs.Image.{modelOf}
 use Rattle.moves.specs.Moves.{resetAll, afterAll, movedAll, lowestAll}
-use Rattle.settling.specs.Gives.{Ready, traced}
+use Rattle.settling.specs.Gives.{Ready, EndsAt, SettleGives, TraceHolds, traced}
 use Rattle.settling.proofs.Reached.{Reached, reached-first, next-parts, reached-next}
-use Rattle.moves.proofs.Lowest.{lowest-here, lowest-nowhere}
-use Rattle.settling.proofs.Plus.{plus, plus-nothing, plus-step, settle-rests, settle-out}
+use Rattle.moves.proofs.Lowest.{lowest-here}
+use Rattle.settling.proofs.Plus.{plus, plus-nothing, plus-step, settle-ends}
 
 -- k steps of a run from x are done, with these resets, and cur is reached; the trace was old
 pub record Runs (t : List ℕ) (budget : ℕ) (x : State) (old : List ℕ) (cur : State) (resets k : ℕ) (trace : List ℕ) : Type 0 where
@@ -75,37 +77,24 @@ module _ (t : List ℕ) (budget : ℕ) (x : State) (old : List ℕ) where
           rest = drop-set-lt (k + 1) trace k (a % 256) (omega arith) ∙ sym (drop-drop 1 k trace) ∙ ap (drop 1) (at .rest) ∙ drop-drop 1 k old;
         }
 
--- what the answer and the trace are at the end, by what settling from x says
-pub record Ended (d : Settling (List ℕ)) (b : Bool) (x : State) (old : List ℕ) (cur : State) (R k : ℕ) (l : List ℕ) : Type 0 where
-  pub stable : b ≡ d .stable
-  pub steps : k ≡ d .steps
-  pub resets : R ≡ d .resets
-  pub state : cur ≡ withParts x (d .state)
-  pub trace : l ≡ traced (d .trace) old
-
+-- what the answer and the trace are at the end: no step is left, or the budget is used up
 module _ (t : List ℕ) (budget : ℕ) (x : State) (old : List ℕ) (cur : State) (resets k : ℕ) (trace : List ℕ) (at : Runs t budget x old cur resets k trace) where
-  ended : (b : Bool) → settle (urgentStep (modelOf t)) (budget - k) (partsOf cur) ≡ resting b (partsOf cur)
-      → Ended (settle (urgentStep (modelOf t)) budget (partsOf x)) b x old cur resets k trace
-  unfolding plus traced
-  ended b e =
+  pub ends : (isStable (modelOf t) (partsOf cur) ≡ false → budget ≤ k) → (r : Settled) → EndsAt (modelOf t) cur k resets r
+      → SettleGives (modelOf t) budget x r × TraceHolds (modelOf t) budget x old trace
+  unfolding plus traced isStable
+  ends h r f =
       let d = settle (urgentStep (modelOf t)) budget (partsOf x) in
+      let b = isStable (modelOf t) (partsOf cur) in
+      let e = settle-ends (urgentStep (modelOf t)) (budget - k) (partsOf cur) (λ some. let n = h (ap not some) in omega arith) in
       let w : plus k resets (take k trace) (resting b (partsOf cur)) ≡ d = ap (plus k resets (take k trace)) (sym e) ∙ at .run in
       let taken : d .trace ≡ take k trace = sym (ap (λ v. v .trace) w) ∙ append-nil (take k trace) in
-      let inside : k ≤ length trace = omega (arith, at .size, at .room, at .within) in
-      record {
-        stable = ap (λ v. v .stable) w;
-        steps = omega (arith, ap (λ v. v .steps) w);
-        resets = sym (or-zero-r resets) ∙ ap (λ v. v .resets) w;
-        state = sym (at .reached .same) ∙ ap (λ v. withParts x (v .state)) w;
-        trace =
-            sym (take-append-drop k trace)
-            ∙ ap₂ _++_ (sym taken) (at .rest ∙ ap (λ n. drop n old) (sym (ap length taken ∙ length-take-le k trace inside)));
-      }
-
-  module _ (good : Conforming (modelOf t)) (fit : Joinable (modelOf t)) (a : ℕ) (e : a ≡ lowestAll (modelOf t) (partsOf cur)) where
-    pub ends-stable : maxActions ≤ a → Ended (settle (urgentStep (modelOf t)) budget (partsOf x)) true x old cur resets k trace
-    ends-stable h = ended true (settle-rests (urgentStep (modelOf t)) (budget - k) (partsOf cur) (lowest-nowhere (modelOf t) good fit (partsOf cur) (at .reached .standing .within) a e h))
-
-    pub ends-unsettled : budget ≤ k → a < maxActions → Ended (settle (urgentStep (modelOf t)) budget (partsOf x)) false x old cur resets k trace
-    ends-unsettled h low = ended false (settle-out (urgentStep (modelOf t)) (budget - k) (partsOf cur) (record { action = a; gone = movedAll (modelOf t) (partsOf cur) a }) (omega arith)
-        (lowest-here (modelOf t) good fit (partsOf cur) (at .reached .standing .within) a e low))
+      let inside : k ≤ length trace = omega (arith, at .size, at .room, at .within) in (
+        record {
+          verdict = f .verdict ∙ ap (λ v. some (answered (v .stable))) w;
+          steps = omega (arith, f .steps-are, ap (λ v. v .steps) w);
+          resets = f .resets-are ∙ sym (or-zero-r resets) ∙ ap (λ v. v .resets) w;
+          state = f .state ∙ sym (at .reached .same) ∙ ap (λ v. withParts x (v .state)) w;
+        },
+        sym (take-append-drop k trace)
+            ∙ ap₂ _++_ (sym taken) (at .rest ∙ ap (λ n. drop n old) (sym (ap length taken ∙ length-take-le k trace inside))),
+      )

@@ -1,6 +1,6 @@
 -- What is done so far, before what is left: the invariant of the loop that settles.
 use mathlib.Core.Path.{_≡_, refl, sym, _∙_, ap}
-use mathlib.Core.Bool.{Bool, true, false}
+use mathlib.Core.Bool.{Bool, true, false, not}
 use mathlib.Core.Option.{Option, none, some}
 use mathlib.Core.List.{List, [], _∷_, _++_}
 use Prim.Native.Nat.{ℕ, zero, suc, _+_, _-_, _≤_, _<_}
@@ -9,6 +9,7 @@ use lib.ListN.{length}
 use lib.Seq.{append-snoc}
 use lib.Bits.{bitOr}
 use Rattle.laws.specs.Sets.{_∪_}
+use Rattle.laws.specs.Search.{isSome}
 use Rattle.laws.proofs.SetLaws.{or-assoc}
 use Rattle.iosa.specs.Step.{Gone, Went, lowest}
 use Rattle.iosa.specs.Settle.{Settling, resting, after, settle}
@@ -43,6 +44,17 @@ module _ {S : Type 0} (step : S → ℕ → Option (Gone S)) where
   pub settle-out : (n : ℕ) (s : S) (w : Went S) → n ≡ 0 → lowest step s ≡ some w → settle step n s ≡ resting false s
   unfolding settle
   settle-out n s w z e = rw z (rw (e, settle))
+
+  -- no step is left, or the budget is used up
+  pub settle-ends : (n : ℕ) (s : S) → (isSome (lowest step s) ≡ true → n ≡ 0) → settle step n s ≡ resting (not (isSome (lowest step s))) s
+  settle-ends n s h = go (lowest step s) refl
+    where
+      rested : (o : Option (Went S)) → lowest step s ≡ o → resting (not (isSome o)) s ≡ resting (not (isSome (lowest step s))) s
+      rested o e = ap (λ v. resting (not (isSome v)) s) (sym e)
+
+      go : (o : Option (Went S)) → lowest step s ≡ o → settle step n s ≡ resting (not (isSome (lowest step s))) s
+      go none e = settle-rests n s e ∙ rested none e
+      go (some w) e = settle-out n s w (h (ap isSome e)) e ∙ rested (some w) e
 
   -- one step more, of those that the budget still allows
   pub plus-step : (budget k r : ℕ) (l : List ℕ) (s : S) (w : Went S) → k < budget → lowest step s ≡ some w

@@ -25,6 +25,9 @@ pub record Reached (t : List ℕ) (x cur : State) : Type 0 where
 pub reached-first : (t : List ℕ) (x : State) → Ready t x → length (x .parts) ≡ maxComponents → Reached t x x
 reached-first t x r len = record { standing = r .standing; same = with-own-parts x (omega (arith, count-few t x (r .standing))); count = refl }
 
+pub reached-ready : (t : List ℕ) (x cur : State) → Ready t x → Reached t x cur → Ready t cur
+reached-ready t x cur r at = record { standing = at .standing; conforming = r .conforming; joinable = r .joinable }
+
 module _ (t : List ℕ) (x cur : State) (at : Reached t x cur) (a : ℕ) (next : State) (en : next ≡ withParts cur (afterAll (modelOf t) (partsOf cur) a)) where
   after-length : length (afterAll (modelOf t) (partsOf cur) a) ≡ cur .count
   after-length =

@@ -5,7 +5,7 @@ use mathlib.Core.List.{List, _++_}
 use Prim.Native.Nat.{ℕ}
 use lib.ListN.{length, drop}
 use Rattle.answer.specs.Limits.{noState}
-use Rattle.answer.specs.Told.{Answer, answered, refused, Step, saysOutcome, saysVerdict}
+use Rattle.answer.specs.Told.{Answer, answered, refused, Step, moved, saysOutcome, saysVerdict}
 use Rattle.answer.specs.State.{partsOf, withParts}
 use Rattle.answer.specs.declared.State.{State}
 use Rattle.answer.specs.declared.Refusal.{Refusal}
@@ -14,9 +14,10 @@ use Rattle.answer.specs.declared.Stepped.{Stepped}
 use Rattle.answer.specs.declared.Settled.{Settled}
 use Rattle.iosa.specs.Model.{Model}
 use Rattle.iosa.specs.Automaton.{Conforming, Joinable}
-use Rattle.iosa.specs.Step.{Stepping, taken, takenBy, named, lowest, urgentStep}
+use Rattle.iosa.specs.Step.{Stepping, taken, takenBy, named, lowest, urgentStep, isStable}
 use Rattle.iosa.specs.Settle.{Settling, settle}
 use Rattle.layout.specs.Image.{modelOf}
+use Rattle.moves.specs.Moves.{resetAll, afterAll}
 use Rattle.moves.specs.Standing.{Standing}
 
 -- an image of an accepted model, and a composed state of it
@@ -29,6 +30,11 @@ pub record Ready (t : List ℕ) (x : State) : Type 0 where
 pub record StepGives (v : Stepping) (x : State) (r : Stepped) : Type 0 where
   pub outcome : saysOutcome (r .outcome) ≡ some (answered (v .step))
   pub state : r .state ≡ withParts x (v .state)
+
+-- the answer says a step by this action
+pub record StepsBy (m : Model) (x : State) (a : ℕ) (r : Stepped) : Type 0 where
+  pub outcome : saysOutcome (r .outcome) ≡ some (answered (moved a (resetAll m (partsOf x) a)))
+  pub state : r .state ≡ withParts x (afterAll m (partsOf x) a)
 
 -- the step by our rule
 abbrev pub byRuleOf : Model → List ℕ → Stepping
@@ -53,6 +59,13 @@ pub record SettlingGives (d : Settling (List ℕ)) (x : State) (r : Settled) : T
   pub steps : r .steps ≡ d .steps
   pub resets : r .resets ≡ d .resets
   pub state : r .state ≡ withParts x (d .state)
+
+-- the answer says so many steps with these resets, and whether the state that they led to is stable
+pub record EndsAt (m : Model) (cur : State) (steps resets : ℕ) (r : Settled) : Type 0 where
+  pub verdict : saysVerdict (r .verdict) ≡ some (answered (isStable m (partsOf cur)))
+  pub steps-are : r .steps ≡ steps
+  pub resets-are : r .resets ≡ resets
+  pub state : r .state ≡ cur
 
 -- a settling, or a refusal, beside which all else is zero
 abbrev pub SettleAnswers : Answer (Settling (List ℕ)) → State → Settled → Type 0

@@ -11,8 +11,24 @@ ghost use Prim.Native.Nat.{ℕ, _≤_, _<_};
 ghost use lib.ListN.{length};
 ghost use Rattle.answer.specs.State.{partsOf};
 ghost use Rattle.layout.specs.Image.{modelOf};
-ghost use Rattle.settling.specs.Gives.{Ready, StepGives, StepAnswers, SettleGives, SettleAnswers, byRuleOf, byNameOf, TraceHolds, notEnabledAt};
+ghost use Rattle.settling.specs.Gives.{Ready, StepsBy, EndsAt, StepGives, StepAnswers, SettleGives, SettleAnswers, byRuleOf, byNameOf, TraceHolds, notEnabledAt};
 ghost use Rattle.iosa.specs.Settle.{play};
+
+// A step by an enabled urgent output.
+fn moved_by(t: &[u64], x: State, a: u64) -> Stepped
+    requires { ⌜ Ready (now t) x ⌝ }
+    ensures { λ r. ⌜ StepsBy (modelOf (now (t .entry))) x a r ⌝ }
+{
+    let m = moves::move_all(t, x, a);
+    let next = m.state;
+    Stepped {
+        outcome: Outcome::Moved {
+            action: a,
+            resets: m.resets,
+        },
+        state: next,
+    }
+}
 
 // One step by our rule: the lowest-numbered enabled urgent output, or stable.
 pub fn rule_step(t: &[u64], x: State) -> Stepped
@@ -21,15 +37,7 @@ pub fn rule_step(t: &[u64], x: State) -> Stepped
 {
     let a = moves::lowest_all(t, x);
     if a < answer::Model::ACTIONS as u64 {
-        let m = moves::move_all(t, x, a);
-        let next = m.state;
-        Stepped {
-            outcome: Outcome::Moved {
-                action: a,
-                resets: m.resets,
-            },
-            state: next,
-        }
+        moved_by(t, x, a)
     } else {
         Stepped {
             outcome: Outcome::Stable,
@@ -54,20 +62,30 @@ pub fn named_step(t: &[u64], x: State, a: u64) -> Stepped
     ensures { λ r. ⌜ StepAnswers (byNameOf (modelOf (now (t .entry))) (partsOf x) a) x r ⌝ }
 {
     if moves::offered(t, x, a) {
-        let m = moves::move_all(t, x, a);
-        let next = m.state;
-        Stepped {
-            outcome: Outcome::Moved {
-                action: a,
-                resets: m.resets,
-            },
-            state: next,
-        }
+        moved_by(t, x, a)
     } else {
         Stepped {
             outcome: Outcome::Refused(not_enabled(0)),
             state: answer::no_state(),
         }
+    }
+}
+
+// What settling answers after so many steps, which led to this state: stable or unsettled.
+fn ended(t: &[u64], cur: State, steps: usize, resets: u64) -> Settled
+    requires { ⌜ Ready (now t) cur ⌝ }
+    ensures { λ r. ⌜ EndsAt (modelOf (now (t .entry))) cur steps resets r ⌝ }
+{
+    let a = moves::lowest_all(t, cur);
+    Settled {
+        verdict: if a < answer::Model::ACTIONS as u64 {
+            Verdict::Unsettled
+        } else {
+            Verdict::Stable
+        },
+        steps,
+        resets,
+        state: cur,
     }
 }
 
@@ -82,12 +100,7 @@ pub fn by_rule(t: &[u64], x: State, budget: usize, trace: &mut [u8]) -> Settled
     while steps < budget {
         let a = moves::lowest_all(t, cur);
         if answer::Model::ACTIONS as u64 <= a {
-            return Settled {
-                verdict: Verdict::Stable,
-                steps,
-                resets,
-                state: cur,
-            };
+            return ended(t, cur, steps, resets);
         }
         let m = moves::move_all(t, cur, a);
         let next = m.state;
@@ -96,22 +109,7 @@ pub fn by_rule(t: &[u64], x: State, budget: usize, trace: &mut [u8]) -> Settled
         cur = next;
         steps += 1;
     }
-    let a = moves::lowest_all(t, cur);
-    if answer::Model::ACTIONS as u64 <= a {
-        Settled {
-            verdict: Verdict::Stable,
-            steps,
-            resets,
-            state: cur,
-        }
-    } else {
-        Settled {
-            verdict: Verdict::Unsettled,
-            steps,
-            resets,
-            state: cur,
-        }
-    }
+    ended(t, cur, steps, resets)
 }
 
 // Settling by a list: the listed actions in order.
@@ -138,22 +136,7 @@ pub fn by_list(t: &[u64], x: State, list: &[u8]) -> Settled
         cur = next;
         i += 1;
     }
-    let a = moves::lowest_all(t, cur);
-    if answer::Model::ACTIONS as u64 <= a {
-        Settled {
-            verdict: Verdict::Stable,
-            steps: i,
-            resets,
-            state: cur,
-        }
-    } else {
-        Settled {
-            verdict: Verdict::Unsettled,
-            steps: i,
-            resets,
-            state: cur,
-        }
-    }
+    ended(t, cur, i, resets)
 }
 
 fn wide(x: u8) -> u64

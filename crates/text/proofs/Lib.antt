@@ -3,3 +3,4 @@ pub mod WriteLaws
 pub mod WrittenFixes
 pub mod WriteDetermined
 pub mod ReadBack
+pub mod RoundTrip

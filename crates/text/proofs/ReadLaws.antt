@@ -1,13 +1,12 @@
 -- The promise of `read`, by the ways in which the call goes.
 use mathlib.Core.Path.{_≡_, refl, sym, _∙_, ap}
-use mathlib.Core.Option.{none, some}
-use mathlib.Core.Bool.{true, false}
-use mathlib.Core.List.{List, [], _∷_, _++_}
+use mathlib.Core.Option.{some}
+use mathlib.Core.List.{List, _++_}
 use Prim.Native.Nat.{ℕ, _*_, _≤_, _<_}
 use native.Mathlib.Omega.{arith}
 use lib.ListN.{length, drop}
 use borrow.Author.Tests.{lt-ltb, le-ltb}
-use Rattle.answer.specs.Told.{Told, told, Answer, answered, refused, asRefused, saysChecked}
+use Rattle.answer.specs.Told.{told, Answer, answered, refused, saysChecked}
 use Rattle.answer.specs.declared.Place.the-variants.{Bytes}
 use Rattle.answer.specs.declared.Refusal.{Refusal}
 use Rattle.answer.specs.declared.Checked.{Checked}
@@ -20,7 +19,7 @@ use Rattle.survey.specs.Survey.{checkedOf}
 use Rattle.reading.specs.Read.{wordBytes, tableTooShort, roomFor, readOn, withoutModel, tableAfter, ReadCall}
 use Rattle.reading.proofs.CheckedFixes.{checked-fixed}
 
-says-fine : saysChecked Fine ≡ some (answered tt)
+pub says-fine : saysChecked Fine ≡ some (answered tt)
 unfolding saysChecked
 says-fine = refl
 

@@ -23,7 +23,7 @@ too-short : (room : ℕ) (m : Model) → room < length (textOf m) → writeOf ro
 unfolding writeOf
 too-short room m h = rw (lt-ltb room (length (textOf m)) h, writeOf)
 
-long-enough : (room : ℕ) (m : Model) → length (textOf m) ≤ room → writeOf room m ≡ answered (length (textOf m))
+pub long-enough : (room : ℕ) (m : Model) → length (textOf m) ≤ room → writeOf room m ≡ answered (length (textOf m))
 unfolding writeOf
 long-enough room m h = rw (le-ltb room (length (textOf m)) h, writeOf)
 
@@ -31,7 +31,7 @@ long-enough room m h = rw (le-ltb room (length (textOf m)) h, writeOf)
 called : (t old new : List ℕ) (r : Written) (a : Answer ℕ) → writeOn t old ≡ a → saysWritten r ≡ some a → new ≡ textAfter a t old → WriteCall t old new r
 called t old new r a e p q = record { answer = p ∙ ap some (sym e); buffer = q ∙ ap (λ b. textAfter b t old) (sym e) }
 
-says-length : (n : ℕ) → saysWritten (Length n) ≡ some (answered n)
+pub says-length : (n : ℕ) → saysWritten (Length n) ≡ some (answered n)
 unfolding saysWritten
 says-length n = refl
 

@@ -1,5 +1,5 @@
 -- `intake::build` meets its contract. The loop's invariant: the table is that of the components before this line.
-use mathlib.Core.Path.{_≡_, sym, _∙_, ap}
+use mathlib.Core.Path.{sym, _∙_, ap}
 use mathlib.Core.List.{_++_}
 use borrow.Author.Needs.{needs}
 use lib.ListN.{length, drop}

@@ -1,9 +1,8 @@
--- `measure::comp_width`: the `comp` line, and the lines of each kind.
+-- `measure::comp_width`: the lines beside the rows, and the rows.
 use native.Mathlib.Omega.{arith}
 use Rattle.layout.specs.Image.{compOf}
-use Rattle.measure.proofs.Fields.{width-most, members-most}
 use Rattle.measure.proofs.Lines.{rows-most}
-use Rattle.measure.proofs.Bounds.{head-most, rows-few, comp-counted}
+use Rattle.measure.proofs.Bounds.{bare-most, rows-few, comp-counted}
 use borrow.Author.Needs.{needs}
 use Rattle.measure.proofs.comp_width.Statement.{statement}
 use Rattle.measure.proofs.comp_width.Tie as tie
@@ -11,93 +10,54 @@ use Rattle.measure.proofs.comp_width.Tie as tie
 block-word-requires : tie.Need-block-word-requires
 block-word-requires c κs = search needs
 
-width-requires : tie.Need-width-requires
-width-requires c κs = search needs
-
 block-word-requires-2 : tie.Need-block-word-requires-2
 block-word-requires-2 c κs = search needs
-
-width-requires-2 : tie.Need-width-requires-2
-width-requires-2 c κs = search needs
 
 block-word-requires-3 : tie.Need-block-word-requires-3
 block-word-requires-3 c κs = search needs
 
-per-member-requires : tie.Need-per-member-requires
-per-member-requires c κs = search needs
+block-word-requires-4 : tie.Need-block-word-requires-4
+block-word-requires-4 c κs = search needs
 
-add-result : tie.Need-add-result
-add-result c =
-    let block-word = c .before .before .before .before .before .block-word in
-    let block-word2 = c .before .before .before .block-word2 in
-    omega (arith, width-most (block-word .result), width-most (block-word2 .result), members-most (c .before .block-word3 .result) 7)
+block-word-requires-5 : tie.Need-block-word-requires-5
+block-word-requires-5 c κs = search needs
 
-add-result-2 : tie.Need-add-result-2
-add-result-2 c =
-    let block-word = c .before .before .before .before .before .block-word in
-    let block-word2 = c .before .before .before .block-word2 in
-    omega (arith, width-most (block-word .result), width-most (block-word2 .result), members-most (c .before .block-word3 .result) 7)
+block-word-requires-6 : tie.Need-block-word-requires-6
+block-word-requires-6 c κs = search needs
 
-acts-width-requires : tie.Need-acts-width-requires
-acts-width-requires c κs = search needs
+block-word-requires-7 : tie.Need-block-word-requires-7
+block-word-requires-7 c κs = search needs
 
-add-result-3 : tie.Need-add-result-3
-add-result-3 c =
-    let args = c .before .before .before .before .before .before .before .before .args in
-    let block-word = c .before .before .before .before .before .before .block-word in
-    let block-word2 = c .before .before .before .before .block-word2 in
-    let block-word3 = c .before .before .block-word3 in
-    omega (arith, width-most (block-word .result), width-most (block-word2 .result), members-most (block-word3 .result) 7, head-most (compOf (args .t .now) (args .i)))
-
-add-result-4 : tie.Need-add-result-4
-add-result-4 c =
-    let args = c .before .before .before .before .before .before .before .before .args in
-    let block-word = c .before .before .before .before .before .before .block-word in
-    let block-word2 = c .before .before .before .before .block-word2 in
-    let block-word3 = c .before .before .block-word3 in
-    omega (arith, width-most (block-word .result), width-most (block-word2 .result), members-most (block-word3 .result) 7, head-most (compOf (args .t .now) (args .i)))
+head-width-requires : tie.Need-head-width-requires
+head-width-requires c κs = search needs
 
 states-width-requires : tie.Need-states-width-requires
 states-width-requires c κs = search needs
 
-add-result-5 : tie.Need-add-result-5
-add-result-5 c =
-    let args = c .before .before .before .before .before .before .before .before .before .args in
-    let the-pre = c .before .before .before .before .before .before .before .before .before .pre in
-    let block-word = c .before .before .before .before .before .before .before .block-word in
-    let block-word2 = c .before .before .before .before .before .block-word2 in
-    let block-word3 = c .before .before .before .block-word3 in
-    let i = args .i in
-    let t = args .t .now in
-    omega (arith, width-most (block-word .result), width-most (block-word2 .result), members-most (block-word3 .result) 7, head-most (compOf t i), rows-most (compOf t i .rows), rows-few t (the-pre .0) i (the-pre .1))
+add-result : tie.Need-add-result
+add-result c =
+    let s = c .before .before .before .before .before .before .before .before .before .before in
+    let t = s .args .t .now in
+    let i = s .args .i in
+    omega (arith, bare-most (c .before .before .before .before .before .before .before .before .block-word .result) (c .before .before .before .before .before .before .before .block-word2 .result) (c .before .before .before .before .before .before .block-word3 .result) (c .before .before .before .before .before .block-word4 .result) (c .before .before .before .before .block-word5 .result) (c .before .before .before .block-word6 .result) (c .before .before .block-word7 .result), rows-most (compOf t i .rows), rows-few t (s .pre .0) i (s .pre .1))
 
 returns : tie.Need-returns
 returns c =
-    let args = c .before .before .before .before .before .before .before .before .before .args in
-    let block-word = c .before .before .before .before .before .before .before .block-word in
-    let the-width = c .before .before .before .before .before .before .width in
-    let block-word2 = c .before .before .before .before .before .block-word2 in
-    let width2 = c .before .before .before .before .width2 in
-    let block-word3 = c .before .before .before .block-word3 in
-    let per-member = c .before .before .per-member in
-    let acts-width = c .before .acts-width in
-    comp-counted (args .t .now) (args .i) (block-word .result) (block-word2 .result) (block-word3 .result) (the-width .result) (width2 .result) (per-member .result) (acts-width .result) (c .states-width .result) (block-word .ensures) (block-word2 .ensures) (block-word3 .ensures) (the-width .ensures) (width2 .ensures) (per-member .ensures) (acts-width .ensures) (c .states-width .ensures)
+    let s = c .before .before .before .before .before .before .before .before .before .before in
+    comp-counted (s .args .t .now) (s .args .i) _ _ _ _ _ _ _ _ _ (c .before .before .before .before .before .before .before .before .block-word .ensures) (c .before .before .before .before .before .before .before .block-word2 .ensures) (c .before .before .before .before .before .before .block-word3 .ensures) (c .before .before .before .before .before .block-word4 .ensures) (c .before .before .before .before .block-word5 .ensures) (c .before .before .before .block-word6 .ensures) (c .before .before .block-word7 .ensures) (c .before .head-width .ensures) (c .states-width .ensures)
 
 pub comp-width-spec : {M : Type 1} → statement M
 comp-width-spec =
     tie.close
     (tie.spec
     block-word-requires
-    width-requires
     block-word-requires-2
-    width-requires-2
     block-word-requires-3
-    per-member-requires
-    add-result
-    add-result-2
-    acts-width-requires
-    add-result-3
-    add-result-4
+    block-word-requires-4
+    block-word-requires-5
+    block-word-requires-6
+    block-word-requires-7
+    head-width-requires
     states-width-requires
-    add-result-5
+    add-result
     returns)

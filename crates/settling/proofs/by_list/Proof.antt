@@ -14,13 +14,14 @@ use Rattle.answer.specs.State.{partsOf}
 use Rattle.iosa.specs.Settle.{Settling, play}
 use Rattle.layout.specs.Image.{modelOf}
 use Rattle.settling.specs.Gives.{SettleAnswers}
-use Rattle.settling.proofs.Listed.{Plays, first, plays-on, stops, plays-all, stable-here, unstable-here}
+use Rattle.settling.proofs.Reached.{reached-ready}
+use Rattle.settling.proofs.Listed.{Plays, first, plays-on, stops, plays-all}
 use Rattle.settling.proofs.by_list.Statement.{statement}
 use Rattle.settling.proofs.by_list.Tie as tie
 use Rattle.settling.proofs.by_list.Reads as reads
 use Rattle.settling.proofs.by_list.Lts as lts
 use Rattle.answer.proofs.no_state.Reads as no-state-reads
-use Rattle.moves.proofs.lowest_all.Reads as lowest-all-reads
+use Rattle.settling.proofs.ended.Reads as ended-reads
 use Rattle.moves.proofs.move_all.Reads as move-all-reads
 use Rattle.moves.proofs.offered.Reads as offered-reads
 use Rattle.sets.proofs.union.Reads as union-reads
@@ -94,35 +95,13 @@ loop-again c =
     plays-on _ _ _ (s0 .pre .conforming) (s0 .pre .joinable) _ _ _ (l .inv) (search needs) _ (c .before .before .before .before .before .wide .ensures) (sym (o .ensures) ∙ not-false _ (c .before .before .before .if1 .left))
     _ _ _ (m .ensures .1) (m .ensures .0) (c .union .ensures)
 
--- src/lib.rt:141:9
-lowest-all-requires : tie.Need-lowest-all-requires Inv-loop μ-loop
-lowest-all-requires c κs = c .before .loop .inv .reached .standing
+ended-requires : tie.Need-ended-requires Inv-loop μ-loop
+ended-requires c κs = reached-ready _ _ _ (c .before .before .before .before .pre) (c .before .loop .inv .reached)
 
--- src/lib.rt:118:1
 returns-2 : tie.Need-returns-2 Inv-loop μ-loop
-unfolding saysVerdict told
 returns-2 c =
-    let l = c .before .before .before .loop in
-    let s0 = c .before .before .before .before .before .before in
-    let e = c .before .lowest-all .ensures in
-    let end = c .before .before .loop-test .left in
-    let st = stable-here _ _ _ (s0 .pre .conforming) (s0 .pre .joinable) _ _ _ (l .inv) end _ e (c .if2 .taken) in
-    subst (λ (v : Answer (Settling (List ℕ))). SettleAnswers v (s0 .args .x) (record { verdict = Verdict.Stable; steps = l .i; resets = l .resets; state = l .cur }))
-    (sym (plays-all _ _ _ (s0 .pre .conforming) (s0 .pre .joinable) _ _ _ (l .inv) end _ e _ st))
-    (record { verdict = refl; steps = refl; resets = refl; state = sym (l .inv .reached .same) })
-
--- src/lib.rt:118:1
-returns-3 : tie.Need-returns-3 Inv-loop μ-loop
-unfolding saysVerdict told
-returns-3 c =
-    let l = c .before .before .before .loop in
-    let s0 = c .before .before .before .before .before .before in
-    let e = c .before .lowest-all .ensures in
-    let end = c .before .before .loop-test .left in
-    let st = unstable-here _ _ _ (s0 .pre .conforming) (s0 .pre .joinable) _ _ _ (l .inv) end _ e (c .if2 .left) in
-    subst (λ (v : Answer (Settling (List ℕ))). SettleAnswers v (s0 .args .x) (record { verdict = Verdict.Unsettled; steps = l .i; resets = l .resets; state = l .cur }))
-    (sym (plays-all _ _ _ (s0 .pre .conforming) (s0 .pre .joinable) _ _ _ (l .inv) end _ e _ st))
-    (record { verdict = refl; steps = refl; resets = refl; state = sym (l .inv .reached .same) })
+    let r = c .before .before .before .before .before .pre in
+    plays-all _ _ _ (r .conforming) (r .joinable) _ _ _ (c .before .before .loop .inv) (c .before .loop-test .left) _ (c .ended .ensures)
 
 pub by-list-spec : {M : Type 1} → statement M
 by-list-spec =
@@ -142,6 +121,5 @@ by-list-spec =
     add-i
     loop-less
     loop-again
-    lowest-all-requires
-    returns-2
-    returns-3)
+    ended-requires
+    returns-2)

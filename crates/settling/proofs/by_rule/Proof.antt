@@ -19,13 +19,14 @@ use Rattle.moves.specs.Moves.{resetAll, afterAll, movedAll}
 use Rattle.moves.specs.Standing.{Standing}
 use Rattle.moves.proofs.Ready.{count-few}
 use Rattle.settling.specs.Gives.{Ready, traced}
-use Rattle.moves.proofs.Lowest.{lowest-here, lowest-nowhere}
-use Rattle.settling.proofs.Plus.{plus, plus-nothing, plus-step, settle-rests, settle-out}
-use Rattle.settling.proofs.Onward.{Runs, begin, onward, ends-stable, ends-unsettled}
+use Rattle.settling.proofs.Onward.{Runs, begin, onward, ends}
+use Rattle.settling.proofs.Reached.{reached-ready}
+use Rattle.settling.proofs.Rests.{rests}
 use Rattle.settling.proofs.by_rule.Statement.{statement}
 use Rattle.settling.proofs.by_rule.Tie as tie
 use Rattle.settling.proofs.by_rule.Reads as reads
 use Rattle.settling.proofs.by_rule.Lts as lts
+use Rattle.settling.proofs.ended.Reads as ended-reads
 use Rattle.moves.proofs.lowest_all.Reads as lowest-all-reads
 use Rattle.moves.proofs.move_all.Reads as move-all-reads
 use Rattle.sets.proofs.union.Reads as union-reads
@@ -44,18 +45,18 @@ loop-holds c = let s0 = c .before .before in begin _ _ _ _ (s0 .pre .0) (search 
 lowest-all-requires : tie.Need-lowest-all-requires Inv-loop μ-loop
 lowest-all-requires c κs = c .before .loop .inv .reached .standing
 
--- src/lib.rt:52:13
-same-length : tie.Need-same-length Inv-loop μ-loop
-same-length c = c .before .before .before .loop .inv .size
+ended-requires : tie.Need-ended-requires Inv-loop μ-loop
+ended-requires c κs = reached-ready _ _ _ (c .before .before .before .before .before .before .pre .0) (c .before .before .before .loop .inv .reached)
 
--- src/lib.rt:52:13
+same-length : tie.Need-same-length Inv-loop μ-loop
+same-length c = c .before .before .before .before .loop .inv .size
+
 returns : tie.Need-returns Inv-loop μ-loop
-unfolding saysVerdict
 returns c =
-    let l = c .before .before .before .loop in
-    let s0 = c .before .before .before .before .before .before in
-    let e = ends-stable _ _ _ _ _ _ _ _ (l .inv) (s0 .pre .0 .conforming) (s0 .pre .0 .joinable) _ (c .before .lowest-all .ensures) (c .if1 .taken) in
-    (record { verdict = ap (λ b. some (answered b)) (e .stable); steps = e .steps; resets = e .resets; state = e .state }, e .trace)
+    let l = c .before .before .before .before .loop in
+    let r = c .before .before .before .before .before .before .before .pre .0 in
+    let st = rests _ _ (reached-ready _ _ _ r (l .inv .reached)) _ (c .before .before .lowest-all .ensures) (c .before .if1 .taken) in
+    ends _ _ _ _ _ _ _ _ (l .inv) (λ f. let z : _≡_ {A = ℕ} 0 1 = cc in absurd (omega arith)) _ (c .ended .ensures)
 
 -- src/lib.rt:59:13
 move-all-requires : tie.Need-move-all-requires Inv-loop μ-loop
@@ -90,35 +91,14 @@ loop-again c =
     onward _ _ _ _ (s0 .pre .0 .conforming) (s0 .pre .0 .joinable) _ _ _ _ (l .inv) _ (c .before .before .before .before .lowest-all .ensures) (search needs) (c .before .before .before .if1 .left) _ _ _
     (m .ensures .1) (m .ensures .0) (c .union .ensures)
 
--- src/lib.rt:66:9
-lowest-all-requires-2 : tie.Need-lowest-all-requires-2 Inv-loop μ-loop
-lowest-all-requires-2 c κs = c .before .loop .inv .reached .standing
+ended-requires-2 : tie.Need-ended-requires-2 Inv-loop μ-loop
+ended-requires-2 c κs = reached-ready _ _ _ (c .before .before .before .before .pre .0) (c .before .loop .inv .reached)
 
--- src/lib.rt:42:1
 same-length-2 : tie.Need-same-length-2 Inv-loop μ-loop
-same-length-2 c = c .before .before .before .loop .inv .size
+same-length-2 c = c .before .before .loop .inv .size
 
--- src/lib.rt:42:1
 returns-2 : tie.Need-returns-2 Inv-loop μ-loop
-unfolding saysVerdict
-returns-2 c =
-    let l = c .before .before .before .loop in
-    let s0 = c .before .before .before .before .before .before in
-    let e = ends-stable _ _ _ _ _ _ _ _ (l .inv) (s0 .pre .0 .conforming) (s0 .pre .0 .joinable) _ (c .before .lowest-all2 .ensures) (c .if2 .taken) in
-    (record { verdict = ap (λ b. some (answered b)) (e .stable); steps = e .steps; resets = e .resets; state = e .state }, e .trace)
-
--- src/lib.rt:42:1
-same-length-3 : tie.Need-same-length-3 Inv-loop μ-loop
-same-length-3 c = c .before .before .before .loop .inv .size
-
--- src/lib.rt:42:1
-returns-3 : tie.Need-returns-3 Inv-loop μ-loop
-unfolding saysVerdict
-returns-3 c =
-    let l = c .before .before .before .loop in
-    let s0 = c .before .before .before .before .before .before in
-    let e = ends-unsettled _ _ _ _ _ _ _ _ (l .inv) (s0 .pre .0 .conforming) (s0 .pre .0 .joinable) _ (c .before .lowest-all2 .ensures) (c .before .before .loop-test .left) (c .if2 .left) in
-    (record { verdict = ap (λ b. some (answered b)) (e .stable); steps = e .steps; resets = e .resets; state = e .state }, e .trace)
+returns-2 c = ends _ _ _ _ _ _ _ _ (c .before .before .loop .inv) (λ _. c .before .loop-test .left) _ (c .ended2 .ensures)
 
 pub by-rule-spec : {M : Type 1} → statement M
 by-rule-spec =
@@ -128,6 +108,7 @@ by-rule-spec =
     μ-loop
     loop-holds
     lowest-all-requires
+    ended-requires
     same-length
     returns
     move-all-requires
@@ -137,8 +118,6 @@ by-rule-spec =
     add-steps
     loop-less
     loop-again
-    lowest-all-requires-2
+    ended-requires-2
     same-length-2
-    returns-2
-    same-length-3
-    returns-3)
+    returns-2)

@@ -15,7 +15,7 @@ use Rattle.settling.proofs.named_step.Tie as tie
 use Rattle.settling.proofs.named_step.Reads as reads
 use Rattle.settling.proofs.named_step.Lts as lts
 use Rattle.answer.proofs.no_state.Reads as no-state-reads
-use Rattle.moves.proofs.move_all.Reads as move-all-reads
+use Rattle.settling.proofs.moved_by.Reads as moved-by-reads
 use Rattle.moves.proofs.offered.Reads as offered-reads
 use Rattle.settling.proofs.not_enabled.Reads as not-enabled-reads
 
@@ -23,9 +23,8 @@ use Rattle.settling.proofs.not_enabled.Reads as not-enabled-reads
 offered-requires : tie.Need-offered-requires
 offered-requires c κs = search needs
 
--- src/lib.rt:57:13
-move-all-requires : tie.Need-move-all-requires
-move-all-requires c κs = search needs
+moved-by-requires : tie.Need-moved-by-requires
+moved-by-requires c κs = search needs
 
 -- src/lib.rt:68:39
 not-enabled-requires : tie.Need-not-enabled-requires
@@ -35,18 +34,15 @@ not-enabled-requires c κs = search needs
 no-state-requires : tie.Need-no-state-requires
 no-state-requires c κs = search needs
 
--- src/lib.rt:52:1
 returns : tie.Need-returns
-unfolding saysOutcome
 returns c =
-    let s0 = c .before .before .before .before .before in
+    let s0 = c .before .before .before .before in
     let r = s0 .pre in
-    let m = c .before .move-all in
     let a = s0 .args .a in
     let e = offered-step (modelOf (now (s0 .args .t))) (r .conforming) (r .joinable) (partsOf (s0 .args .x)) (r .standing .within) a
-    (sym (c .before .before .before .offered .ensures) ∙ c .before .before .if1 .taken) in
-    subst (λ (v : Answer Stepping). StepAnswers v (s0 .args .x) (record { outcome = Outcome.Moved a (m .result .resets); state = m .result .state })) (sym (ap (λ g. takenBy (named a g)) e))
-    (record { outcome = ap (λ n. some (answered (moved a n))) (m .ensures .0); state = m .ensures .1 })
+    (sym (c .before .before .offered .ensures) ∙ c .before .if1 .taken) in
+    subst (λ (v : Answer Stepping). StepAnswers v (s0 .args .x) (c .moved-by .result)) (sym (ap (λ g. takenBy (named a g)) e))
+    (record { outcome = c .moved-by .ensures .outcome; state = c .moved-by .ensures .state })
 
 -- src/lib.rt:52:1
 returns-2 : tie.Need-returns-2
@@ -65,7 +61,7 @@ named-step-spec =
     tie.close
     (tie.spec
     offered-requires
-    move-all-requires
+    moved-by-requires
     not-enabled-requires
     no-state-requires
     returns

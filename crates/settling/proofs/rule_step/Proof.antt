@@ -20,30 +20,23 @@ use Rattle.settling.proofs.rule_step.Tie as tie
 use Rattle.settling.proofs.rule_step.Reads as reads
 use Rattle.settling.proofs.rule_step.Lts as lts
 use Rattle.moves.proofs.lowest_all.Reads as lowest-all-reads
-use Rattle.moves.proofs.move_all.Reads as move-all-reads
+use Rattle.settling.proofs.moved_by.Reads as moved-by-reads
 
 -- src/lib.rt:22:9
 lowest-all-requires : tie.Need-lowest-all-requires
 lowest-all-requires c κs = search needs
 
--- src/lib.rt:24:13
-move-all-requires : tie.Need-move-all-requires
-move-all-requires c κs = search needs
+moved-by-requires : tie.Need-moved-by-requires
+moved-by-requires c κs = search needs
 
--- src/lib.rt:18:1
 returns : tie.Need-returns
-unfolding saysOutcome
 returns c =
-    let s0 = c .before .before .before .before .before in
-    let t = now (s0 .args .t) in
+    let s0 = c .before .before .before .before in
     let x = s0 .args .x in
-    let a = c .before .before .before .lowest-all .result in
     let r = s0 .pre in
-    let e = ap (taken (partsOf x)) (lowest-here (modelOf t) (r .conforming) (r .joinable) (partsOf x) (r .standing .within) a (c .before .before .before .lowest-all .ensures) (c .before .before .if1 .taken)) in
-    record {
-      outcome = ap (λ n. some (answered (moved a n))) (c .before .move-all .ensures .0) ∙ ap (λ v. some (answered (v .step))) (sym e);
-      state = c .before .move-all .ensures .1 ∙ ap (λ v. withParts x (v .state)) (sym e);
-    }
+    let m = modelOf (now (s0 .args .t)) in
+    let e = ap (taken (partsOf x)) (lowest-here m (r .conforming) (r .joinable) (partsOf x) (r .standing .within) _ (c .before .before .lowest-all .ensures) (c .before .if1 .taken)) in
+    record { outcome = c .moved-by .ensures .outcome ∙ ap (λ v. some (answered (v .step))) (sym e); state = c .moved-by .ensures .state ∙ ap (λ v. withParts x (v .state)) (sym e) }
 
 -- src/lib.rt:18:1
 returns-2 : tie.Need-returns-2
@@ -61,4 +54,4 @@ returns-2 c =
     }
 
 pub rule-step-spec : {M : Type 1} → statement M
-rule-step-spec = tie.close (tie.spec lowest-all-requires move-all-requires returns returns-2)
+rule-step-spec = tie.close (tie.spec lowest-all-requires moved-by-requires returns returns-2)

@@ -1,5 +1,5 @@
 -- `text::read` meets its contract.
-use mathlib.Core.Path.{_≡_, refl, sym, _∙_, ap}
+use mathlib.Core.Path.{refl, sym, _∙_, ap}
 use denote.Ref.{now}
 use Rattle.answer.specs.Told.{saysChecked}
 use borrow.Author.Needs.{needs}

@@ -1,0 +1,156 @@
+#include "subjects.hpp"
+
+#include "text_writing.hpp"
+#include "texts.hpp"
+
+namespace {
+
+using second::Component;
+using second::Kind;
+using second::Model;
+using second::Row;
+
+Subject subject(const std::string& name, Model model, Bytes state = {}) {
+  for (Component& component : model.components) std::sort(component.rows.begin(), component.rows.end());
+  const std::string text = second::text_of_model(model);
+  if (state.empty())
+    for (const Component& component : model.components) state.push_back(static_cast<std::uint8_t>(component.start));
+  return {name, model, Bytes(text.begin(), text.end()), second::image_of_model(model), state};
+}
+
+void add_row(Component& component, unsigned from, unsigned action, second::Set resets, unsigned target, int guard = second::no_clock) {
+  Row row;
+  row.from = from;
+  row.guard = guard;
+  row.action = action;
+  row.resets = resets;
+  row.target = target;
+  component.rows.push_back(row);
+}
+
+// A row for the action in every state, each on by the same number: such rows meet again in any order.
+void add_turns(Component& component, unsigned action, Kind kind, second::Set resets, unsigned by) {
+  component.kind[action] = kind;
+  for (unsigned s = 0; s < component.states; ++s) add_row(component, s, action, resets, (s + by) % component.states);
+}
+
+// A component of four states and a clock that hears four actions of each of the next three.
+Component hearing_next(unsigned c, unsigned components, Kind kind, unsigned clock) {
+  Component component;
+  component.states = 4;
+  component.clocks = second::only(clock);
+  for (unsigned other = c + 1; other <= c + 3 && other < c + components; ++other)
+    for (unsigned k = 0; k < 4; ++k) add_turns(component, 4 * (other % components) + k, kind, 0, k);
+  return component;
+}
+
+std::string counted(unsigned count, const char* what) { return std::to_string(count) + " " + what; }
+
+}  // namespace
+
+Subject paper_model() {
+  Table table(second::image_words);
+  const Bytes text(m.begin(), m.end());
+  second::read(lent(text), {table.data(), table.size()});
+  return subject("M", *second::model_of_image(lent(table)), {1, 0});
+}
+
+Subject long_rows(unsigned states) {
+  Component component;
+  component.states = states;
+  component.clocks = 0xff;
+  for (unsigned action = 48; action < 64; ++action) {
+    component.kind[action] = Kind::in;
+    for (unsigned s = 0; s < states; ++s) add_row(component, s, action, component.clocks, states - 1 - s);
+  }
+  return subject(counted(16 * states, "long rows"), {{component}});
+}
+
+Subject one_component(unsigned states) {
+  Component component;
+  component.states = states;
+  component.clocks = 0xf;
+  for (unsigned action = 0; action < 16; ++action)
+    add_turns(component, action, action % 2 == 0 ? Kind::uin : Kind::uout, action % 3 == 0 ? 1u << action % 4 : 0, action);
+  return subject(counted(states, "states by 16"), {{component}});
+}
+
+Subject many_components(unsigned components) {
+  Model model;
+  for (unsigned c = 0; c < components; ++c) model.components.push_back(hearing_next(c, components, Kind::uin, c));
+  for (unsigned c = 0; c < components; ++c)
+    for (unsigned k = 0; k < 4; ++k) add_turns(model.components[c], 4 * c + k, Kind::uout, second::only(c), k);
+  return subject(counted(components, "components"), model);
+}
+
+Subject few_move(unsigned components) {
+  Subject many = many_components(components);
+  // The first has one output in each state, so that the actions taken change from step to step; what it hears does not move it.
+  Component& first = many.model.components[0];
+  first.rows.clear();
+  for (unsigned s = 0; s < 4; ++s) {
+    for (unsigned action = 0; action < second::members; ++action)
+      if (first.kind[action] == Kind::uin) add_row(first, s, action, 0, s);
+    add_row(first, s, s, first.clocks, (s + 1) % 4);
+  }
+  return subject(counted(components, "components, few move"), many.model);
+}
+
+Subject all_move(unsigned components) {
+  Model model;
+  Component first;
+  first.states = 16;
+  first.clocks = 1;
+  for (unsigned action = 0; action < 16; ++action) {
+    first.kind[action] = Kind::uout;
+    add_row(first, action, action, action % 2, (action + 1) % 16);
+  }
+  model.components.push_back(first);
+  for (unsigned c = 1; c < components; ++c) {
+    Component component;
+    component.states = 3;
+    component.clocks = second::only(c);
+    for (unsigned action = 0; action < 16; ++action) add_turns(component, action, Kind::uin, action % 5 == 0 ? component.clocks : 0, action % 3);
+    model.components.push_back(component);
+  }
+  return subject(counted(components, "components, all move"), model);
+}
+
+Subject slow_sets() {
+  Component component;
+  component.states = 64;
+  component.start = 63;
+  component.clocks = 1;
+  for (unsigned action = 0; action < 16; ++action) {
+    component.kind[action] = Kind::uout;
+    for (unsigned s = 0; s < 64; ++s) add_row(component, s, action, 0, s == 0 ? 0 : s - 1);
+  }
+  return subject("64 passes", {{component}});
+}
+
+Subject waiting(unsigned components) {
+  Model model;
+  for (unsigned c = 0; c < components; ++c) {
+    Component component = hearing_next(c, components, Kind::in, 4 * c);
+    for (unsigned clock = 4 * c; clock < 4 * c + 4; ++clock) {
+      component.clocks |= second::only(clock);
+      component.kind[clock] = Kind::out;
+      for (unsigned s = 0; s < 4; ++s) add_row(component, s, clock, second::only(clock), (s + clock) % 4, static_cast<int>(clock));
+    }
+    component.started = component.clocks;
+    model.components.push_back(component);
+  }
+  return subject(counted(components, "components waiting"), model);
+}
+
+Subject to_merge(unsigned states) {
+  Model model;
+  for (unsigned c = 0; c < 2; ++c) {
+    Component component;
+    component.states = states;
+    component.clocks = second::only(c);
+    for (unsigned k = 0; k < 8; ++k) add_turns(component, 2 * k + c, Kind::in, k % 2 == 0 ? component.clocks : 0, k);
+    model.components.push_back(component);
+  }
+  return subject(counted(states, "by as many states"), model);
+}

@@ -1,0 +1,41 @@
+// Models of a given shape and size for the benchmark, all of them accepted and confluent unless it says otherwise.
+#pragma once
+
+#include <string>
+
+#include "engine.hpp"
+
+struct Subject {
+  std::string name;
+  second::Model model;
+  Bytes text;
+  Table table;
+  Bytes state;  // the start
+};
+
+// Model M of paper 01, from the state 1,0.
+Subject paper_model();
+
+// One component of so many states by 16 inputs, each row as long as it can be for 64 states of them to fit into 32,768 bytes. Not for the checks.
+Subject long_rows(unsigned states);
+
+// One component of so many states by 16 urgent actions: every state has 120 pairs of them that must meet again.
+Subject one_component(unsigned states);
+
+// So many components of 4 states by 16 urgent actions, 4 of their own and 12 of the next three; it never settles.
+Subject many_components(unsigned components);
+
+// The same, but the first component has its four outputs in turn: they are the ones taken, and only the three before it hear them.
+Subject few_move(unsigned components);
+
+// One component that never settles, and others that hear all of its actions.
+Subject all_move(unsigned components);
+
+// One component of 64 states by 16 actions whose active sets shrink by one state in each pass over the rows.
+Subject slow_sets();
+
+// So many components of 4 states that wait for four clocks each, and hear others; every state is stable.
+Subject waiting(unsigned components);
+
+// Two components of so many states by 8 inputs each, which have nothing in common.
+Subject to_merge(unsigned states);
