@@ -6,6 +6,8 @@ ghost use mathlib.Core.Path.{_≡_};
 ghost use Rattle.words.specs.Words.{checkedWords, writtenWords};
 ghost use Rattle.reading.specs.Read.{readOn, withoutModel, tableAfter};
 ghost use Rattle.text.specs.Write.{writeOn, textAfter};
+ghost use Rattle.merge.specs.Merging.{mergeOn, doneOf, writtenOf};
+ghost use Rattle.report.specs.Reported.{lengthTold, reportIn};
 ghost use Rattle.iosa.specs.Reading.{readOf};
 ghost use Rattle.survey.specs.Survey.{checkedOf};
 ghost use Rattle.table.specs.IsImage.{isImage};
@@ -69,6 +71,21 @@ pub extern "C" fn floodneedle_confluent(table: &[u64], answer: &mut [u64; Words:
     ensures { λ _. ⌜ now (answer .exit) ≡ checkedWords (confluentOn (now (table .entry))) ⌝ }
 {
     let checked = admit::confluent(table);
+    *answer = words::checked_words(checked);
+}
+
+// Replaces components i and i + 1 by their product, in a second table.
+#[no_mangle]
+pub extern "C" fn floodneedle_merge(
+    table: &[u64],
+    i: usize,
+    into: &mut [u64],
+    answer: &mut [u64; Words::COUNT],
+)
+    ensures answer { λ _. ⌜ now (answer .exit) ≡ checkedWords (doneOf (mergeOn (now (table .entry)) i (now (into .entry)))) ⌝ }
+    ensures buffer { λ _. ⌜ now (into .exit) ≡ writtenOf (mergeOn (now (table .entry)) i (now (into .entry))) (now (into .entry)) ⌝ }
+{
+    let checked = merge::merge(table, i, into);
     *answer = words::checked_words(checked);
 }
 
@@ -193,4 +210,14 @@ pub extern "C" fn floodneedle_settle_list(
     let parts = next.parts;
     *after = parts;
     *answer = words::settled_words(verdict, r.steps, r.resets);
+}
+
+// What the program prints for the input.
+#[no_mangle]
+pub extern "C" fn floodneedle_report(input: &[u8], out: &mut [u8], answer: &mut [u64; Words::COUNT])
+    ensures answer { λ _. ⌜ now (answer .exit) ≡ writtenWords (lengthTold (now (input .entry)) (now (out .entry))) ⌝ }
+    ensures buffer { λ _. ⌜ now (out .exit) ≡ reportIn (now (input .entry)) (now (out .entry)) ⌝ }
+{
+    let written = report::report(input, out);
+    *answer = words::written_words(written);
 }
