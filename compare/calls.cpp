@@ -29,6 +29,23 @@ std::set<std::string> numbers(std::initializer_list<std::pair<unsigned, unsigned
   return more;
 }
 
+std::string answered_kind(const Said& said, const Lent&) {
+  static const char* const names[] = {"", "done", "moved", "stable", "unsettled", "fired", "quiet"};
+  const floodneedle_answer& a = said.answer;
+  if (a.kind == FLOODNEEDLE_REFUSED) return std::to_string(a.number);
+  return a.kind <= FLOODNEEDLE_QUIET ? names[a.kind] : "no kind";
+}
+
+// Of a report: the number or the verdict that its last line begins with.
+std::string printed_kind(const Said& said, const Lent& lent) {
+  if (said.answer.kind == FLOODNEEDLE_REFUSED) return answered_kind(said, lent);
+  const Bytes out = lent.out.content();
+  const std::string report(out.begin(), out.begin() + static_cast<long>(said.answer.count));
+  const std::string last = report.substr(report.rfind('\n', report.size() - 2) + 1);
+  const std::size_t from = last.compare(0, 8, "refused\t") == 0 ? 8 : 0;
+  return last.substr(from, last.find('\t', from) - from);
+}
+
 Said engine_recognise(Lent& l) {
   Said said;
   if (floodneedle_recognise(l.table.front(), l.table.size())) said.answer.kind = FLOODNEEDLE_DONE;
@@ -123,10 +140,8 @@ Said engine_report(Lent& l) {
   floodneedle_report(l.bytes.front(), l.bytes.size(), l.out.front(), l.out.size(), l.answer.place());
   return answered(l);
 }
-constexpr std::uint64_t longest_report = FLOODNEEDLE_REPORT;
 #else
 constexpr auto engine_report = nullptr;
-constexpr std::uint64_t longest_report = 0;
 #endif
 // The second program answers with a string, so its part in the loan is played here.
 Said second_report(Lent& l) {
@@ -156,21 +171,22 @@ Said second_advance(Lent& l) {
 
 namespace calls {
 
-const Call recognise = {"recognise", engine_recognise, second_recognise, numbers({{20, 20}}, {"done"})};
-const Call check_text = {"check_text", engine_check_text, second_check_text, numbers({{1, 8}}, {"done"})};
-const Call read = {"read", engine_read, second_read, numbers({{1, 8}, {24, 24}}, {"done"})};
-const Call write = {"write", engine_write, second_write, numbers({{20, 20}, {24, 24}}, {"done"})};
-const Call accept = {"accept", engine_accept, second_accept, numbers({{10, 17}, {20, 20}}, {"done"})};
-const Call confluent = {"confluent", engine_confluent, second_confluent, numbers({{10, 18}, {20, 20}}, {"done"})};
-const Call step = {"step", engine_step, second_step, numbers({{10, 17}, {20, 21}}, {"moved", "stable"})};
-const Call step_by = {"step_by", engine_step_by, second_step_by, numbers({{10, 17}, {20, 21}, {23, 23}}, {"moved"})};
-const Call settle = {"settle", engine_settle, second_settle, numbers({{10, 18}, {20, 22}, {24, 24}}, {"stable", "unsettled"})};
-const Call settle_list = {"settle_list", engine_settle_list, second_settle_list, numbers({{10, 18}, {20, 23}}, {"stable", "unsettled"})};
-const Call timed_step = {"timed_step", engine_timed_step, second_timed_step,
-                         numbers({{10, 17}, {20, 21}, {27, 30}}, {"fired", "quiet"})};
-const Call merge = {"merge", engine_merge, second_merge, numbers({{10, 17}, {20, 20}, {24, 26}}, {"done"})};
-const Call report = {"report", engine_report, second_report, numbers({{24, 24}}, {"done"})};
-const Call advance = {"advance", engine_advance, second_advance, numbers({{10, 17}, {20, 21}}, {"moved", "stable"})};
+const Call recognise = {"recognise", engine_recognise, second_recognise, numbers({{20, 20}}, {"done"}), answered_kind};
+const Call check_text = {"check_text", engine_check_text, second_check_text, numbers({{1, 8}}, {"done"}), answered_kind};
+const Call read = {"read", engine_read, second_read, numbers({{1, 8}, {24, 24}}, {"done"}), answered_kind};
+const Call write = {"write", engine_write, second_write, numbers({{20, 20}, {24, 24}}, {"done"}), answered_kind};
+const Call accept = {"accept", engine_accept, second_accept, numbers({{10, 17}, {20, 20}}, {"done"}), answered_kind};
+const Call confluent = {"confluent", engine_confluent, second_confluent, numbers({{10, 18}, {20, 20}}, {"done"}), answered_kind};
+const Call step = {"step", engine_step, second_step, numbers({{10, 17}, {20, 21}}, {"moved", "stable"}), answered_kind};
+const Call step_by = {"step_by", engine_step_by, second_step_by, numbers({{10, 17}, {20, 21}, {23, 23}}, {"moved"}), answered_kind};
+const Call settle = {"settle", engine_settle, second_settle, numbers({{10, 18}, {20, 22}, {24, 24}}, {"stable", "unsettled"}), answered_kind};
+const Call settle_list = {"settle_list", engine_settle_list, second_settle_list, numbers({{10, 18}, {20, 23}}, {"stable", "unsettled"}),
+                          answered_kind};
+const Call timed_step = {"timed_step", engine_timed_step, second_timed_step, numbers({{10, 17}, {20, 21}, {27, 30}}, {"fired", "quiet"}),
+                         answered_kind};
+const Call merge = {"merge", engine_merge, second_merge, numbers({{10, 17}, {20, 20}, {24, 26}}, {"done"}), answered_kind};
+const Call report = {"report", engine_report, second_report, numbers({{1, 18}, {21, 22}, {24, 24}}, {"stable", "unsettled"}), printed_kind};
+const Call advance = {"advance", engine_advance, second_advance, numbers({{10, 17}, {20, 21}}, {"moved", "stable"}), answered_kind};
 
 const Call* const all[14] = {&recognise, &check_text, &read,        &write,      &accept, &confluent, &step,
                              &step_by,   &settle,     &settle_list, &timed_step, &merge,  &report,    &advance};
@@ -184,12 +200,6 @@ Comparison made_by_both(const Call& call, const Loan& loan) {
   made.second = call.second(made.left);
   made.buffers_agree = mine.holds(made.left) && made.left.holds(mine);
   return made;
-}
-
-std::string outcome(const floodneedle_answer& a) {
-  static const char* const names[] = {"", "done", "moved", "stable", "unsettled", "fired", "quiet"};
-  if (a.kind == FLOODNEEDLE_REFUSED) return std::to_string(a.number);
-  return a.kind <= FLOODNEEDLE_QUIET ? names[a.kind] : "no kind";
 }
 
 void print(const char* whose, const Said& s) {

@@ -11,6 +11,8 @@ struct Call {
   Said (*engine)(Lent&);  // null while the engine does not export the call
   Said (*second)(Lent&);
   std::set<std::string> outcomes;  // every one that there is
+  // The outcome in a word: the refusal's number, or the answer's kind.
+  std::string (*outcome)(const Said&, const Lent&);
 };
 
 namespace calls {
@@ -31,8 +33,5 @@ struct Comparison {
 
 // The call made by both.
 Comparison made_by_both(const Call& call, const Loan& loan);
-
-// The outcome in a word: the refusal's number, or the answer's kind.
-std::string outcome(const floodneedle_answer& answer);
 
 void print(const char* whose, const Said& said);

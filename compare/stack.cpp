@@ -41,7 +41,7 @@ std::size_t depth(const Call& call, Lent& lent) {
 }
 
 Said nothing(Lent&) { return {}; }
-const Call no_call = {"nothing", nothing, nothing, {}};
+const Call no_call = {"nothing", nothing, nothing, {}, nullptr};
 
 }  // namespace
 

@@ -28,7 +28,7 @@ Comparison compare(const Call& call, const Loan& loan, const std::string& where)
   Counts& count = counts[&call];
   ++compared;
   ++count.inputs;
-  ++count.met[outcome(made.second.answer)];
+  ++count.met[call.outcome(made.second, made.left)];
   if (made.engine == made.second && made.buffers_agree) return made;
   ++count.differences;
   if (++told > shown) return made;

@@ -24,6 +24,7 @@ void try_stated() {
   stated_runs();
   stated_clocks();
   stated_merges();
+  stated_requests();
 }
 
 Said refused(std::uint64_t number, std::initializer_list<std::uint64_t> place) {

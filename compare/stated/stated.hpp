@@ -16,6 +16,7 @@ void stated_models();
 void stated_runs();
 void stated_clocks();
 void stated_merges();
+void stated_requests();
 
 // ---- what may be stated
 

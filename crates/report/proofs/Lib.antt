@@ -2,3 +2,4 @@ pub mod ReportLaws
 pub mod Determined
 pub mod Filled
 pub mod AfterRead
+pub mod Within

@@ -1,0 +1,76 @@
+// The program's input: request lines of every wrong shape, the order of refusals behind them, and what is printed, to the byte.
+#include "model_cases.hpp"
+#include "request_cases.hpp"
+#include "stated.hpp"
+#include "text_cases.hpp"
+
+namespace {
+
+void expect_report(const std::string& input, const std::string& report) {
+  const std::string why = "the input " + input.substr(0, 100);
+  Loan loan;
+  loan.bytes = bytes_of(input);
+  loan.out = Bytes(longest_report + 3, 0x77);
+  Loan left = loan;
+  std::copy(report.begin(), report.end(), left.out.begin());
+  expect(why, calls::report, loan, done(report.size()), left);
+}
+
+std::string printed(const second::Refusal& refusal) {
+  std::string line = "refused\t" + std::to_string(refusal.number);
+  for (std::uint64_t p = 0; p < refusal.places; ++p) line += (p == 0 ? "\t" : ",") + std::to_string(refusal.place[p]);
+  return line + "\n";
+}
+
+// Behind a request that is 21 and 22 at its turn: lines count from the model's first, and all that reading and the checks refuse comes first.
+void behind_the_request() {
+  const Text request = tabbed("from 64 4097\n");
+  for (const cases::TextCase& entry : cases::text_cases)
+    if (entry.number > 0) expect_report(request + tabbed(entry.text), printed(second::refuse(entry.number, {entry.place})));
+  for (const cases::ModelCase& entry : cases::model_cases)
+    expect_report(request + tabbed(entry.text), printed(entry.refusal ? entry.refusal : second::refuse(21, {0})));
+  expect_report(request + repeated(tabbed("comp 1 0\n"), 17), "refused\t7\t17\n");
+}
+
+}  // namespace
+
+void stated_requests() {
+  if (!calls::report.engine) return;
+  // Those without refusal are stated below.
+  for (const cases::RequestCase& entry : cases::request_cases)
+    if (entry.refusal) expect_report(tabbed(entry.request) + m, printed(entry.refusal));
+  expect_report(tabbed("from 1,0 100\n") + m, tabbed("step 1 1 0 0,1\nstep 2 2 - 0,2\nstable 2 0 0,2\n"));
+  expect_report(tabbed("from 1,1 9\n") + m, tabbed("step 1 1 0 0,1\nstep 2 2 - 0,2\nstable 2 0 0,2\n"));
+  expect_report(tabbed("from 1,0 1\n") + m, tabbed("step 1 1 0 0,1\nunsettled 1 0 0,1\n"));
+  expect_report(tabbed("from 0,0 5\n") + m, tabbed("stable 0 - 0,0\n"));
+  expect_report(tabbed("from 0,2 0\n") + m, tabbed("stable 0 - 0,2\n"));
+  expect_report(tabbed("from 1,0 0\n") + m, tabbed("unsettled 0 - 1,0\n"));
+  expect_report("", "refused\t9\t0\n");
+  expect_report(tabbed("from 1,0 100"), "refused\t9\t0\n");
+  expect_report(tabbed("from 1,0 100\n"), "refused\t8\t0\n");
+  expect_report(Text(300, 'x') + "\n" + m, "refused\t9\t0\n");
+
+  // 9 is first; 1 counts the text alone.
+  const Text request = tabbed("from 9,9 9999\n");
+  expect_report(tabbed("from 9,9\n") + Text(32769, 'x'), "refused\t9\t0\n");
+  expect_report(request + Text(32769, 'x'), "refused\t1\t0\n");
+  expect_report(request + Text(32768, 'x'), "refused\t2\t1\n");
+  expect_report(request + m, "refused\t21\t0\n");
+  behind_the_request();
+
+  // The longest there is: 4,096 steps.
+  const Text loop = tabbed("comp 1 0\nact 0 uout\nrow 0 - 0 - 0\n");
+  std::string steps;
+  for (unsigned n = 1; n <= 4096; ++n) steps += tabbed("step " + std::to_string(n) + " 0 - 0\n");
+  expect_report(tabbed("from 0 4096\n") + loop, steps + tabbed("unsettled 4096 - 0\n"));
+  expect_report(tabbed("from 0 4097\n") + loop, "refused\t22\t0\n");
+
+  // 24 whatever the input: the need is one for all.
+  for (const Text& input : {Text(), tabbed("from 1,0 100\n") + m, Text("x")})
+    for (std::uint64_t room : {std::uint64_t{0}, std::uint64_t{256}, longest_report - 1}) {
+      Loan loan;
+      loan.bytes = bytes_of(input);
+      loan.out = Bytes(room, 0x77);
+      expect("a short buffer for the report", calls::report, loan, refused(24, {longest_report}));
+    }
+}
