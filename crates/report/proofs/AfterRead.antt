@@ -1,11 +1,11 @@
 -- What reading leaves, where the table is long enough: an image of the model that was read, or a refusal.
 use mathlib.Core.Path.{_≡_, refl, sym, _∙_, ap}
-use mathlib.Core.Option.{Option, none, some, Option·some-inj}
-use mathlib.Core.List.{List, [], _∷_, _++_}
-use Prim.Native.Nat.{ℕ, zero, suc, _-_, _≤_, _<_}
+use mathlib.Core.Option.{Option, none, some}
+use mathlib.Core.List.{List}
+use Prim.Native.Nat.{ℕ, _-_, _≤_}
 use native.Mathlib.Omega.{arith}
 use lib.ListN.{length, take, drop, length-drop}
-use lib.Seq.{take-at}
+use lib.Seq.{take-all, take-at}
 use borrow.Author.Tests.{le-ltb}
 use Rattle.answer.specs.Told.{Told, told, Answer, answered, refused, asRefused, saysChecked}
 use Rattle.answer.specs.declared.Checked.{Checked}
@@ -13,12 +13,11 @@ use Rattle.answer.specs.declared.Checked.the-variants.{Fine, Refused}
 use Rattle.answer.specs.declared.Refusal.{Refusal}
 use Rattle.iosa.specs.Model.{Model}
 use Rattle.answer.specs.State.{partsOf}
-use Rattle.iosa.specs.Reading.{Got, got, readOf}
+use Rattle.iosa.specs.Reading.{got, readOf}
 use Rattle.iosa.specs.Settle.{settleOf}
 use Rattle.iosa.specs.Report.{Request, requestOf, answerLines, reportOf}
 use Rattle.request.specs.Kept.{Kept, keep}
 use Rattle.report.proofs.ReportLaws.{report-model, kept-answers}
-use Rattle.iosa.specs.WellFormed.{WellFormed}
 use Rattle.iosa.proofs.Reading.TextOfRead.{text-of-read}
 use Rattle.layout.specs.Layout.{imageWords}
 use Rattle.layout.specs.Image.{Image, imageOf, modelOf}
@@ -71,12 +70,6 @@ report-run bs rest q e m f y k =
     ∙ kept-answers m (text-of-read rest m f .0) (q .state) (q .budget)
     ∙ sym (report-model bs rest q e m f)
 
-take-all : (l : List ℕ) (n : ℕ) → length l ≤ n → take n l ≡ l
-take-all [] zero h = refl
-take-all [] (suc n) h = refl
-take-all (x ∷ l) zero h = absurd (omega arith)
-take-all (x ∷ l) (suc n) h = ap (λ r. x ∷ r) (take-all l n (omega arith))
-
 -- a part of a slice from a place on
 pub part-from : (bs : List ℕ) (at : ℕ) → take (length bs - at) (drop at bs) ≡ drop at bs
-part-from bs at = take-all (drop at bs) (length bs - at) (omega (arith, length-drop at bs))
+part-from bs at = take-all (length bs - at) (drop at bs) (omega (arith, length-drop at bs))

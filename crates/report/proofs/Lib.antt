@@ -3,3 +3,5 @@ pub mod Determined
 pub mod Filled
 pub mod AfterRead
 pub mod Within
+pub mod RequestExact
+pub mod Front
