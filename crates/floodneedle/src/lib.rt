@@ -3,13 +3,13 @@
 use answer::State;
 use words::Words;
 ghost use mathlib.Core.Path.{_≡_};
+ghost use Rattle.answer.specs.Told.{doneOf};
 ghost use Rattle.words.specs.Words.{checkedWords, writtenWords};
 ghost use Rattle.reading.specs.Read.{readOn, withoutModel, tableAfter};
 ghost use Rattle.text.specs.Write.{writeOn, textAfter};
 ghost use Rattle.merge.specs.Merging.{mergeOn, doneOf, writtenOf};
 ghost use Rattle.report.specs.Reported.{lengthTold, reportIn};
 ghost use Rattle.iosa.specs.Reading.{readOf};
-ghost use Rattle.survey.specs.Survey.{checkedOf};
 ghost use Rattle.table.specs.IsImage.{isImage};
 ghost use Rattle.words.specs.Bytes.{stateOf};
 ghost use Rattle.floodneedle.specs.Told.{acceptOn, confluentOn, timedOn, TimingTold, StepTold, AdvanceTold, SettlingTold};
@@ -26,7 +26,7 @@ pub extern "C" fn floodneedle_recognise(table: &[u64]) -> bool
 // Whether a text is a model's, and else its first fault.
 #[no_mangle]
 pub extern "C" fn floodneedle_check_text(text: &[u8], answer: &mut [u64; Words::COUNT])
-    ensures { λ _. ⌜ now (answer .exit) ≡ checkedWords (checkedOf (readOf (now (text .entry)))) ⌝ }
+    ensures { λ _. ⌜ now (answer .exit) ≡ checkedWords (doneOf (readOf (now (text .entry)))) ⌝ }
 {
     let checked = survey::check_text(text);
     *answer = words::checked_words(checked);
