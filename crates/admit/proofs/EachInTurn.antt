@@ -39,11 +39,11 @@ all-clashes t = refl
 
 pub none-left : (t : List ℕ) (i : ℕ) → countOf t ≤ i → faultsLeft t i ≡ none
 unfolding faultsLeft faultFrom
-none-left t i h = ap (faultFrom i (rowCount (take i (modelOf t)))) (drop-of-length-le (modelOf t) (omega (arith, model-length t)))
+none-left t i h = ap (faultFrom i (rowCount (take i (modelOf t)))) (drop-of-length-le (modelOf t) {i = i} (omega (arith, model-length t)))
 
 pub no-clash-left : (t : List ℕ) (i : ℕ) → countOf t ≤ i → clashesLeft t i ≡ none
 unfolding clashesLeft clashAmong
-no-clash-left t i h = ap (clashAmong i) (drop-of-length-le (modelOf t) (omega (arith, model-length t)))
+no-clash-left t i h = ap (clashAmong i) (drop-of-length-le (modelOf t) {i = i} (omega (arith, model-length t)))
 
 module _ (t : List ℕ) (im : Image t) where
   abbrev m : Model
