@@ -1,9 +1,10 @@
 // Times of the proved engine beside the second program and a bare loop, all in one program and one run. Prints the tables of docs/BENCHMARK.md.
 // Each number is the least of many short rounds, in which all that stand in one table take turns: what else the machine does then disturbs
 // all of them alike.
-// usage: benchmark [times]    with the engine's own times, which mean something only where the processor runs the program itself
+// usage: benchmark ROUNDS [times]    with the engine's own times, which mean something only where the processor runs the program itself
 #include <chrono>
 #include <cstdio>
+#include <cstdlib>
 #include <functional>
 
 #include "bare.h"
@@ -12,8 +13,7 @@
 namespace {
 
 constexpr double round_seconds = 200e-6;
-constexpr unsigned rounds = 200;
-
+unsigned rounds = 200;
 bool with_times = false;
 std::uint64_t kept = 0;  // what the bare loops compute, so that they are not left out
 
@@ -180,7 +180,8 @@ void step_lines(const std::vector<Subject>& subjects) {
 }  // namespace
 
 int main(int count, char** arguments) {
-  with_times = count > 1 && std::string(arguments[1]) == "times";
+  if (count > 1) rounds = static_cast<unsigned>(std::strtoul(arguments[1], nullptr, 10));
+  with_times = count > 2 && std::string(arguments[2]) == "times";
 
   const std::vector<Subject> texts = {long_rows(2), long_rows(16), long_rows(64)};
   head("Texts of 1 KB, 8 KB and 32 KB");
@@ -191,9 +192,9 @@ int main(int count, char** arguments) {
   lines(texts, write);
   lines(texts, recognise);
 
-  const std::vector<Subject> sizes = {paper_model(),     one_component(8),    one_component(16), one_component(32),
-                                      one_component(64), many_components(16), slow_sets()};
-  head("The checks: small, from 128 to 1,024 rows in one component, 1,024 rows in 16 components, and sets that shrink slowly");
+  const std::vector<Subject> sizes = {paper_model(),         one_component(8, 16),  one_component(16, 16), one_component(32, 16),
+                                      one_component(64, 16), one_component(16, 64), many_components(16),   slow_sets()};
+  head("The checks: small; from 128 to 1,024 rows in one component; 1,024 rows with few states, in 16 components, and with sets that shrink slowly");
   lines(sizes, recognise);
   lines(sizes, accept);
   lines(sizes, confluent);
