@@ -4,7 +4,7 @@
  * lent by the caller, with its length behind its pointer, and no two of one call may overlap. A buffer of length 0 still needs a pointer.
  *
  * The answer is always written. Where its kind is FLOODNEEDLE_REFUSED, `number` and the first `places` of `place` tell why and where (paper
- * 01's table of refusal numbers), every other field is 0, and no other lent byte has changed.
+ * 01's table of refusal numbers), every other field is 0, `after` is zeros, and no other lent byte has changed.
  *
  * A table is 64-bit words at the front of a buffer (docs/TABLE.md); what lies behind the image is neither read nor changed.
  * A set of clocks or actions is one 64-bit number, bit x for member x.
@@ -21,12 +21,14 @@
 extern "C" {
 #endif
 
-/* Sizes: words of a table, bytes of the longest text, bytes of a state, and the largest budget, which is also the longest list or trace. */
+/* Sizes: words of a table, bytes of the longest text, bytes of a state, the largest budget, which is also the longest list or trace, the
+ * number of clock values, and bytes of the longest report. */
 #define FLOODNEEDLE_TABLE 5265
 #define FLOODNEEDLE_TEXT 32768
 #define FLOODNEEDLE_STATE 16
 #define FLOODNEEDLE_BUDGET 4096
 #define FLOODNEEDLE_CLOCKS 64
+#define FLOODNEEDLE_REPORT 2097664
 
 enum floodneedle_kind {
   FLOODNEEDLE_REFUSED = 0,
@@ -55,6 +57,11 @@ bool floodneedle_recognise(const uint64_t *table, size_t table_words);
 /* Done exactly where the bytes are the text of a model; else 1, or 2 to 7 at the first faulty line, or 8. */
 void floodneedle_check_text(const uint8_t *text, size_t text_bytes, struct floodneedle_answer *answer);
 
+/* Reads the text into the table: done exactly where the bytes are the text of a model, and then the table's front is the image of that
+ * model. Nothing is written before the last line is checked.
+ * Refuses: as check_text, then 24 (bytes needed: 8 for each of FLOODNEEDLE_TABLE words). */
+void floodneedle_read(const uint8_t *text, size_t text_bytes, uint64_t *table, size_t table_words, struct floodneedle_answer *answer);
+
 /* Writes the one text of the table's model to the buffer's front; `count` is its length. Reading it again gives the same image.
  * Refuses: 20, 24 (bytes needed). */
 void floodneedle_write(const uint64_t *table, size_t table_words, uint8_t *text, size_t text_bytes, struct floodneedle_answer *answer);
@@ -67,11 +74,23 @@ void floodneedle_accept(const uint64_t *table, size_t table_words, struct floodn
  * Refuses: as accept, then 18. */
 void floodneedle_confluent(const uint64_t *table, size_t table_words, struct floodneedle_answer *answer);
 
+/* Writes the image of the model in which components i and i + 1 are replaced by their product, unreachable pairs included, to the front
+ * of a second table; the first table stays as it is.
+ * Refuses: as accept, then 24 (bytes needed: 8 for each of FLOODNEEDLE_TABLE words), 25 (i + 1 is no component), 26 (over 64 states, or
+ * over 1,024 rows or 32,768 bytes of text in the whole model). */
+void floodneedle_merge(const uint64_t *table, size_t table_words, uint64_t i, uint64_t *into, size_t into_words,
+                       struct floodneedle_answer *answer);
+
 /* One urgent step, by the lowest-numbered enabled urgent output: moved, with action and resets, or stable. `after` is always written:
  * the state after the step, the state as given where stable, zeros where refused; places past the state's own are 0.
  * Refuses: as accept, then 21. */
 void floodneedle_step(const uint64_t *table, size_t table_words, const uint8_t *state, size_t parts,
                       uint8_t after[FLOODNEEDLE_STATE], struct floodneedle_answer *answer);
+
+/* The same step on a state that is lent, and advanced there: where it moved, the bytes are the state after it; where it is stable or
+ * refused they are as they were.
+ * Refuses: as step. */
+void floodneedle_advance(const uint64_t *table, size_t table_words, uint8_t *state, size_t parts, struct floodneedle_answer *answer);
 
 /* One urgent step by a named action, moved or refused; never stable.
  * Refuses: as accept, then 21, 23 at 0 where the action is not an enabled urgent output. */
@@ -96,6 +115,11 @@ void floodneedle_settle_list(const uint64_t *table, size_t table_words, const ui
  * Refuses: as accept, then 21, 27, 28, 29, 30. */
 void floodneedle_timed_step(const uint64_t *table, size_t table_words, const uint8_t *state, size_t parts,
                             int64_t *clocks, size_t clock_values, uint8_t after[FLOODNEEDLE_STATE], struct floodneedle_answer *answer);
+
+/* Writes what the program `settle` prints for these bytes of standard input to the buffer's front; `count` is its length. What the program
+ * refuses is a line that it prints, and no refusal here.
+ * Refuses: 24 (bytes needed: FLOODNEEDLE_REPORT, whatever the input). */
+void floodneedle_report(const uint8_t *input, size_t input_bytes, uint8_t *out, size_t out_bytes, struct floodneedle_answer *answer);
 
 #ifdef __cplusplus
 }

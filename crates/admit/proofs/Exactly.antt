@@ -21,7 +21,7 @@ use Rattle.table.proofs.OnTableLaws.{on-image}
 use Rattle.table.proofs.CheckedLaws.{fine-passes}
 use Rattle.table.proofs.ImageExactly.{image-exactly}
 use Rattle.admit.specs.Admit.{Accepted, Confluently}
-use Rattle.admit.proofs.Determined.{says-fixes}
+use Rattle.answer.proofs.SaysFixes.{checked-fixed}
 
 -- what a call that goes on after `Fine` counts on
 pub record Admitted (t : List ℕ) : Type 0 where
@@ -47,7 +47,7 @@ confluent-fine t e =
 passes-fine : (t : List ℕ) (check : Model → Option Told) (r : Checked) → Image t → check (modelOf t) ≡ none → saysChecked r ≡ some (onTable t (λ m. unless (check m) tt)) → r ≡ Fine
 unfolding saysChecked
 passes-fine t check r im e s =
-    says-fixes r Fine (answered tt) (s ∙ ap some (on-image t (λ m. unless (check m) tt) (image-exactly t .1 im) ∙ ap (λ o. unless o tt) e)) refl
+    checked-fixed r Fine (answered tt) (s ∙ ap some (on-image t (λ m. unless (check m) tt) (image-exactly t .1 im) ∙ ap (λ o. unless o tt) e)) refl
 
 pub accept-exactly : (t : List ℕ) (r : Checked) → Accepted t r → (r ≡ Fine) ↔ (Image t × Conforming (modelOf t) × Joinable (modelOf t))
 accept-exactly t r s = (

@@ -1,2 +1,3 @@
 pub mod ToldFixes
+pub mod SaysFixes
 pub mod StateLaws

@@ -76,6 +76,11 @@ pub data Answer (A : Type 0) : Type 0 where
   answered : A → Answer A
   refused : Told → Answer A
 
+-- of a call that fills a lent buffer: that it did, or what a refusal tells
+abbrev pub doneOf : {A : Type 0} → Answer A → Answer (Unit {0})
+doneOf (answered x) = answered tt
+doneOf (refused t) = refused t
+
 abbrev pub asRefused : {A : Type 0} → Option Told → Option (Answer A)
 asRefused none = none
 asRefused (some t) = some (refused t)

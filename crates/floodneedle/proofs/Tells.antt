@@ -1,11 +1,13 @@
 -- What a call's contract says of its answer is what the caller in C is told.
-use mathlib.Core.Path.{_≡_, sym, _∙_, ap, ap₂}
+use mathlib.Core.Path.{_≡_, refl, _∙_, ap, ap₂}
 use mathlib.Core.Option.{some}
 use mathlib.Core.Bool.{Bool}
 use mathlib.Core.List.{List}
 use Prim.Native.Nat.{ℕ}
 use lib.IntN.{ℤ}
-use Rattle.answer.specs.Told.{Answer, answered, refused, Step, Shot, saysOutcome, saysVerdict, saysFiring}
+use lib.ListN.{length}
+use Rattle.answer.specs.Told.{Answer, answered, refused, Step, moved, stable, Shot, saysOutcome, saysVerdict, saysFiring}
+use Rattle.answer.specs.declared.Outcome.{Outcome}
 use Rattle.answer.specs.declared.State.{State}
 use Rattle.answer.specs.declared.Stepped.{Stepped}
 use Rattle.answer.specs.declared.Settled.{Settled}
@@ -15,13 +17,36 @@ use Rattle.iosa.specs.Settle.{Settling}
 use Rattle.iosa.specs.Timed.{Timing}
 use Rattle.firing.specs.Shots.{TimingAnswers}
 use Rattle.settling.specs.Gives.{StepAnswers, SettleAnswers}
+use Rattle.panel.specs.Advance.{AdvanceCall, outcomeOf, movedTo, stateAfter}
+use Rattle.panel.proofs.Lengths.{step-keeps-length}
+use Rattle.run.specs.Calls.{stepOn}
+use Rattle.words.specs.Bytes.{stateOf, laidOver}
+use Rattle.words.proofs.Laid.{laid-own, laid-with}
 use Rattle.words.specs.Words.{steppedWords, settledWords, firedWords}
-use Rattle.floodneedle.specs.Told.{StepTold, SettlingTold, stepSaid, stepBytes, settlingWords, settlingBytes, TimingTold, shotSaid, timingBytes, timingValues}
+use Rattle.floodneedle.specs.Told.{StepTold, AdvanceTold, bytesMoved, bytesAfter, SettlingTold, TimingTold}
 
 pub step-told : (v : Answer Stepping) (x : State) (r : Stepped) (w : List ℕ) → StepAnswers v x r
     → ((a : Answer Step) → saysOutcome (r .outcome) ≡ some a → w ≡ steppedWords a) → StepTold v x (r .state .parts) w
 step-told (answered v) x r w g h = record { words = h (answered (v .step)) (g .outcome); state = ap (λ s. s .parts) (g .state) }
 step-told (refused t) x r w g h = record { words = h (refused t) (g .0); state = ap (λ s. s .parts) (g .1) }
+
+-- ---- a state that was lent: its bytes are those of the state that the call leaves
+laid : (old : List ℕ) (w : Step) (ps : List ℕ) → length ps ≡ length old → laidOver (movedTo (stateOf old) w ps .parts) old ≡ bytesMoved old w ps
+laid old (moved a r) ps e = laid-with old ps e
+laid old stable ps e = laid-own old
+
+after-bytes : (t old : List ℕ) (v : Answer Stepping) → stepOn t (stateOf old) ≡ v → laidOver (stateAfter (stateOf old) v .parts) old ≡ bytesAfter old v
+unfolding stateOf
+after-bytes t old (answered v) e = laid old (v .step) (v .state) (step-keeps-length t (stateOf old) v e)
+after-bytes t old (refused f) e = laid-own old
+
+pub advance-told : (t old : List ℕ) (y : State) (o : Outcome) (new w : List ℕ) → AdvanceCall t (stateOf old) y o → new ≡ laidOver (y .parts) old
+    → ((a : Answer Step) → saysOutcome o ≡ some a → w ≡ steppedWords a) → AdvanceTold (stepOn t (stateOf old)) old new w
+advance-told t old y o new w g e h =
+    record {
+      words = h (outcomeOf (stepOn t (stateOf old))) (g .outcome);
+      state = e ∙ ap (λ (s : State). laidOver (s .parts) old) (g .state) ∙ after-bytes t old (stepOn t (stateOf old)) refl;
+    }
 
 pub settling-told : (v : Answer (Settling (List ℕ))) (x : State) (r : Settled) (w : List ℕ) → SettleAnswers v x r
     → ((a : Answer Bool) → saysVerdict (r .verdict) ≡ some a → w ≡ settledWords a (r .steps) (r .resets)) → SettlingTold v x (r .state .parts) w

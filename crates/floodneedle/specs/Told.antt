@@ -5,12 +5,13 @@ use Prim.Native.Nat.{ℕ}
 use Rattle.answer.specs.Limits.{noState}
 use lib.IntN.{ℤ}
 use Rattle.answer.specs.State.{partsOf, withParts}
-use Rattle.answer.specs.Told.{Answer, answered, refused, Step, Shot}
+use Rattle.answer.specs.Told.{Answer, answered, refused, Step, moved, stable, Shot}
 use Rattle.answer.specs.declared.State.{State}
 use Rattle.iosa.specs.Checks.{acceptOf, confluentOf}
 use Rattle.iosa.specs.Step.{Stepping, unless}
 use Rattle.iosa.specs.Settle.{Settling}
 use Rattle.iosa.specs.Timed.{Timing, timedOf}
+use Rattle.panel.specs.Advance.{outcomeOf}
 use Rattle.table.specs.OnTable.{onTable}
 use Rattle.words.specs.Words.{steppedWords, settledWords, firedWords}
 
@@ -21,18 +22,27 @@ acceptOn t = onTable t (λ m. unless (acceptOf m) tt)
 abbrev pub confluentOn : List ℕ → Answer (Unit {0})
 confluentOn t = onTable t (λ m. unless (confluentOf m) tt)
 
-abbrev pub stepSaid : Answer Stepping → Answer Step
-stepSaid (answered v) = answered (v .step)
-stepSaid (refused t) = refused t
-
 -- "it answers the outcome and, unless refused, the state": beside a refusal the sixteen bytes are 0
 abbrev pub stepBytes : State → Answer Stepping → List ℕ
 stepBytes x (answered v) = withParts x (v .state) .parts
 stepBytes x (refused t) = noState .parts
 
 pub record StepTold (v : Answer Stepping) (x : State) (after told : List ℕ) : Type 0 where
-  pub words : told ≡ steppedWords (stepSaid v)
+  pub words : told ≡ steppedWords (outcomeOf v)
   pub state : after ≡ stepBytes x v
+
+-- the state that was lent, in as many bytes: "a composed state lent to one urgent step and advanced there"; as it was where nothing moves
+abbrev pub bytesMoved : List ℕ → Step → List ℕ → List ℕ
+bytesMoved old (moved a r) ps = ps
+bytesMoved old stable ps = old
+
+abbrev pub bytesAfter : List ℕ → Answer Stepping → List ℕ
+bytesAfter old (answered v) = bytesMoved old (v .step) (v .state)
+bytesAfter old (refused t) = old
+
+pub record AdvanceTold (v : Answer Stepping) (old new told : List ℕ) : Type 0 where
+  pub words : told ≡ steppedWords (outcomeOf v)
+  pub state : new ≡ bytesAfter old v
 
 -- "answers stable or unsettled, steps taken, clocks reset at least once, and the state"
 abbrev pub settlingWords : Answer (Settling (List ℕ)) → List ℕ

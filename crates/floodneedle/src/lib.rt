@@ -3,13 +3,16 @@
 use answer::State;
 use words::Words;
 ghost use mathlib.Core.Path.{_≡_};
+ghost use Rattle.answer.specs.Told.{doneOf};
 ghost use Rattle.words.specs.Words.{checkedWords, writtenWords};
+ghost use Rattle.reading.specs.Read.{readOn, withoutModel, tableAfter};
 ghost use Rattle.text.specs.Write.{writeOn, textAfter};
+ghost use Rattle.merge.specs.Merging.{mergeOn, doneOf, writtenOf};
+ghost use Rattle.report.specs.Reported.{lengthTold, reportIn};
 ghost use Rattle.iosa.specs.Reading.{readOf};
-ghost use Rattle.survey.specs.Survey.{checkedOf};
 ghost use Rattle.table.specs.IsImage.{isImage};
 ghost use Rattle.words.specs.Bytes.{stateOf};
-ghost use Rattle.floodneedle.specs.Told.{acceptOn, confluentOn, timedOn, TimingTold, StepTold, SettlingTold};
+ghost use Rattle.floodneedle.specs.Told.{acceptOn, confluentOn, timedOn, TimingTold, StepTold, AdvanceTold, SettlingTold};
 ghost use Rattle.run.specs.Calls.{stepOn, stepByOn, settleOn, settleListOn, traceAfter};
 
 // Whether the buffer's front is the image of a model.
@@ -23,9 +26,19 @@ pub extern "C" fn floodneedle_recognise(table: &[u64]) -> bool
 // Whether a text is a model's, and else its first fault.
 #[no_mangle]
 pub extern "C" fn floodneedle_check_text(text: &[u8], answer: &mut [u64; Words::COUNT])
-    ensures { λ _. ⌜ now (answer .exit) ≡ checkedWords (checkedOf (readOf (now (text .entry)))) ⌝ }
+    ensures { λ _. ⌜ now (answer .exit) ≡ checkedWords (doneOf (readOf (now (text .entry)))) ⌝ }
 {
     let checked = survey::check_text(text);
+    *answer = words::checked_words(checked);
+}
+
+// Reads a text into the table.
+#[no_mangle]
+pub extern "C" fn floodneedle_read(text: &[u8], table: &mut [u64], answer: &mut [u64; Words::COUNT])
+    ensures answer { λ _. ⌜ now (answer .exit) ≡ checkedWords (withoutModel (readOn (now (text .entry)) (now (table .entry)))) ⌝ }
+    ensures buffer { λ _. ⌜ now (table .exit) ≡ tableAfter (readOn (now (text .entry)) (now (table .entry))) (now (table .entry)) ⌝ }
+{
+    let checked = text::read(text, table);
     *answer = words::checked_words(checked);
 }
 
@@ -58,6 +71,21 @@ pub extern "C" fn floodneedle_confluent(table: &[u64], answer: &mut [u64; Words:
     ensures { λ _. ⌜ now (answer .exit) ≡ checkedWords (confluentOn (now (table .entry))) ⌝ }
 {
     let checked = admit::confluent(table);
+    *answer = words::checked_words(checked);
+}
+
+// Replaces components i and i + 1 by their product, in a second table.
+#[no_mangle]
+pub extern "C" fn floodneedle_merge(
+    table: &[u64],
+    i: usize,
+    into: &mut [u64],
+    answer: &mut [u64; Words::COUNT],
+)
+    ensures answer { λ _. ⌜ now (answer .exit) ≡ checkedWords (doneOf (mergeOn (now (table .entry)) i (now (into .entry)))) ⌝ }
+    ensures buffer { λ _. ⌜ now (into .exit) ≡ writtenOf (mergeOn (now (table .entry)) i (now (into .entry))) (now (into .entry)) ⌝ }
+{
+    let checked = merge::merge(table, i, into);
     *answer = words::checked_words(checked);
 }
 
@@ -102,6 +130,23 @@ pub extern "C" fn floodneedle_step(
     let outcome = r.outcome;
     let parts = next.parts;
     *after = parts;
+    *answer = words::stepped_words(outcome);
+}
+
+// The same on a state that is lent, and advanced there.
+#[no_mangle]
+pub extern "C" fn floodneedle_advance(
+    table: &[u64],
+    state: &mut [u8],
+    answer: &mut [u64; Words::COUNT],
+)
+    ensures { λ _. ⌜ AdvanceTold (stepOn (now (table .entry)) (stateOf (now (state .entry)))) (now (state .entry)) (now (state .exit)) (now (answer .exit)) ⌝ }
+{
+    let given = words::state_of(state);
+    let r = panel::advanced(table, given);
+    let next = r.state;
+    let outcome = r.outcome;
+    words::put_state(state, next);
     *answer = words::stepped_words(outcome);
 }
 
@@ -165,4 +210,14 @@ pub extern "C" fn floodneedle_settle_list(
     let parts = next.parts;
     *after = parts;
     *answer = words::settled_words(verdict, r.steps, r.resets);
+}
+
+// What the program prints for the input.
+#[no_mangle]
+pub extern "C" fn floodneedle_report(input: &[u8], out: &mut [u8], answer: &mut [u64; Words::COUNT])
+    ensures answer { λ _. ⌜ now (answer .exit) ≡ writtenWords (lengthTold (now (input .entry)) (now (out .entry))) ⌝ }
+    ensures buffer { λ _. ⌜ now (out .exit) ≡ reportIn (now (input .entry)) (now (out .entry)) ⌝ }
+{
+    let written = report::report(input, out);
+    *answer = words::written_words(written);
 }

@@ -3,3 +3,4 @@ pub mod Image
 pub mod Ranges
 pub mod Laid
 pub mod Words
+pub mod Lent

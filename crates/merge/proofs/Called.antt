@@ -9,7 +9,7 @@ use lib.Seq.{sets, sets-eq}
 use borrow.Author.Tests.{lt-ltb, le-ltb}
 use Rattle.laws.specs.Search.{when, orElse}
 use Rattle.answer.specs.Limits.{maxStates}
-use Rattle.answer.specs.Told.{Told, told, tell, Answer, answered, refused, asRefused, saysChecked}
+use Rattle.answer.specs.Told.{Told, told, tell, Answer, answered, refused, asRefused, saysChecked, doneOf}
 use Rattle.answer.specs.declared.Place.the-variants.{Whole, Bytes}
 use Rattle.answer.specs.declared.Refusal.{Refusal}
 use Rattle.answer.specs.declared.Checked.{Checked}
@@ -26,9 +26,11 @@ use Rattle.layout.proofs.ModelOf.{model-length, comp-at}
 use Rattle.layout.proofs.ReadBack.{length-of-image}
 use Rattle.layout.proofs.RowsOfRange.{well-formed}
 use Rattle.table.proofs.OnTableLaws.{on-image}
-use Rattle.table.proofs.CheckedLaws.{checkOn, fine-passes, refused-tells, call-refuses}
+use Rattle.table.specs.OnTable.{checkOn}
+use Rattle.table.proofs.CheckedLaws.{fine-passes, refused-tells, call-refuses}
 use Rattle.table.proofs.ImageExactly.{image-exactly}
-use Rattle.merge.specs.Merging.{wordBytes, roomFault, mergeOn, doneOf, writtenOf, Merging}
+use Rattle.layout.specs.Lent.{wordBytes, tableTooShort, tableAfter}
+use Rattle.merge.specs.Merging.{roomFault, mergeOn, Merging}
 
 -- a refusal, or else the model x
 abbrev refusedOr : Option Told → Model → Answer Model
@@ -54,18 +56,18 @@ few-states t i next f =
     let e : i + 1 ≡ suc i = omega arith in
     rw e (rw (here, there) at (f .states))
 
-room-short : (was : List ℕ) → length was < imageWords → roomFault was ≡ some (tell 24 ((wordBytes * imageWords) ∷ []))
+room-short : (was : List ℕ) → length was < imageWords → roomFault was ≡ some (tableTooShort)
 unfolding roomFault
-room-short was h = ap (λ b. when b (tell 24 ((wordBytes * imageWords) ∷ []))) (lt-ltb (length was) imageWords h)
+room-short was h = ap (λ b. when b (tableTooShort)) (lt-ltb (length was) imageWords h)
 
 room-enough : (was : List ℕ) → imageWords ≤ length was → roomFault was ≡ none
 unfolding roomFault
-room-enough was h = ap (λ b. when b (tell 24 ((wordBytes * imageWords) ∷ []))) (le-ltb (length was) imageWords h)
+room-enough was h = ap (λ b. when b (tableTooShort)) (le-ltb (length was) imageWords h)
 
 module _ (t : List ℕ) (i : ℕ) (was : List ℕ) where
   refuses : (f : Told) → mergeOn t i was ≡ refused f → (q : Refusal) → told q ≡ some f → Merging t i was (Refused q) was
-  unfolding saysChecked doneOf writtenOf
-  refuses f e q h = record { answer = ap asRefused h ∙ sym (ap (λ a. some (doneOf a)) e); table = sym (ap (λ a. writtenOf a was) e) }
+  unfolding saysChecked
+  refuses f e q h = record { answer = ap asRefused h ∙ sym (ap (λ a. some (doneOf a)) e); table = sym (ap (λ a. tableAfter a was) e) }
 
   pub stays : (r : Checked) (into : List ℕ) → into ≡ was → Merging t i was r was → Merging t i was r into
   stays r into e g = record { answer = g .answer; table = e ∙ g .table }
@@ -85,10 +87,10 @@ module _ (t : List ℕ) (i : ℕ) (was : List ℕ) where
     unfolding mergeOn
     on = on-image t (λ m. mergeOf m i (roomFault was)) (image-exactly t .1 im)
 
-    pub is-short : length was < imageWords → (r : Checked) → r ≡ Refused (record { number = 24; place = Bytes (wordBytes * imageWords) }) → Merging t i was r was
+    pub is-short : length was < imageWords → (r : Checked) → r ≡ Refused (record { number = 24; place = Bytes (imageWords * wordBytes) }) → Merging t i was r was
     unfolding told
     is-short h r e =
-        rw e (refuses (tell 24 ((wordBytes * imageWords) ∷ [])) (on ∙ no-room (modelOf t) i (roomFault was) _ acc (room-short was h)) (record { number = 24; place = Bytes (wordBytes * imageWords) }) refl)
+        rw e (refuses (tableTooShort) (on ∙ no-room (modelOf t) i (roomFault was) _ acc (room-short was h)) (record { number = 24; place = Bytes (imageWords * wordBytes) }) refl)
 
     module _ (room : imageWords ≤ length was) where
       roomy : mergeOn t i was ≡ mergeOf (modelOf t) i none
@@ -121,7 +123,7 @@ module _ (t : List ℕ) (i : ℕ) (was : List ℕ) where
               sets-eq n was 0 (omega (arith, long)) ∙ ap (λ k. n ++ drop k was) end
 
           pub is-merged-model : (into : List ℕ) → into ≡ sets was 0 (imageOf (mergedAt (modelOf t) i)) → Merging t i was Fine into
-          unfolding saysChecked doneOf writtenOf
+          unfolding saysChecked
           is-merged-model into e =
               let k = roomy ∙ merge-exactly (modelOf t) i acc _ .1 (is-merged inside fits) in
-              record { answer = sym (ap (λ a. some (doneOf a)) k); table = e ∙ written ∙ sym (ap (λ a. writtenOf a was) k) }
+              record { answer = sym (ap (λ a. some (doneOf a)) k); table = e ∙ written ∙ sym (ap (λ a. tableAfter a was) k) }

@@ -5,7 +5,7 @@ use mathlib.Core.Option.{Option·some-inj}
 use mathlib.Core.List.{List}
 use Prim.Native.Nat.{ℕ}
 use native.Mathlib.Omega.{arith}
-use Rattle.answer.specs.Told.{Told, Answer, answered, refused, saysChecked}
+use Rattle.answer.specs.Told.{Told, Answer, answered, refused, saysChecked, doneOf}
 use Rattle.answer.specs.declared.Checked.the-variants.{Fine}
 use Rattle.iosa.specs.Model.{Model}
 use Rattle.iosa.specs.Merge.{mergeOf}
@@ -15,7 +15,7 @@ use Rattle.layout.proofs.RowsOfRange.{well-formed}
 use Rattle.table.specs.IsImage.{isImage}
 use Rattle.table.proofs.OnTableLaws.{on-image, on-no-image}
 use Rattle.table.proofs.ImageExactly.{image-exactly, written-recognised}
-use Rattle.merge.specs.Merging.{roomFault, mergeOn, doneOf, Merging}
+use Rattle.merge.specs.Merging.{roomFault, mergeOn, Merging}
 use Rattle.merge.specs.MergedTable.{MergedTable}
 use Rattle.merge.proofs.Written.{merged-answered, merge-writes-the-image, merge-leaves-the-rest}
 
@@ -28,7 +28,6 @@ module _ (t : List ℕ) (i : ℕ) (was into : List ℕ) (g : Merging t i was Fin
   done = sym (Option·some-inj .0 (g .answer))
 
   some-model : (n : Model) × (mergeOn t i was ≡ answered n)
-  unfolding doneOf
   some-model = go (mergeOn t i was) refl done
     where
       go : (a : Answer Model) → mergeOn t i was ≡ a → doneOf a ≡ answered tt → (n : Model) × (mergeOn t i was ≡ answered n)

@@ -16,7 +16,8 @@ use Rattle.layout.proofs.ReadBack.{length-of-image}
 use Rattle.layout.proofs.RowsOfRange.{well-formed}
 use Rattle.table.proofs.OnTableLaws.{on-image}
 use Rattle.table.proofs.ImageExactly.{image-exactly}
-use Rattle.merge.specs.Merging.{roomFault, mergeOn, writtenOf, Merging}
+use Rattle.layout.specs.Lent.{tableAfter}
+use Rattle.merge.specs.Merging.{roomFault, mergeOn, Merging}
 
 -- on an image, what is answered is the merged model
 pub merged-answered : (t : List ℕ) (im : Image t) (i : ℕ) (was : List ℕ) (n : Model) → mergeOn t i was ≡ answered n → MergedModel (modelOf t) i n
@@ -26,8 +27,7 @@ merged-answered t im i was n e =
 
 module _ (t : List ℕ) (im : Image t) (i : ℕ) (was : List ℕ) (r : Checked) (into : List ℕ) (g : Merging t i was r into) (n : Model) (e : mergeOn t i was ≡ answered n) where
   written : into ≡ imageOf n ++ drop imageWords was
-  unfolding writtenOf
-  written = g .table ∙ ap (λ a. writtenOf a was) e
+  written = g .table ∙ ap (λ a. tableAfter a was) e
 
   long : length (imageOf n) ≡ imageWords
   long = length-of-image n (merged-answered t im i was n e .well-formed)

@@ -8,7 +8,7 @@ use Rattle.answer.specs.declared.Refusal.{Refusal}
 use Rattle.answer.specs.declared.State.{State}
 use Rattle.answer.specs.declared.Stepped.{Stepped}
 use Rattle.run.specs.Calls.{StepCall, stepOn}
-use Rattle.run.proofs.SaysFixes.{outcome-fixed}
+use Rattle.answer.proofs.SaysFixes.{outcome-fixed}
 use Rattle.panel.specs.Advance.{AdvanceCall, outcomeOf}
 use Rattle.panel.proofs.Kept.{said, where-moved, where-stable, where-refused}
 

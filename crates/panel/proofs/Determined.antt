@@ -5,7 +5,7 @@ use Prim.Native.Nat.{ℕ}
 use Rattle.answer.specs.declared.Outcome.{Outcome}
 use Rattle.answer.specs.declared.State.{State}
 use Rattle.run.specs.Calls.{stepOn}
-use Rattle.run.proofs.SaysFixes.{outcome-fixed}
+use Rattle.answer.proofs.SaysFixes.{outcome-fixed}
 use Rattle.panel.specs.Advance.{AdvanceCall, outcomeOf}
 
 pub advance-determined : (t : List ℕ) (x y z : State) (r q : Outcome) → AdvanceCall t x y r → AdvanceCall t x z q → (r ≡ q) × (y ≡ z)

@@ -1,4 +1,5 @@
 pub mod Values
 pub mod Kept
+pub mod Lengths
 pub mod Determined
 pub mod AsStep

@@ -1,4 +1,3 @@
-pub mod CheckedFixes
 pub mod ReadDetermined
 pub mod Raise
 pub mod LaidHolds

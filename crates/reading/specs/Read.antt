@@ -2,24 +2,16 @@
 use mathlib.Core.Path.{_≡_}
 use mathlib.Core.Option.{some}
 use mathlib.Core.Bool.{true, false}
-use mathlib.Core.List.{List, [], _∷_, _++_}
-use Prim.Native.Nat.{ℕ, _*_}
-use lib.ListN.{length, drop}
+use mathlib.Core.List.{List}
+use Prim.Native.Nat.{ℕ}
+use lib.ListN.{length}
 use lib.Dec.{ltb}
-use Rattle.answer.specs.Told.{Told, tell, Answer, answered, refused, saysChecked}
+use Rattle.answer.specs.Told.{Answer, answered, refused, saysChecked, doneOf}
 use Rattle.answer.specs.declared.Checked.{Checked}
 use Rattle.iosa.specs.Model.{Model}
 use Rattle.iosa.specs.Reading.{readOf}
 use Rattle.layout.specs.Layout.{imageWords}
-use Rattle.layout.specs.Image.{imageOf}
-
--- a word of the table is 8 bytes
-abbrev pub wordBytes : ℕ
-wordBytes = 8
-
--- 24 "table buffer to be written shorter than an image", place "bytes needed"
-abbrev pub tableTooShort : Told
-tableTooShort = tell 24 (imageWords * wordBytes ∷ [])
+use Rattle.layout.specs.Lent.{tableTooShort, tableAfter}
 
 -- the refusal of the text, then 24, else the model
 abbrev pub roomFor : ℕ → Answer Model → Answer Model
@@ -29,15 +21,6 @@ roomFor room (answered m) = elim (ltb room imageWords) [ true ↦ refused tableT
 unfoldable pub readOn : List ℕ → List ℕ → Answer Model
 readOn t old = roomFor (length old) (readOf t)
 
-abbrev pub withoutModel : Answer Model → Answer (Unit {0})
-withoutModel (answered m) = answered tt
-withoutModel (refused f) = refused f
-
--- the image at the front of the table, the rest as it was; "A refusal .. changes no lent byte"
-abbrev pub tableAfter : Answer Model → List ℕ → List ℕ
-tableAfter (answered m) old = imageOf m ++ drop imageWords old
-tableAfter (refused f) old = old
-
 pub record ReadCall (t old new : List ℕ) (r : Checked) : Type 0 where
-  pub answer : saysChecked r ≡ some (withoutModel (readOn t old))
+  pub answer : saysChecked r ≡ some (doneOf (readOn t old))
   pub table : new ≡ tableAfter (readOn t old) old

@@ -1,12 +1,12 @@
 -- The contract of `report` by its two cases: 24, and the report put at the front.
-use mathlib.Core.Path.{_≡_, refl, sym, _∙_, ap}
+use mathlib.Core.Path.{_≡_, _∙_, ap}
 use mathlib.Core.Option.{some}
-use mathlib.Core.List.{List, [], _∷_, _++_}
+use mathlib.Core.List.{List, _++_}
 use Prim.Native.Nat.{ℕ, _+_, _≤_, _<_}
 use native.Mathlib.Omega.{arith}
-use lib.ListN.{length, take, drop}
+use lib.ListN.{length, drop}
 use borrow.Author.Tests.{lt-ltb, le-ltb}
-use Rattle.answer.specs.Told.{answered, refused, tell, told, saysWritten}
+use Rattle.answer.specs.Told.{answered, told, saysWritten}
 use Rattle.answer.specs.declared.Written.the-variants.{Length, Refused}
 use Rattle.answer.specs.declared.Place.the-variants.{Bytes}
 use Rattle.iosa.specs.Report.{reportOf}

@@ -1,13 +1,10 @@
 -- The report by its cases: 9, a text that is refused, and a model that was read.
 use mathlib.Core.Path.{_≡_, refl, sym, _∙_, ap}
-use mathlib.Core.Bool.{Bool, true, false, not}
-use mathlib.Core.Option.{Option, none, some, Option·some-inj}
+use mathlib.Core.Bool.{Bool, true, false}
+use mathlib.Core.Option.{Option, none, some}
 use mathlib.Core.List.{List, [], _∷_}
-use Prim.Native.Nat.{ℕ, _≤_, _<_}
+use Prim.Native.Nat.{ℕ}
 use native.Mathlib.Omega.{arith}
-use lib.ListN.{length}
-use Rattle.laws.specs.Search.{when, orElse}
-use Rattle.answer.specs.Limits.{maxComponents}
 use Rattle.answer.specs.Told.{Told, tell, told, Answer, answered, refused, asRefused, saysChecked}
 use Rattle.answer.specs.State.{partsOf}
 use Rattle.answer.specs.declared.Checked.{Checked}
@@ -16,15 +13,14 @@ use Rattle.answer.specs.declared.Refusal.{Refusal}
 use Rattle.iosa.specs.Model.{Model}
 use Rattle.iosa.specs.Checks.{confluentOf}
 use Rattle.iosa.specs.WellFormed.{WellComp, WellFormed}
-use Rattle.iosa.specs.Reading.{Got, got, readOf}
+use Rattle.iosa.specs.Reading.{got, readOf}
 use Rattle.iosa.specs.Step.{inRange, stateFault, unless}
 use Rattle.iosa.specs.Settle.{settleOf}
 use Rattle.iosa.specs.Report.{Request, requestOf, refusedLine, answerLines, runLines, reportOf}
-use Rattle.iosa.proofs.Settling.Each.{All, each-all, all-map}
+use Rattle.iosa.proofs.Settling.Each.{All, each-all}
 use Rattle.layout.specs.Image.{Image, modelOf}
-use Rattle.layout.proofs.RowsOfRange.{well-formed}
-use Rattle.table.specs.IsImage.{isImage}
 use Rattle.table.specs.OnTable.{onTable}
+use Rattle.table.proofs.OnTableLaws.{on-image}
 use Rattle.table.proofs.ImageExactly.{image-exactly}
 use Rattle.request.specs.Kept.{held}
 use Rattle.request.proofs.HeldLaws.{Few, held-in-range, held-same}
@@ -89,12 +85,8 @@ fine-confluent : (o : Option Told) → _≡_ {A = Option (Answer (Unit {0}))} (s
 fine-confluent none e = refl
 fine-confluent (some t) e = absurd (let z : _≡_ {A = ℕ} 0 1 = cc in omega arith)
 
-on-image : {A : Type 0} (t : List ℕ) (f : Model → Answer A) → Image t → onTable t f ≡ f (modelOf t)
-unfolding onTable
-on-image t f im = rw (image-exactly t .1 im, onTable)
-
 pub checked-image : (t : List ℕ) (r : Checked) → Image t → saysChecked r ≡ some (onTable t (λ m. unless (confluentOf m) tt)) → saysChecked r ≡ some (unless (confluentOf (modelOf t)) tt)
-checked-image t r im e = e ∙ ap some (on-image t (λ m. unless (confluentOf m) tt) im)
+checked-image t r im e = e ∙ ap some (on-image t (λ m. unless (confluentOf m) tt) (image-exactly t .1 im))
 
 refused-first : (m : Model) (s : List ℕ) (n : ℕ) (t : Told) → confluentOf m ≡ some t → refusedLine t ≡ answerLines m s (settleOf m s n n)
 unfolding answerLines settleOf

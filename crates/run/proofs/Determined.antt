@@ -11,7 +11,7 @@ use Rattle.iosa.specs.Step.{Stepping}
 use Rattle.iosa.specs.Settle.{Settling}
 use Rattle.settling.specs.Gives.{StepAnswers, SettleAnswers}
 use Rattle.run.specs.Calls.{StepCall, StepByCall, SettleCall, SettleListCall, stepOn, stepByOn, settleOn, settleListOn}
-use Rattle.run.proofs.SaysFixes.{outcome-fixed, verdict-fixed}
+use Rattle.answer.proofs.SaysFixes.{outcome-fixed, verdict-fixed}
 
 stepped : (v : Answer Stepping) (x : State) (r q : Stepped) → StepAnswers v x r → StepAnswers v x q → r ≡ q
 stepped (answered v) x r q g h =

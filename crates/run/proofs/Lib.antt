@@ -2,6 +2,5 @@ pub mod Answers
 pub mod Ready
 pub mod StepCalls
 pub mod SettleCalls
-pub mod SaysFixes
 pub mod Determined
 pub mod Demand3

@@ -20,7 +20,8 @@ use Rattle.layout.proofs.RowsOfRange.{well-formed}
 use Rattle.settling.specs.Gives.{Ready}
 use Rattle.iosa.specs.Model.{Model}
 use Rattle.table.specs.IsImage.{isImage}
-use Rattle.table.proofs.CheckedLaws.{checkOn, fine-passes, refused-tells}
+use Rattle.table.specs.OnTable.{checkOn}
+use Rattle.table.proofs.CheckedLaws.{fine-passes, refused-tells}
 use Rattle.table.proofs.ImageExactly.{image-exactly}
 
 module _ (t : List ℕ) (im : isImage t ≡ true) where

@@ -19,9 +19,9 @@ use Rattle.iosa.specs.Step.{inRange, urgentStep}
 use Rattle.iosa.specs.Settle.{Settling, settle, play, settleOf, settleListOf}
 use Rattle.layout.specs.Image.{modelOf}
 use Rattle.settling.specs.Gives.{SettleAnswers, SettleGives, TraceHolds}
-use Rattle.table.specs.OnTable.{onTable}
+use Rattle.table.specs.OnTable.{onTable, checkOn}
 use Rattle.table.proofs.OnTableLaws.{on-image}
-use Rattle.table.proofs.CheckedLaws.{checkOn, call-refuses}
+use Rattle.table.proofs.CheckedLaws.{call-refuses}
 use Rattle.run.specs.Refusals.{wholeAt, bytesAt, refusedSettling}
 use Rattle.run.specs.Calls.{SettleCall, SettleListCall, traceAfter}
 use Rattle.run.proofs.Answers.{settle-answers, refuses-settling, settle-refused, list-refused, settle-wrong, settle-over, settle-short, settle-goes, list-wrong, list-over, list-goes}

@@ -16,9 +16,9 @@ use Rattle.iosa.specs.Checks.{acceptOf}
 use Rattle.iosa.specs.Step.{Stepping, inRange, stepOf, stepByOf}
 use Rattle.layout.specs.Image.{modelOf}
 use Rattle.settling.specs.Gives.{StepAnswers, StepGives, byRuleOf, byNameOf}
-use Rattle.table.specs.OnTable.{onTable}
+use Rattle.table.specs.OnTable.{onTable, checkOn}
 use Rattle.table.proofs.OnTableLaws.{on-image}
-use Rattle.table.proofs.CheckedLaws.{checkOn, call-refuses}
+use Rattle.table.proofs.CheckedLaws.{call-refuses}
 use Rattle.run.specs.Refusals.{wholeAt, refusedStep}
 use Rattle.run.specs.Calls.{StepCall, StepByCall}
 use Rattle.run.proofs.Answers.{step-answers, refuses-step, step-refused, named-refused, step-wrong, named-wrong, step-goes, named-goes}

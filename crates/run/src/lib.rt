@@ -12,7 +12,7 @@ ghost use mathlib.Core.Option.{some};
 ghost use Prim.Native.Nat.{ℕ, _≤_, _<_};
 ghost use Rattle.answer.specs.Told.{saysChecked};
 ghost use Rattle.iosa.specs.Checks.{acceptOf, confluentOf};
-ghost use Rattle.table.proofs.CheckedLaws.{checkOn};
+ghost use Rattle.table.specs.OnTable.{checkOn};
 ghost use Rattle.run.specs.Refusals.{wholeAt, bytesAt, refusedStep, refusedSettling};
 ghost use Rattle.run.specs.Calls.{StepCall, StepByCall, SettleCall, SettleListCall};
 

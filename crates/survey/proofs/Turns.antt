@@ -12,8 +12,7 @@ use Rattle.laws.proofs.SearchLaws.{no-some}
 use lib.ListN.{length, drop, drop-of-length-le, length-drop}
 use Rattle.answer.specs.declared.Place.the-variants.{Line, Whole}
 use Rattle.answer.specs.declared.Checked.the-variants.{Fine, Refused}
-use Rattle.answer.specs.Told.{Told, told, tell, Answer, answered, refused, asRefused, saysChecked}
-use Rattle.survey.specs.Survey.{checkedOf}
+use Rattle.answer.specs.Told.{Told, told, tell, Answer, answered, refused, asRefused, saysChecked, doneOf}
 use Rattle.iosa.specs.Model.{Model, Comp, rowCount}
 use Rattle.iosa.specs.Reading.{Got, got, Entry, comp-entry, act-entry, clk-entry, row-entry, entry, Progress, turn, outOfTurn, faultOf, rowOf, withAct, withClk, withRow, onLast, takeIn, finish, linesFrom, atStart}
 use Rattle.iosa.proofs.Reading.LinesFrom.{entry-shortens, lines-end, lines-shapeless, lines-fault, lines-next}
@@ -124,20 +123,20 @@ told-line (suc (suc (suc (suc (suc (suc zero)))))) n h l = refl
 told-line (suc (suc (suc (suc (suc (suc (suc zero))))))) n h l = refl
 told-line (suc (suc (suc (suc (suc (suc (suc (suc f)))))))) n h l = absurd (omega arith)
 
-pub says-line : (f n : ℕ) (o : Answer Model) → o ≡ refused (tell f (n ∷ [])) → 2 ≤ f → f ≤ 7 → saysChecked (Refused (record { number = f; place = Line n })) ≡ some (checkedOf o)
+pub says-line : (f n : ℕ) (o : Answer Model) → o ≡ refused (tell f (n ∷ [])) → 2 ≤ f → f ≤ 7 → saysChecked (Refused (record { number = f; place = Line n })) ≡ some (doneOf o)
 unfolding saysChecked
-says-line f n o e h l = ap asRefused (told-line f n h l) ∙ ap (λ a. some (checkedOf a)) (sym e)
+says-line f n o e h l = ap asRefused (told-line f n h l) ∙ ap (λ a. some (doneOf a)) (sym e)
 
-pub says-none : (o : Answer Model) (m : List Comp) → o ≡ finish m → length m ≡ 0 → saysChecked (Refused (record { number = 8; place = Whole })) ≡ some (checkedOf o)
+pub says-none : (o : Answer Model) (m : List Comp) → o ≡ finish m → length m ≡ 0 → saysChecked (Refused (record { number = 8; place = Whole })) ≡ some (doneOf o)
 unfolding saysChecked told
-says-none o [] e h = ap (λ a. some (checkedOf a)) (sym e)
+says-none o [] e h = ap (λ a. some (doneOf a)) (sym e)
 says-none o (c ∷ cs) e h = absurd (omega arith)
 
-pub says-fine : (o : Answer Model) (m : List Comp) → o ≡ finish m → (length m ≡ 0 → ⊥) → saysChecked Fine ≡ some (checkedOf o)
+pub says-fine : (o : Answer Model) (m : List Comp) → o ≡ finish m → (length m ≡ 0 → ⊥) → saysChecked Fine ≡ some (doneOf o)
 unfolding saysChecked
 says-fine o [] e h = absurd (h refl)
-says-fine o (c ∷ cs) e h = ap (λ a. some (checkedOf a)) (sym e)
+says-fine o (c ∷ cs) e h = ap (λ a. some (doneOf a)) (sym e)
 
-pub says-long : (o : Answer Model) → o ≡ refused (tell 1 (0 ∷ [])) → saysChecked (Refused (record { number = 1; place = Whole })) ≡ some (checkedOf o)
+pub says-long : (o : Answer Model) → o ≡ refused (tell 1 (0 ∷ [])) → saysChecked (Refused (record { number = 1; place = Whole })) ≡ some (doneOf o)
 unfolding saysChecked told
-says-long o e = ap (λ a. some (checkedOf a)) (sym e)
+says-long o e = ap (λ a. some (doneOf a)) (sym e)

@@ -2,9 +2,8 @@
 ghost use mathlib.Core.Path.{_≡_};
 ghost use mathlib.Core.Option.{some};
 ghost use lib.ListN.{length};
-ghost use Rattle.answer.specs.Told.{saysChecked};
+ghost use Rattle.answer.specs.Told.{saysChecked, doneOf};
 ghost use Rattle.iosa.specs.Reading.{linesFrom, atStart, readOf};
-ghost use Rattle.survey.specs.Survey.{checkedOf};
 use answer::Checked;
 use answer::Model;
 use answer::Place;
@@ -14,7 +13,7 @@ use judge::Judged;
 use lines::LineScan;
 
 fn check_lines(text: &[u8]) -> Checked
-    ensures { λ r. ⌜ saysChecked r ≡ some (checkedOf (linesFrom (length (now (text .entry))) 1 atStart (now (text .entry)))) ⌝ }
+    ensures { λ r. ⌜ saysChecked r ≡ some (doneOf (linesFrom (length (now (text .entry))) 1 atStart (now (text .entry)))) ⌝ }
 {
     let mut p = judge::at_start();
     let mut at = 0;
@@ -50,7 +49,7 @@ fn check_lines(text: &[u8]) -> Checked
 }
 
 pub fn check_text(text: &[u8]) -> Checked
-    ensures { λ r. ⌜ saysChecked r ≡ some (checkedOf (readOf (now (text .entry)))) ⌝ }
+    ensures { λ r. ⌜ saysChecked r ≡ some (doneOf (readOf (now (text .entry)))) ⌝ }
 {
     if Model::BYTES < text.len() {
         return Checked::Refused(Refusal {

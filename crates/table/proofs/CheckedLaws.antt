@@ -12,16 +12,13 @@ use Rattle.answer.specs.declared.Checked.the-variants.{Fine, Refused}
 use Rattle.iosa.specs.Model.{Model}
 use Rattle.iosa.specs.Step.{unless}
 use Rattle.layout.specs.Image.{modelOf, noImage}
+use Rattle.answer.proofs.SaysFixes.{tells}
 use Rattle.table.specs.IsImage.{isImage}
-use Rattle.table.specs.OnTable.{onTable}
+use Rattle.table.specs.OnTable.{onTable, checkOn}
 use Rattle.table.proofs.OnTableLaws.{on-image, on-no-image}
 
--- a check of the model, by what stands in its way
 abbrev done : Unit {0}
 done = tt
-
-abbrev pub checkOn : List ℕ → (Model → Option Told) → Answer (Unit {0})
-checkOn t check = onTable t (λ m. unless (check m) done)
 
 never-both {ℓ} : {P : Type ℓ} {f : Told} → _≡_ {A = Answer (Unit {0})} (answered done) (refused f) → P
 never-both e = let z : _≡_ {A = ℕ} 0 1 = cc in absurd (omega arith)
@@ -43,13 +40,6 @@ module _ (t : List ℕ) (check : Model → Option Told) where
   abbrev pub Follows : {A : Type 0} → (Model → Answer A) → Type 0
   Follows g = (m : Model) (f : Told) → check m ≡ some f → g m ≡ refused f
 
-  refused-told : (q : Refusal) (x : Answer (Unit {0})) → asRefused (told q) ≡ some x → (f : Told) × (told q ≡ some f) × (x ≡ refused f)
-  refused-told q x e = go (told q) refl e
-    where
-      go : (o : Option Told) → told q ≡ o → asRefused o ≡ some x → (f : Told) × (told q ≡ some f) × (x ≡ refused f)
-      go none h e = let z : _≡_ {A = ℕ} 0 1 = cc in absurd (omega arith)
-      go (some f) h e = (f, h, sym (Option·some-inj .0 e))
-
   same-told : {f g : Told} → _≡_ {A = Answer (Unit {0})} (refused f) (refused g) → f ≡ g
   same-told e = cc
 
@@ -59,7 +49,7 @@ module _ (t : List ℕ) (check : Model → Option Told) where
 
   pub refused-tells : (q : Refusal) → saysChecked (Refused q) ≡ some (checkOn t check) → (f : Told) × (told q ≡ some f) × (checkOn t check ≡ refused f)
   unfolding saysChecked
-  refused-tells q e = refused-told q (checkOn t check) e
+  refused-tells q e = tells q (checkOn t check) e
 
   pub call-refuses : {A : Type 0} (g : Model → Answer A) → Follows g → (f : Told) → checkOn t check ≡ refused f → onTable t g ≡ refused f
   call-refuses g fol f x = go (isImage t) refl

@@ -18,7 +18,7 @@ use Rattle.table.specs.IsImage.{isImage}
 use Rattle.table.proofs.OnTableLaws.{on-image, on-no-image}
 use Rattle.table.proofs.ImageExactly.{image-exactly}
 use Rattle.text.specs.Write.{tooShort, writeOf, writeOn, textAfter, WriteCall}
-use Rattle.text.proofs.WrittenFixes.{says-the-length}
+use Rattle.answer.proofs.SaysFixes.{says-the-length}
 
 -- what was answered with a length
 module _ (t old new : List ℕ) (n : ℕ) (c : WriteCall t old new (Length n)) where

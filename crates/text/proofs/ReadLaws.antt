@@ -6,7 +6,7 @@ use Prim.Native.Nat.{ℕ, _*_, _≤_, _<_}
 use native.Mathlib.Omega.{arith}
 use lib.ListN.{length, drop}
 use borrow.Author.Tests.{lt-ltb, le-ltb}
-use Rattle.answer.specs.Told.{told, Answer, answered, refused, saysChecked}
+use Rattle.answer.specs.Told.{told, Answer, answered, refused, saysChecked, doneOf}
 use Rattle.answer.specs.declared.Place.the-variants.{Bytes}
 use Rattle.answer.specs.declared.Refusal.{Refusal}
 use Rattle.answer.specs.declared.Checked.{Checked}
@@ -15,9 +15,9 @@ use Rattle.iosa.specs.Model.{Model}
 use Rattle.iosa.specs.Reading.{readOf}
 use Rattle.layout.specs.Layout.{imageWords}
 use Rattle.layout.specs.Image.{imageOf}
-use Rattle.survey.specs.Survey.{checkedOf}
-use Rattle.reading.specs.Read.{wordBytes, tableTooShort, roomFor, readOn, withoutModel, tableAfter, ReadCall}
-use Rattle.reading.proofs.CheckedFixes.{checked-fixed}
+use Rattle.layout.specs.Lent.{wordBytes, tableTooShort, tableAfter}
+use Rattle.reading.specs.Read.{roomFor, readOn, ReadCall}
+use Rattle.answer.proofs.SaysFixes.{checked-fixed}
 
 pub says-fine : saysChecked Fine ≡ some (answered tt)
 unfolding saysChecked
@@ -35,23 +35,23 @@ long-room room m h = rw (le-ltb room imageWords h, roomFor)
 
 module _ (t old : List ℕ) where
   -- what the call says and leaves, from what it answers
-  called : (new : List ℕ) (r : Checked) (a : Answer Model) → readOn t old ≡ a → saysChecked r ≡ some (withoutModel a) → new ≡ tableAfter a old → ReadCall t old new r
-  called new r a e p q = record { answer = p ∙ ap (λ b. some (withoutModel b)) (sym e); table = q ∙ ap (λ b. tableAfter b old) (sym e) }
+  called : (new : List ℕ) (r : Checked) (a : Answer Model) → readOn t old ≡ a → saysChecked r ≡ some (doneOf a) → new ≡ tableAfter a old → ReadCall t old new r
+  called new r a e p q = record { answer = p ∙ ap (λ b. some (doneOf b)) (sym e); table = q ∙ ap (λ b. tableAfter b old) (sym e) }
 
   -- the text is refused
-  pub no-text : (f : Refusal) → saysChecked (Refused f) ≡ some (checkedOf (readOf t)) → ReadCall t old old (Refused f)
+  pub no-text : (f : Refusal) → saysChecked (Refused f) ≡ some (doneOf (readOf t)) → ReadCall t old old (Refused f)
   unfolding readOn
   no-text f e = go (readOf t) refl e
     where
-      go : (a : Answer Model) → readOf t ≡ a → saysChecked (Refused f) ≡ some (checkedOf a) → ReadCall t old old (Refused f)
+      go : (a : Answer Model) → readOf t ≡ a → saysChecked (Refused f) ≡ some (doneOf a) → ReadCall t old old (Refused f)
       go (refused g) h e = called old (Refused f) (refused g) (ap (roomFor (length old)) h) e refl
       go (answered m) h e = let same : Refused f ≡ Fine = checked-fixed (Refused f) Fine (answered tt) e says-fine in let z : _≡_ {A = ℕ} 0 1 = cc in absurd (omega arith)
 
   -- the text is good
-  pub good-text : saysChecked Fine ≡ some (checkedOf (readOf t)) → (m : Model) × (readOf t ≡ answered m)
+  pub good-text : saysChecked Fine ≡ some (doneOf (readOf t)) → (m : Model) × (readOf t ≡ answered m)
   good-text e = go (readOf t) refl e
     where
-      go : (a : Answer Model) → readOf t ≡ a → saysChecked Fine ≡ some (checkedOf a) → (m : Model) × (readOf t ≡ answered m)
+      go : (a : Answer Model) → readOf t ≡ a → saysChecked Fine ≡ some (doneOf a) → (m : Model) × (readOf t ≡ answered m)
       go (answered m) h e = (m, h)
       go (refused g) h e = let f = says-fine in let z : _≡_ {A = ℕ} 0 1 = cc in absurd (omega arith)
 

@@ -8,7 +8,7 @@ use native.Mathlib.Omega.{arith}
 use lib.ListN.{length, take, drop}
 use lib.Seq.{take-at}
 use lib.Dec.{ltb}
-use Rattle.answer.specs.Told.{Answer, answered, refused}
+use Rattle.answer.specs.Told.{Answer, answered, refused, doneOf}
 use Rattle.answer.specs.declared.Checked.{Checked}
 use Rattle.answer.specs.declared.Checked.the-variants.{Fine}
 use Rattle.answer.specs.declared.Written.{Written}
@@ -23,16 +23,17 @@ use Rattle.layout.proofs.RowsOfRange.{image-front, well-formed}
 use Rattle.table.specs.IsImage.{isImage}
 use Rattle.table.proofs.OnTableLaws.{on-image}
 use Rattle.table.proofs.ImageExactly.{image-exactly, written-recognised}
-use Rattle.reading.specs.Read.{tableTooShort, roomFor, readOn, withoutModel, tableAfter, ReadCall}
+use Rattle.layout.specs.Lent.{tableTooShort, tableAfter}
+use Rattle.reading.specs.Read.{roomFor, readOn, ReadCall}
 use Rattle.reading.proofs.ReadDetermined.{read-determined}
 use Rattle.text.specs.Write.{writeOf, writeOn, WriteCall}
 use Rattle.text.proofs.ReadLaws.{says-fine, taken-in}
 use Rattle.text.proofs.WriteLaws.{long-enough, says-length}
-use Rattle.text.proofs.WrittenFixes.{written-fixed}
+use Rattle.answer.proofs.SaysFixes.{written-fixed}
 use Rattle.text.proofs.ReadBack.{written-image, written-is-read, read-is-written}
 
 -- ---- a text that was read
-fine-model : (a : Answer Model) → some (answered tt) ≡ some (withoutModel a) → (m : Model) × (a ≡ answered m)
+fine-model : (a : Answer Model) → some (answered tt) ≡ some (doneOf a) → (m : Model) × (a ≡ answered m)
 fine-model (answered m) e = (m, refl)
 fine-model (refused f) e = let z : _≡_ {A = ℕ} 0 1 = cc in absurd (omega arith)
 

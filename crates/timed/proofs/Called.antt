@@ -18,9 +18,9 @@ use Rattle.iosa.specs.Checks.{acceptOf}
 use Rattle.iosa.specs.Step.{stateFault}
 use Rattle.iosa.specs.Timed.{enablingAll, unstableFault, valuesFault, Timing, timedFrom, timedOf}
 use Rattle.layout.specs.Image.{Image, modelOf}
-use Rattle.table.specs.OnTable.{onTable}
+use Rattle.table.specs.OnTable.{onTable, checkOn}
 use Rattle.table.proofs.OnTableLaws.{on-image}
-use Rattle.table.proofs.CheckedLaws.{checkOn, fine-passes, refused-tells, call-refuses}
+use Rattle.table.proofs.CheckedLaws.{fine-passes, refused-tells, call-refuses}
 use Rattle.table.proofs.ImageExactly.{image-exactly}
 use Rattle.firing.specs.Shots.{TimingAnswers}
 use Rattle.firing.proofs.Judging.{refuses}

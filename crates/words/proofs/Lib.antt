@@ -1,2 +1,3 @@
 pub mod Tells
 pub mod WordsFix
+pub mod Laid

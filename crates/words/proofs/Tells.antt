@@ -1,5 +1,5 @@
 -- What an answer says fixes its words.
-use mathlib.Core.Path.{_≡_, refl, sym, _∙_, ap}
+use mathlib.Core.Path.{_≡_, refl, _∙_, ap}
 use mathlib.Core.Option.{Option, none, some, Option·some-inj}
 use mathlib.Core.List.{List}
 use Prim.Native.Nat.{ℕ}

@@ -14,7 +14,7 @@ ghost use lib.ListN.{getD};
 ghost use mathlib.Core.Bool.{Bool};
 ghost use Rattle.answer.specs.Told.{Answer, Step, Shot, saysChecked, saysWritten, saysOutcome, saysVerdict, saysFiring};
 ghost use Rattle.words.specs.Words.{wordsOf, refusalWords, checkedWords, writtenWords, steppedWords, settledWords, firedWords};
-ghost use Rattle.words.specs.Bytes.{stateOf};
+ghost use Rattle.words.specs.Bytes.{stateOf, laidOver};
 
 // The layout of an answer: how many words, and what the first of them says.
 pub struct Words {}
@@ -179,4 +179,16 @@ fn part(bytes: &[u8], i: usize) -> u8
     ensures { λ r. ⌜ r ≡ getD (now (bytes .entry)) i 0 ⌝ }
 {
     if i < bytes.len() { bytes[i] } else { 0 }
+}
+
+// A state's places laid over the bytes that a caller lent, as many as there are bytes.
+pub fn put_state(bytes: &mut [u8], x: State)
+    ensures { λ _. ⌜ now (bytes .exit) ≡ laidOver (x .parts) (now (bytes .entry)) ⌝ }
+{
+    let parts = x.parts;
+    let mut i = 0usize;
+    while i < State::PARTS && i < bytes.len() {
+        bytes[i] = parts[i];
+        i += 1;
+    }
 }

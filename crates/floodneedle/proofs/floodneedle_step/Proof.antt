@@ -1,6 +1,6 @@
 -- `floodneedle::floodneedle_step` meets its contract: words and state are those of the call on the state that the bytes make.
 use borrow.Author.Needs.{needs}
-use mathlib.Core.Path.{_≡_, subst}
+use mathlib.Core.Path.{subst}
 use Rattle.answer.specs.declared.State.{State}
 use Rattle.run.specs.Calls.{stepOn}
 use Rattle.floodneedle.specs.Told.{StepTold}

@@ -2,9 +2,9 @@
 use mathlib.Core.Path.{sym, _∙_, ap}
 use mathlib.Core.Option.{some}
 use denote.Ref.{now}
+use Rattle.answer.specs.Told.{doneOf}
 use Rattle.iosa.specs.Reading.{readOf}
 use Rattle.iosa.proofs.Reading.Faults.{too-long-exactly, read-short}
-use Rattle.survey.specs.Survey.{checkedOf}
 use Rattle.survey.proofs.Turns.{says-long}
 use borrow.Author.Needs.{needs}
 use Rattle.survey.proofs.check_text.Statement.{statement}
@@ -19,7 +19,7 @@ check-lines-requires c κs = search needs
 returns-2 : tie.Need-returns-2
 returns-2 c =
     let t = now (c .before .before .before .args .text) in
-    c .check-lines .ensures ∙ ap (λ o. some (checkedOf o)) (sym (read-short t (c .before .if1 .left)))
+    c .check-lines .ensures ∙ ap (λ o. some (doneOf o)) (sym (read-short t (c .before .if1 .left)))
 
 pub check-text-spec : {M : Type 1} → statement M
 check-text-spec = tie.close (tie.spec returns check-lines-requires returns-2)

@@ -1,0 +1,71 @@
+-- The request line is scanned as it is printed, and printed as it was scanned.
+use mathlib.Core.Path.{_≡_, refl, sym, _∙_, ap, subst}
+use mathlib.Core.Option.{Option, some, Option·some-inj}
+use mathlib.Core.List.{List, [], _∷_, _++_, append-assoc}
+use Prim.Native.Nat.{ℕ}
+use Rattle.iosa.specs.Text.{tab, lf, decimal, joined, fieldsAfter}
+use Rattle.iosa.specs.Reading.{Got, got, then, exactly, theByte, number, numbers, field}
+use Rattle.iosa.specs.Line.{Fits, Ends, Any, Exact}
+use Rattle.iosa.specs.Report.{Request, fromWord, requestLine}
+use Rattle.iosa.proofs.Reading.Fields.{then-some, exactly-scanned, number-exact, numbers-exact, ListFits}
+
+unfoldable pub requestText : Request → List ℕ
+requestText q = fromWord ++ fieldsAfter (joined (q .state) ∷ decimal (q .budget) ∷ [])
+
+abbrev pub RequestFits : Request → Type 0
+RequestFits q = ListFits (q .state) × Fits (q .budget)
+
+fields-end : (fs : List (List ℕ)) (bs : List ℕ) → Ends (fieldsAfter fs ++ bs)
+unfolding fieldsAfter
+fields-end [] bs = (refl, refl)
+fields-end (f ∷ fs) bs = (refl, refl)
+
+module _ {A : Type 0} (scan : List ℕ → Option (Got A)) (print : A → List ℕ) (Good : A → Type 0) (r : Exact scan print Good Ends) where
+  field-printed : (x : A) → Good x → (fs : List (List ℕ)) (bs : List ℕ) → field scan (fieldsAfter (print x ∷ fs) ++ bs) ≡ got x (fieldsAfter fs ++ bs)
+  unfolding fieldsAfter exactly
+  field-printed x h fs bs = ap scan (append-assoc (print x) (fieldsAfter fs) bs) ∙ r .printed x (fieldsAfter fs ++ bs) h (fields-end fs bs)
+
+  field-scanned : (bs : List ℕ) (g : Got A) → field scan bs ≡ some g → (bs ≡ (tab ∷ print (g .value)) ++ g .rest) × Good (g .value)
+  field-scanned bs g e =
+      let t = then-some (theByte tab bs) (λ _ cs. scan cs) e in
+      let q = r .scanned (t .0 .rest) g (t .2) in
+      (exactly-scanned (tab ∷ []) bs (t .0) (t .1) ∙ ap {B = List ℕ} (λ l. tab ∷ l) (q .0), q .1)
+
+printed : (q : Request) (bs : List ℕ) → RequestFits q → requestLine (requestText q ++ bs) ≡ got q bs
+unfolding requestLine requestText fieldsAfter exactly
+printed q bs h =
+    rw (field-printed numbers joined ListFits numbers-exact (q .state) (h .0) (decimal (q .budget) ∷ []) bs, field-printed number decimal Fits number-exact (q .budget) (h .1) [] bs)
+
+field-before : (l : List ℕ) (fs : List (List ℕ)) (rest : List ℕ) {bs cs : List ℕ} → bs ≡ (tab ∷ l) ++ cs → cs ≡ fieldsAfter fs ++ rest → bs ≡ fieldsAfter (l ∷ fs) ++ rest
+unfolding fieldsAfter
+field-before l fs rest p q = p ∙ ap {B = List ℕ} (λ r. (tab ∷ l) ++ r) q ∙ sym (append-assoc (tab ∷ l) (fieldsAfter fs) rest)
+
+-- the scans of its parts, one after the other
+abbrev asRequest : Got (List ℕ) → Got ℕ → Got (Unit {0}) → Got Request
+asRequest s n z = record { value = record { state = s .value; budget = n .value }; rest = z .rest }
+
+abbrev Scanned : List ℕ → Got Request → Type 0
+Scanned bs g = (bs ≡ requestText (g .value) ++ g .rest) × RequestFits (g .value)
+
+parts-scanned : (bs : List ℕ) (w : Got (Unit {0})) (s : Got (List ℕ)) (n : Got ℕ) (z : Got (Unit {0})) (g : Got Request) → exactly fromWord bs ≡ some w → field numbers (w .rest) ≡ some s
+    → field number (s .rest) ≡ some n → theByte lf (n .rest) ≡ some z → _≡_ {A = Option (Got Request)} (some (asRequest s n z)) (some g) → Scanned bs g
+unfolding requestText fieldsAfter
+parts-scanned bs w s n z g ew es en ez eg =
+    let ps = field-scanned numbers joined ListFits numbers-exact (w .rest) s es in
+    let pn = field-scanned number decimal Fits number-exact (s .rest) n en in
+    let end = exactly-scanned (lf ∷ []) (n .rest) z ez in
+    let fields = field-before (joined (s .value)) (decimal (n .value) ∷ []) (z .rest) (ps .0) (field-before (decimal (n .value)) [] (z .rest) (pn .0) end) in
+    subst (Scanned bs) (Option·some-inj .0 eg) (exactly-scanned fromWord bs w ew ∙ ap {B = List ℕ} (λ l. fromWord ++ l) fields, (ps .1, pn .1))
+
+scanned : (bs : List ℕ) (g : Got Request) → requestLine bs ≡ some g → Scanned bs g
+unfolding requestLine
+scanned bs g e =
+    let behind : List ℕ → ℕ → List ℕ → Option (Got Request) = λ s n es. then (theByte lf es) (λ _ fs. got (record { state = s; budget = n }) fs) in
+    let t = then-some (exactly fromWord bs) (λ _ cs. then (field numbers cs) (λ s ds. then (field number ds) (λ n es. behind s n es))) e in
+    let u = then-some (field numbers (t .0 .rest)) (λ s ds. then (field number ds) (λ n es. behind s n es)) (t .2) in
+    let v = then-some (field number (u .0 .rest)) (λ n es. behind (u .0 .value) n es) (u .2) in
+    let y = then-some (theByte lf (v .0 .rest)) (λ _ fs. got (record { state = u .0 .value; budget = v .0 .value }) fs) (v .2) in
+    parts-scanned bs (t .0) (u .0) (v .0) (y .0) g (t .1) (u .1) (v .1) (y .1) (y .2)
+
+pub request-exact : Exact requestLine requestText RequestFits Any
+request-exact = record { printed = λ q bs h e. printed q bs h; scanned = scanned }
