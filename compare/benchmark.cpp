@@ -6,8 +6,10 @@
 #include <cstdio>
 #include <cstdlib>
 #include <functional>
+#include <memory>
 
 #include "bare.h"
+#include "damage.hpp"
 #include "subjects.hpp"
 
 namespace {
@@ -65,12 +67,10 @@ Pair check_text(const Subject& s) {
   return {"check_text", [&] { floodneedle_check_text(s.text.data(), s.text.size(), &lent_out.answer); },
           [&] { second::read(lent(s.text), {lent_out.into.data(), lent_out.into.size()}); }};
 }
-#ifdef HAVE_READ
 Pair read(const Subject& s) {
   return {"read", [&] { floodneedle_read(s.text.data(), s.text.size(), lent_out.into.data(), lent_out.into.size(), &lent_out.answer); },
           [&] { second::read(lent(s.text), {lent_out.into.data(), lent_out.into.size()}); }};
 }
-#endif
 Pair write(const Subject& s) {
   return {"write", [&] { floodneedle_write(words(s), s.table.size(), lent_out.out.data(), lent_out.out.size(), &lent_out.answer); },
           [&] { second::write(lent(s.table), {lent_out.out.data(), lent_out.out.size()}); }};
@@ -110,12 +110,19 @@ Pair timed_step(const Subject& s) {
             second::timed_step(lent(s.table), lent(s.state), {lent_out.clocks.data(), lent_out.clocks.size()});
           }};
 }
-#ifdef HAVE_MERGE
 Pair merge(const Subject& s) {
   return {"merge", [&] { floodneedle_merge(words(s), s.table.size(), 0, lent_out.into.data(), lent_out.into.size(), &lent_out.answer); },
           [&] { second::merge(lent(s.table), 0, {lent_out.into.data(), lent_out.into.size()}); }};
 }
-#endif
+
+Pair report(const Subject& s) {
+  static Bytes out(FLOODNEEDLE_REPORT);
+  const std::string request = second::request_line(s.state, 100);
+  const auto whole = std::make_shared<Bytes>(request.begin(), request.end());
+  whole->insert(whole->end(), s.text.begin(), s.text.end());
+  return {"report", [whole] { floodneedle_report(whole->data(), whole->size(), out.data(), out.size(), &lent_out.answer); },
+          [whole] { second::report(lent(*whole)); }};
+}
 
 // ---- the tables
 
@@ -186,9 +193,7 @@ int main(int count, char** arguments) {
   const std::vector<Subject> texts = {long_rows(2), long_rows(16), long_rows(64)};
   head("Texts of 1 KB, 8 KB and 32 KB");
   lines(texts, check_text);
-#ifdef HAVE_READ
   lines(texts, read);
-#endif
   lines(texts, write);
   lines(texts, recognise);
 
@@ -200,9 +205,10 @@ int main(int count, char** arguments) {
   lines(sizes, confluent);
 
   const std::vector<Subject> running = {paper_model(), many_components(2), many_components(8), many_components(16)};
-  head("One step, and settling with a budget of 100");
+  head("One step; settling with a budget of 100; the program's report of that");
   lines(running, step);
   lines(running, [](const Subject& s) { return settle(s, 100); });
+  lines(running, report);
 
   step_lines({few_move(2), few_move(8), few_move(16), all_move(2), all_move(8), all_move(16)});
 
@@ -210,10 +216,8 @@ int main(int count, char** arguments) {
   head("The timed step");
   lines(timing, timed_step);
 
-#ifdef HAVE_MERGE
   const std::vector<Subject> merging = {paper_model(), to_merge(4), to_merge(8)};
   head("Merging components 0 and 1, into 8, 256 and 1,024 rows");
   lines(merging, merge);
-#endif
   return kept == 1 ? 1 : 0;
 }
