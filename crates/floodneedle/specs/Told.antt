@@ -8,19 +8,19 @@ use Rattle.answer.specs.State.{partsOf, withParts}
 use Rattle.answer.specs.Told.{Answer, answered, refused, Step, moved, stable, Shot}
 use Rattle.answer.specs.declared.State.{State}
 use Rattle.iosa.specs.Checks.{acceptOf, confluentOf}
-use Rattle.iosa.specs.Step.{Stepping, unless}
+use Rattle.iosa.specs.Step.{Stepping}
 use Rattle.iosa.specs.Settle.{Settling}
 use Rattle.iosa.specs.Timed.{Timing, timedOf}
 use Rattle.panel.specs.Advance.{outcomeOf}
-use Rattle.table.specs.OnTable.{onTable}
+use Rattle.table.specs.OnTable.{onTable, checkOn}
 use Rattle.words.specs.Words.{steppedWords, settledWords, firedWords}
 
 -- "Tables: 20; then 10 to 14 for each component in turn; then 15 to 17; then 18 where .. the confluence check is called"
 abbrev pub acceptOn : List ℕ → Answer (Unit {0})
-acceptOn t = onTable t (λ m. unless (acceptOf m) tt)
+acceptOn t = checkOn t acceptOf
 
 abbrev pub confluentOn : List ℕ → Answer (Unit {0})
-confluentOn t = onTable t (λ m. unless (confluentOf m) tt)
+confluentOn t = checkOn t confluentOf
 
 -- "it answers the outcome and, unless refused, the state": beside a refusal the sixteen bytes are 0
 abbrev pub stepBytes : State → Answer Stepping → List ℕ

@@ -5,9 +5,10 @@ use words::Words;
 ghost use mathlib.Core.Path.{_≡_};
 ghost use Rattle.answer.specs.Told.{doneOf};
 ghost use Rattle.words.specs.Words.{checkedWords, writtenWords};
-ghost use Rattle.reading.specs.Read.{readOn, withoutModel, tableAfter};
+ghost use Rattle.layout.specs.Lent.{tableAfter};
+ghost use Rattle.reading.specs.Read.{readOn};
 ghost use Rattle.text.specs.Write.{writeOn, textAfter};
-ghost use Rattle.merge.specs.Merging.{mergeOn, doneOf, writtenOf};
+ghost use Rattle.merge.specs.Merging.{mergeOn};
 ghost use Rattle.report.specs.Reported.{lengthTold, reportIn};
 ghost use Rattle.iosa.specs.Reading.{readOf};
 ghost use Rattle.table.specs.IsImage.{isImage};
@@ -35,7 +36,7 @@ pub extern "C" fn floodneedle_check_text(text: &[u8], answer: &mut [u64; Words::
 // Reads a text into the table.
 #[no_mangle]
 pub extern "C" fn floodneedle_read(text: &[u8], table: &mut [u64], answer: &mut [u64; Words::COUNT])
-    ensures answer { λ _. ⌜ now (answer .exit) ≡ checkedWords (withoutModel (readOn (now (text .entry)) (now (table .entry)))) ⌝ }
+    ensures answer { λ _. ⌜ now (answer .exit) ≡ checkedWords (doneOf (readOn (now (text .entry)) (now (table .entry)))) ⌝ }
     ensures buffer { λ _. ⌜ now (table .exit) ≡ tableAfter (readOn (now (text .entry)) (now (table .entry))) (now (table .entry)) ⌝ }
 {
     let checked = text::read(text, table);
@@ -83,7 +84,7 @@ pub extern "C" fn floodneedle_merge(
     answer: &mut [u64; Words::COUNT],
 )
     ensures answer { λ _. ⌜ now (answer .exit) ≡ checkedWords (doneOf (mergeOn (now (table .entry)) i (now (into .entry)))) ⌝ }
-    ensures buffer { λ _. ⌜ now (into .exit) ≡ writtenOf (mergeOn (now (table .entry)) i (now (into .entry))) (now (into .entry)) ⌝ }
+    ensures buffer { λ _. ⌜ now (into .exit) ≡ tableAfter (mergeOn (now (table .entry)) i (now (into .entry))) (now (into .entry)) ⌝ }
 {
     let checked = merge::merge(table, i, into);
     *answer = words::checked_words(checked);

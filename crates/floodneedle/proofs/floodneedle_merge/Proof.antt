@@ -1,6 +1,7 @@
 -- `floodneedle::floodneedle_merge` meets its contract: the words and the second table are those of the call.
 use borrow.Author.Needs.{needs}
-use Rattle.merge.specs.Merging.{mergeOn, doneOf}
+use Rattle.answer.specs.Told.{doneOf}
+use Rattle.merge.specs.Merging.{mergeOn}
 use Rattle.floodneedle.proofs.floodneedle_merge.Statement.{statement}
 use Rattle.floodneedle.proofs.floodneedle_merge.Tie as tie
 

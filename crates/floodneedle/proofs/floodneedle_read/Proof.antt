@@ -1,6 +1,7 @@
 -- `floodneedle::floodneedle_read` meets its contract: the words and the table are those of the call.
 use borrow.Author.Needs.{needs}
-use Rattle.reading.specs.Read.{readOn, withoutModel}
+use Rattle.answer.specs.Told.{doneOf}
+use Rattle.reading.specs.Read.{readOn}
 use Rattle.floodneedle.proofs.floodneedle_read.Statement.{statement}
 use Rattle.floodneedle.proofs.floodneedle_read.Tie as tie
 
@@ -17,7 +18,7 @@ returns : tie.Need-returns
 returns c =
     let args = c .before .before .before .before .before .before .before .args in
     let call = c .before .before .before .read .ensures in
-    (c .checked-words .ensures (withoutModel (readOn (args .text .now) (args .table .now))) (call .answer), call .table)
+    (c .checked-words .ensures (doneOf (readOn (args .text .now) (args .table .now))) (call .answer), call .table)
 
 pub floodneedle-read-spec : {M : Type 1} → statement M
 floodneedle-read-spec = tie.close (tie.spec read-requires checked-words-requires same-length returns)
