@@ -94,22 +94,21 @@ pub fn by_rule(t: &[u64], x: State, budget: usize, trace: &mut [u8]) -> Settled
     requires { ⌜ Ready (now t) x × (budget ≤ length (now trace)) ⌝ }
     ensures { λ r. ⌜ SettleGives (modelOf (now (t .entry))) budget x r × TraceHolds (modelOf (now (t .entry))) budget x (now (trace .entry)) (now (trace .exit)) ⌝ }
 {
-    let mut cur = x;
+    let n = x.count;
+    let mut parts = x.parts;
     let mut resets = 0u64;
     let mut steps = 0usize;
     while steps < budget {
-        let a = moves::lowest_all(t, cur);
+        let a = moves::lowest_of(t, &parts, n);
         if answer::Model::ACTIONS as u64 <= a {
-            return ended(t, cur, steps, resets);
+            return ended(t, State { count: n, parts }, steps, resets);
         }
-        let m = moves::move_all(t, cur, a);
-        let next = m.state;
+        let more = moves::move_in(t, &mut parts, n, a);
         trace[steps] = (a % 256) as u8;
-        resets = sets::union(resets, m.resets);
-        cur = next;
+        resets = sets::union(resets, more);
         steps += 1;
     }
-    ended(t, cur, steps, resets)
+    ended(t, State { count: n, parts }, steps, resets)
 }
 
 // Settling by a list: the listed actions in order.
