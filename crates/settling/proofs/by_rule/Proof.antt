@@ -1,85 +1,88 @@
+-- `settling::by_rule` meets its contract: the steps done, before what settling does with the rest of the budget, are what settling does.
+use mathlib.Core.Path.{_≡_}
+use Prim.Native.Nat.{ℕ, _-_}
+use native.Mathlib.Omega.{arith}
+use borrow.Author.Needs.{needs}
+use lib.ListN.{length}
+use Rattle.answer.specs.Limits.{maxComponents}
+use Rattle.moves.proofs.Ready.{holding, stands-at, lowest-of-state, resets-of, state-of}
+use Rattle.settling.proofs.Onward.{Runs, begin, onward, ends}
+use Rattle.settling.proofs.Reached.{reached-ready}
+use Rattle.settling.proofs.Rests.{rests}
 use Rattle.settling.proofs.by_rule.Statement.{statement}
 use Rattle.settling.proofs.by_rule.Tie as tie
-use Rattle.settling.proofs.by_rule.Reads as reads
-use Rattle.settling.proofs.by_rule.Lts as lts
-use Rattle.moves.proofs.lowest_of.Reads as lowest-of-reads
-use Rattle.moves.proofs.move_in.Reads as move-in-reads
-use Rattle.sets.proofs.union.Reads as union-reads
-use Rattle.settling.proofs.ended.Reads as ended-reads
 
 abbrev Inv-loop : tie.InvT-loop
-Inv-loop t budget trace₀ n parts₀ resets₀ steps₀ trace parts resets steps = ?
+Inv-loop t budget trace₀ n parts₀ resets₀ steps₀ trace parts resets steps =
+    (length parts ≡ maxComponents) × Runs t budget (holding n parts₀) trace₀ (holding n parts) resets steps trace
 
 abbrev μ-loop : tie.MeasureT-loop
-μ-loop t budget trace₀ n parts₀ resets₀ steps₀ trace parts resets steps = ?
+μ-loop t budget trace₀ n parts₀ resets₀ steps₀ trace parts resets steps = budget - steps
 
--- src/lib.rt:101:5
 loop-holds : tie.Need-loop-holds Inv-loop μ-loop
-loop-holds c = ?
+loop-holds c = let s0 = c .before .before .before in (search needs, begin _ _ _ _ (s0 .pre .0) (search needs) (s0 .pre .1))
 
--- src/lib.rt:102:37
 slice-aggregate-lowest-of : tie.Need-slice-aggregate-lowest-of Inv-loop μ-loop
-slice-aggregate-lowest-of c = ?
+slice-aggregate-lowest-of c = search needs
 
--- src/lib.rt:102:13
 lowest-of-requires : tie.Need-lowest-of-requires Inv-loop μ-loop
-lowest-of-requires c κs = ?
+lowest-of-requires c κs = let l = c .before .before .loop in stands-at _ _ (l .inv .1 .reached .standing) (l .inv .0)
 
--- src/lib.rt:104:13
 ended-requires : tie.Need-ended-requires Inv-loop μ-loop
-ended-requires c κs = ?
+ended-requires c κs = reached-ready _ _ _ (c .before .before .before .before .before .before .before .before .pre .0) (c .before .before .before .before .loop .inv .1 .reached)
 
--- src/lib.rt:104:13
 same-length : tie.Need-same-length Inv-loop μ-loop
-same-length c = ?
+same-length c = c .before .before .before .before .before .loop .inv .1 .size
 
--- src/lib.rt:104:13
 returns : tie.Need-returns Inv-loop μ-loop
-returns c = ?
+returns c =
+    let l = c .before .before .before .before .before .loop in
+    let r = c .before .before .before .before .before .before .before .before .before .pre .0 in
+    let at = stands-at _ _ (l .inv .1 .reached .standing) (l .inv .0) in
+    let st = rests _ _ (reached-ready _ _ _ r (l .inv .1 .reached)) _ (lowest-of-state _ _ _ at _ (c .before .before .lowest-of .ensures)) (c .before .if1 .taken) in
+    ends _ _ _ _ _ _ _ _ (l .inv .1) (λ f. let z : _≡_ {A = ℕ} 0 1 = cc in absurd (omega arith)) _ (c .ended .ensures)
 
--- src/lib.rt:106:38
 slice-aggregate-move-in : tie.Need-slice-aggregate-move-in Inv-loop μ-loop
-slice-aggregate-move-in c = ?
+slice-aggregate-move-in c = search needs
 
--- src/lib.rt:106:13
 move-in-requires : tie.Need-move-in-requires Inv-loop μ-loop
-move-in-requires c κs = ?
+move-in-requires c κs = let l = c .before .before .before .before .before .loop in stands-at _ _ (l .inv .1 .reached .standing) (l .inv .0)
 
--- src/lib.rt:107:24
 cast-trace : tie.Need-cast-trace Inv-loop μ-loop
-cast-trace c = ?
+cast-trace c = search needs
 
--- src/lib.rt:107:9
 slice-write-trace : tie.Need-slice-write-trace Inv-loop μ-loop
-slice-write-trace c = ?
+slice-write-trace c = let l = c .before .before .before .before .before .before .before .loop in omega (arith, l .inv .1 .size, l .inv .1 .room)
 
--- src/lib.rt:108:9
 union-requires : tie.Need-union-requires Inv-loop μ-loop
-union-requires c κs = ?
+union-requires c κs = search needs
 
--- src/lib.rt:109:9
 add-steps : tie.Need-add-steps Inv-loop μ-loop
-add-steps c = ?
+add-steps c = search needs
 
--- src/lib.rt:101:5
 loop-less : tie.Need-loop-less Inv-loop μ-loop
-loop-less c = ?
+loop-less c = search needs
 
--- src/lib.rt:101:5
 loop-again : tie.Need-loop-again Inv-loop μ-loop
-loop-again c = ?
+loop-again c =
+    let l = c .before .before .before .before .before .before .before .before .loop in
+    let s0 = c .before .before .before .before .before .before .before .before .before .before .before .before in
+    let m = c .before .before .move-in in
+    let at = stands-at _ _ (l .inv .1 .reached .standing) (l .inv .0) in
+    let low = lowest-of-state _ _ _ at _ (c .before .before .before .before .before .lowest-of .ensures) in (
+      search needs,
+      onward _ _ _ _ (s0 .pre .0 .conforming) (s0 .pre .0 .joinable) _ _ _ _ (l .inv .1) _ low (search needs) (c .before .before .before .before .if1 .left) _ _ _
+          (state-of _ _ _ at _ _ (m .ensures .1)) (resets-of _ _ _ at _ _ (m .ensures .0)) (c .union .ensures),
+    )
 
--- src/lib.rt:111:5
 ended-requires-2 : tie.Need-ended-requires-2 Inv-loop μ-loop
-ended-requires-2 c κs = ?
+ended-requires-2 c κs = reached-ready _ _ _ (c .before .before .before .before .before .pre .0) (c .before .loop .inv .1 .reached)
 
--- src/lib.rt:93:1
 same-length-2 : tie.Need-same-length-2 Inv-loop μ-loop
-same-length-2 c = ?
+same-length-2 c = c .before .before .loop .inv .1 .size
 
--- src/lib.rt:93:1
 returns-2 : tie.Need-returns-2 Inv-loop μ-loop
-returns-2 c = ?
+returns-2 c = ends _ _ _ _ _ _ _ _ (c .before .before .loop .inv .1) (λ _. c .before .loop-test .left) _ (c .ended2 .ensures)
 
 pub by-rule-spec : {M : Type 1} → statement M
 by-rule-spec =
