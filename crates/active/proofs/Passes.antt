@@ -1,15 +1,14 @@
--- A pass keeps the sets above all that the rows allow; where it changes nothing, no row breaks them; where it changes something, their sum falls.
+-- A row that changes a set lets their sum fall. A pass keeps the sets above all that the rows allow; where it changes nothing, no row breaks them.
 use mathlib.Core.Path.{_≡_, refl, sym, _∙_, ap}
-use mathlib.Core.Logic.{_⊎_, inl, inr, ⊎-elim}
-use mathlib.Core.Bool.{Bool, true, false}
+use mathlib.Core.Bool.{Bool, true, false, not, _||_}
 use mathlib.Core.List.{List, [], _∷_}
 use Prim.Native.Nat.{ℕ, zero, suc, _+_, _-_, _≤_, _<_}
 use native.Mathlib.Omega.{arith}
 use native.Mathlib.Decide.{ℕ-discrete, decLt}
-use lib.ListN.{length, getD, set, length-set}
-use lib.Seq.{getD-set-same, getD-set-other, set-out, set-getD}
-use lib.Dec.{eqb}
-use borrow.Author.Tests.{eqb-true, eq-eqb}
+use lib.ListN.{length, getD, set, List·getD-eq-default}
+use lib.Seq.{getD-set-same, getD-set-other, set-getD}
+use lib.Bits.{and-le-l}
+use borrow.Author.Tests.{eq-eqb, ne-eqb}
 use Rattle.laws.specs.Sets.{_∩_, within, _⊆_}
 use Rattle.laws.specs.Fold.{overFrom, over, sum}
 use Rattle.laws.proofs.SetLaws.{within-true}
@@ -23,7 +22,7 @@ use Rattle.layout.specs.Layout.{countOf, blockWord}
 use Rattle.layout.specs.Image.{Image, compOf}
 use Rattle.layout.proofs.RowsOfRange.{well-comp}
 use Rattle.layout.proofs.WalkByStates.{over-rows}
-use Rattle.active.specs.Narrowing.{narrowState, pass, FirstSets}
+use Rattle.active.specs.Narrowing.{narrowState, pass, FirstSets, Fell}
 
 -- ---- a list filled one place after the other
 pub filled : (f : ℕ → ℕ) (A : List ℕ) (s v : ℕ) → s < length A → v ≡ f s → ((j : ℕ) → j < s → getD A j 0 ≡ f j) → (j : ℕ) → j < s + 1 → getD (set A s v) j 0 ≡ f j
@@ -32,29 +31,34 @@ filled f A s v h e ih j p = elim (ℕ-discrete j s) [
   | no w ↦ getD-set-other A s j v 0 w ∙ ih j (omega arith)
 ]
 
--- ---- one narrowing changes nothing, or the sum falls
-abbrev Falls : List ℕ → List ℕ → Type 0
-Falls B A = (B ≡ A) ⊎ (sum B < sum A)
+-- ---- one narrowing, by the test of its target's set
+pub row-stays : (A : List ℕ) (r : Row) → getD A (r .target) 0 ∩ handedOn A r ≡ getD A (r .target) 0 → Fell false A (narrowed A r)
+row-stays A r e = ap (set A (r .target)) e ∙ set-getD A (r .target) 0
 
-narrowed-falls : (A : List ℕ) (r : Row) → Falls (narrowed A r) A
-narrowed-falls A r = elim (decLt (r .target) (length A)) [ yes h ↦ go h (within (getD A (r .target) 0) (handedOn A r)) refl | no h ↦ inl (set-out A (r .target) _ (omega arith)) ]
-  where
-    go : r .target < length A → (b : Bool) → within (getD A (r .target) 0) (handedOn A r) ≡ b → Falls (narrowed A r) A
-    go h true e = inl (ap (set A (r .target)) (eqb-true (getD A (r .target) 0 ∩ handedOn A r) (getD A (r .target) 0) e) ∙ set-getD A (r .target) 0)
-    go h false e = inr (shrinks A r h (rw e))
+pub row-falls : (A : List ℕ) (r : Row) → (getD A (r .target) 0 ∩ handedOn A r ≡ getD A (r .target) 0 → ⊥) → Fell true A (narrowed A r)
+row-falls A r ne = elim (decLt (r .target) (length A)) [
+  | yes h ↦ shrinks A r h (ap not (ne-eqb _ _ ne))
+  | no h ↦ absurd (ne (omega (arith, List·getD-eq-default A 0 {n = r .target} (omega arith), and-le-l (getD A (r .target) 0) (handedOn A r))))
+]
+
+-- one after the other
+pub fell-on : (A B C : List ℕ) (r q : Bool) → Fell r A B → Fell q B C → Fell (q || r) A C
+fell-on A B C r false p q = rw q p
+fell-on A B C true true p q = omega arith
+fell-on A B C false true p q = omega (arith, ap sum p)
+
+abbrev Falls : List ℕ → List ℕ → Type 0
+Falls A B = (r : Bool) × Fell r A B
+
+narrowed-falls : (A : List ℕ) (r : Row) → Falls A (narrowed A r)
+narrowed-falls A r = elim (ℕ-discrete (getD A (r .target) 0 ∩ handedOn A r) (getD A (r .target) 0)) [ yes e ↦ (false, row-stays A r e) | no ne ↦ (true, row-falls A r ne) ]
 
 -- ---- steps that change nothing or let the sum fall, one after the other
-module _ (f : ℕ → List ℕ → List ℕ) (down : (k : ℕ) (A : List ℕ) → Falls (f k A) A) where
-  from-falls : (n k : ℕ) (A : List ℕ) → Falls (overFrom f n k A) A
+module _ (f : ℕ → List ℕ → List ℕ) (down : (k : ℕ) (A : List ℕ) → Falls A (f k A)) where
+  from-falls : (n k : ℕ) (A : List ℕ) → Falls A (overFrom f n k A)
   unfolding overFrom
-  from-falls zero k A = inl refl
-  from-falls (suc n) k A = go (down k A) (from-falls n (suc k) (f k A))
-    where
-      go : Falls (f k A) A → Falls (overFrom f n (suc k) (f k A)) (f k A) → Falls (overFrom f n (suc k) (f k A)) A
-      go (inl p) (inl q) = inl (q ∙ p)
-      go (inl p) (inr q) = inr (omega (arith, ap sum p))
-      go (inr p) (inl q) = inr (omega (arith, ap sum q))
-      go (inr p) (inr q) = inr (omega arith)
+  from-falls zero k A = (false, refl)
+  from-falls (suc n) k A = let d = down k A in let e = from-falls n (suc k) (f k A) in (e .0 || d .0, fell-on A (f k A) (overFrom f n (suc k) (f k A)) (d .0) (e .0) (d .1) (e .1))
 
   from-still : (n k : ℕ) (A : List ℕ) → overFrom f n k A ≡ A → (j : ℕ) → k ≤ j → j < k + n → f j A ≡ A
   unfolding overFrom
@@ -64,14 +68,10 @@ module _ (f : ℕ → List ℕ → List ℕ) (down : (k : ℕ) (A : List ℕ) �
       next : f k A ≡ A → (overFrom f n (suc k) A ≡ A → (j : ℕ) → suc k ≤ j → j < suc k + n → f j A ≡ A) → f j A ≡ A
       next w ih = elim (ℕ-discrete j k) [ yes v ↦ ap (λ m. f m A) v ∙ w | no v ↦ ih (ap (overFrom f n (suc k)) (sym w) ∙ e) j (omega arith) (omega arith) ]
 
-      go : Falls (f k A) A → Falls (overFrom f n (suc k) (f k A)) (f k A) → (overFrom f n (suc k) A ≡ A → (j : ℕ) → suc k ≤ j → j < suc k + n → f j A ≡ A) → f j A ≡ A
-      go (inl w) r ih = next w ih
-      go (inr w) (inl r) ih = absurd (omega (arith, ap sum r, ap sum e))
-      go (inr w) (inr r) ih = absurd (omega (arith, ap sum e))
-
-  over-falls : (lo hi : ℕ) (A : List ℕ) → Falls (over f lo hi A) A
-  unfolding over
-  over-falls lo hi A = from-falls (hi - lo) lo A
+      go : Falls A (f k A) → Falls (f k A) (overFrom f n (suc k) (f k A)) → (overFrom f n (suc k) A ≡ A → (j : ℕ) → suc k ≤ j → j < suc k + n → f j A ≡ A) → f j A ≡ A
+      go (false, w) r ih = next w ih
+      go (true, w) (false, r) ih = absurd (omega (arith, ap sum r, ap sum e))
+      go (true, w) (true, r) ih = absurd (omega (arith, ap sum e))
 
   over-unchanged : (lo hi : ℕ) (A : List ℕ) → over f lo hi A ≡ A → (j : ℕ) → lo ≤ j → j < hi → f j A ≡ A
   unfolding over
@@ -85,14 +85,6 @@ module _ (t : List ℕ) (im : Image t) (i : ℕ) (h : i < countOf t) where
   pass-rows : (A : List ℕ) → pass t i A ≡ over by-rows 0 (length (compOf t i .rows)) A
   unfolding pass narrowState by-rows
   pass-rows A = sym (over-rows t im i h (λ k r B. narrowed B r) A)
-
-  pub pass-falls : (A : List ℕ) → (pass t i A ≡ A → ⊥) → sum (pass t i A) < sum A
-  unfolding by-rows
-  pass-falls A ne = rw (pass-rows A) (⊎-elim (λ e. absurd (ne (pass-rows A ∙ e))) (λ p. p) (over-falls by-rows (λ k B. narrowed-falls B (rowAt (compOf t i) k)) 0 (length (compOf t i .rows)) A))
-
-  pub pass-length : (A : List ℕ) → length (pass t i A) ≡ length A
-  unfolding by-rows
-  pass-length A = rw (pass-rows A) (over-keeps by-rows (λ B. length B ≡ length A) 0 (length (compOf t i .rows)) A (λ k B p q e. length-set B (rowAt (compOf t i) k .target) _ ∙ e) refl)
 
   abbrev w : WellComp (compOf t i)
   w = well-comp t im i h

@@ -1,9 +1,10 @@
 -- Narrowing in the order of the table's rows, one pass after the other (01, "Conditions on a component", (f)).
 use mathlib.Core.Path.{_≡_}
+use mathlib.Core.Bool.{Bool, true, false}
 use mathlib.Core.List.{List}
 use Prim.Native.Nat.{ℕ, suc, _<_}
 use lib.ListN.{length, getD}
-use Rattle.laws.specs.Fold.{over}
+use Rattle.laws.specs.Fold.{over, sum}
 use Rattle.answer.specs.Limits.{maxStates}
 use Rattle.iosa.specs.Model.{Comp}
 use Rattle.iosa.specs.Checks.{allowed, narrowed}
@@ -22,3 +23,8 @@ pass t i A = over (narrowState t i) 0 (blockWord t i 0) A
 pub record FirstSets (c : Comp) (A : List ℕ) : Type 0 where
   pub places : length A ≡ maxStates
   pub first : (s : ℕ) → s < c .states → getD A s 0 ≡ allowed c s
+
+-- from A to B: true, a set became smaller, and so did their sum; false, no set changed
+abbrev pub Fell : Bool → List ℕ → List ℕ → Type 0
+Fell true A B = sum B < sum A
+Fell false A B = B ≡ A

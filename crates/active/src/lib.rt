@@ -12,7 +12,7 @@ ghost use Rattle.iosa.specs.Checks.{enablingOf, unstable, allowed};
 ghost use Rattle.iosa.specs.Greatest.{Greatest};
 ghost use Rattle.layout.specs.Layout.{countOf, blockWord};
 ghost use Rattle.layout.specs.Image.{Image, compOf};
-ghost use Rattle.active.specs.Narrowing.{narrowState, pass, FirstSets};
+ghost use Rattle.active.specs.Narrowing.{narrowState, pass, FirstSets, Fell};
 
 // A set of clocks for each state.
 pub struct Sets {
@@ -88,47 +88,38 @@ fn first_sets(t: &[u64], i: usize) -> Sets
     all
 }
 
-// Once by every row that leaves s: its target keeps what the row hands on.
-fn narrow_state(t: &[u64], i: usize, s: usize, act: Sets) -> Sets
+// Once by every row that leaves s: its target keeps what the row hands on. Whether a set became smaller.
+fn narrow_state(t: &[u64], i: usize, s: usize, act: &mut [u64; Model::STATES]) -> bool
     requires { ⌜ Image (now t) × (i < countOf (now t)) × (s < blockWord (now t) i 0) ⌝ }
-    ensures { λ r. ⌜ r .sets ≡ narrowState (now (t .entry)) i s (act .sets) ⌝ }
+    ensures { λ r. ⌜ (now (act .exit) ≡ narrowState (now (t .entry)) i s (now (act .entry))) × Fell r (now (act .entry)) (now (act .exit)) ⌝ }
 {
     let lo = layout::first_of(t, i, s);
     let hi = layout::first_of(t, i, s + 1);
-    let mut cur = act;
+    let mut less = false;
     for k in lo..hi {
         let to = layout::target_at(t, k) as usize;
-        let kept = sets::minus(cur.sets[s], guard_set(layout::guard_at(t, k)));
-        let held = sets::union(kept, layout::resets_at(t, k));
-        cur.sets[to] = cur.sets[to] & held;
-    }
-    cur
-}
-
-// Once by every row.
-fn pass_once(t: &[u64], i: usize, act: Sets) -> Sets
-    requires { ⌜ Image (now t) × (i < countOf (now t)) ⌝ }
-    ensures { λ r. ⌜ r .sets ≡ pass (now (t .entry)) i (act .sets) ⌝ }
-{
-    let states = layout::block_word(t, i, layout::STATES) as usize;
-    let mut cur = act;
-    for s in 0..states {
-        let next = narrow_state(t, i, s, cur);
-        cur = next;
-    }
-    cur
-}
-
-fn same(a: Sets, b: Sets) -> bool
-    ensures yes { λ r. ⌜ (r ≡ true → a .sets ≡ b .sets) ⌝ }
-    ensures no { λ r. ⌜ (r ≡ false → a .sets ≡ b .sets → ⊥) ⌝ }
-{
-    for s in 0..Model::STATES {
-        if a.sets[s] != b.sets[s] {
-            return false;
+        let kept = sets::minus(act[s], guard_set(layout::guard_at(t, k)));
+        let old = act[to];
+        let new = old & sets::union(kept, layout::resets_at(t, k));
+        if new != old {
+            act[to] = new;
+            less = true;
         }
     }
-    true
+    less
+}
+
+// Once by every row. Whether a set became smaller.
+fn pass_once(t: &[u64], i: usize, act: &mut [u64; Model::STATES]) -> bool
+    requires { ⌜ Image (now t) × (i < countOf (now t)) ⌝ }
+    ensures { λ r. ⌜ (now (act .exit) ≡ pass (now (t .entry)) i (now (act .entry))) × Fell r (now (act .entry)) (now (act .exit)) ⌝ }
+{
+    let states = layout::block_word(t, i, layout::STATES) as usize;
+    let mut less = false;
+    for s in 0..states {
+        less = narrow_state(t, i, s, act) | less;
+    }
+    less
 }
 
 // The greatest sets that the rows allow.
@@ -136,12 +127,7 @@ pub fn solve(t: &[u64], i: usize) -> Sets
     requires { ⌜ Image (now t) × (i < countOf (now t)) ⌝ }
     ensures { λ r. ⌜ Greatest (compOf (now (t .entry)) i) (λ s. getD (r .sets) s 0) ⌝ }
 {
-    let mut cur = first_sets(t, i);
-    loop {
-        let next = pass_once(t, i, cur);
-        if same(cur, next) {
-            return cur;
-        }
-        cur = next;
-    }
+    let mut all = first_sets(t, i);
+    while pass_once(t, i, &mut all.sets) {}
+    all
 }

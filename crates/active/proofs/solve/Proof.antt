@@ -1,29 +1,18 @@
 -- `active::solve` meets its contract: the sets stay above all that the rows allow, and end where no row breaks them.
-use mathlib.Core.Path.{_≡_, refl, sym, ap, ap₂, _∙_}
-use Prim.Native.Nat.{ℕ, zero, suc, _+_, _-_, _≤_, _<_}
+use mathlib.Core.Path.{_≡_, sym, _∙_}
 use native.Mathlib.Omega.{arith}
-use native.Mathlib.Numerals.{add-one}
-use lib.ListN.{length, getD, set}
-use denote.Ref.{now}
 use Rattle.laws.specs.Fold.{sum}
-use Rattle.layout.specs.Layout.{countOf}
-use Rattle.layout.specs.Image.{Image, compOf}
-use Rattle.active.specs.Narrowing.{pass}
-use Rattle.active.proofs.Passes.{Between, pass-falls, pass-low, pass-high, unchanged-greatest, first-low, first-high}
+use Rattle.active.specs.Narrowing.{Fell}
+use Rattle.active.proofs.Passes.{Between, pass-low, pass-high, unchanged-greatest, first-low, first-high}
 use borrow.Author.Needs.{needs}
 use Rattle.active.proofs.solve.Statement.{statement}
 use Rattle.active.proofs.solve.Tie as tie
-use Rattle.active.proofs.solve.Reads as reads
-use Rattle.active.proofs.solve.Lts as lts
-use Rattle.active.proofs.first_sets.Reads as first-sets-reads
-use Rattle.active.proofs.pass_once.Reads as pass-once-reads
-use Rattle.active.proofs.same.Reads as same-reads
 
 abbrev Inv-loop : tie.InvT-loop
-Inv-loop t i cur₀ cur = Between t i (cur .sets)
+Inv-loop t i all₀ all = Between t i (all .sets)
 
 abbrev μ-loop : tie.MeasureT-loop
-μ-loop t i cur₀ cur = sum (cur .sets)
+μ-loop t i all₀ all = sum (all .sets)
 
 first-sets-requires : tie.Need-first-sets-requires Inv-loop μ-loop
 first-sets-requires c κs = search needs
@@ -37,28 +26,21 @@ loop-holds c =
 pass-once-requires : tie.Need-pass-once-requires Inv-loop μ-loop
 pass-once-requires c κs = search needs
 
-same-requires : tie.Need-same-requires Inv-loop μ-loop
-same-requires c κs = search needs
-
-returns : tie.Need-returns Inv-loop μ-loop
-returns c =
-    let l = c .before .before .before .loop in
-    let b = l .inv in
-    unchanged-greatest _ (b .image) _ (b .inside) _ (b .low) (b .high) (c .before .same .ensures .0 (c .if1 .taken) ∙ c .before .before .pass-once .ensures)
-
 loop-less : tie.Need-loop-less Inv-loop μ-loop
-loop-less c =
-    let l = c .before .before .before .loop in
-    let b = l .inv in
-    let p = c .before .before .pass-once in
-    rw (p .ensures) (pass-falls _ (b .image) _ (b .inside) (l .cur .sets) (λ e. c .before .same .ensures .1 (c .if1 .left) (sym (p .ensures ∙ e))))
+loop-less c = rw (c .if1 .taken) at (c .before .pass-once .ensures .1)
 
 loop-again : tie.Need-loop-again Inv-loop μ-loop
 loop-again c =
-    let l = c .before .before .before .loop in
-    let b = l .inv in
-    let p = c .before .before .pass-once in
-    record { image = b .image; inside = b .inside; low = rw (p .ensures) (pass-low _ (b .image) _ (b .inside) _ (b .low)); high = rw (p .ensures) (pass-high _ (b .image) _ (b .inside) _ (b .high)) }
+    let b = c .before .before .before .loop .inv in
+    let e = c .before .pass-once .ensures .0 in
+    record { image = b .image; inside = b .inside; low = rw e (pass-low _ (b .image) _ (b .inside) _ (b .low)); high = rw e (pass-high _ (b .image) _ (b .inside) _ (b .high)) }
+
+returns : tie.Need-returns Inv-loop μ-loop
+returns c =
+    let b = c .before .before .before .loop .inv in
+    let p = c .before .pass-once in
+    let e = rw (c .if1 .left) at (p .ensures .1) in
+    rw e (unchanged-greatest _ (b .image) _ (b .inside) _ (b .low) (b .high) (sym e ∙ p .ensures .0))
 
 pub solve-spec : {M : Type 1} → statement M
 solve-spec =
@@ -69,7 +51,6 @@ solve-spec =
     first-sets-requires
     loop-holds
     pass-once-requires
-    same-requires
-    returns
     loop-less
-    loop-again)
+    loop-again
+    returns)
