@@ -1,19 +1,21 @@
 // Times of the proved engine beside the second program and a bare loop, all in one program and one run. Prints the tables of docs/BENCHMARK.md.
 // Each number is the least of many short rounds, in which all that stand in one table take turns: what else the machine does then disturbs
 // all of them alike.
-// usage: benchmark [times]    with the engine's own times, which mean something only where the processor runs the program itself
+// usage: benchmark ROUNDS [times]    with the engine's own times, which mean something only where the processor runs the program itself
 #include <chrono>
 #include <cstdio>
+#include <cstdlib>
 #include <functional>
+#include <memory>
 
 #include "bare.h"
+#include "damage.hpp"
 #include "subjects.hpp"
 
 namespace {
 
 constexpr double round_seconds = 200e-6;
-constexpr unsigned rounds = 200;
-
+unsigned rounds = 200;
 bool with_times = false;
 std::uint64_t kept = 0;  // what the bare loops compute, so that they are not left out
 
@@ -65,12 +67,10 @@ Pair check_text(const Subject& s) {
   return {"check_text", [&] { floodneedle_check_text(s.text.data(), s.text.size(), &lent_out.answer); },
           [&] { second::read(lent(s.text), {lent_out.into.data(), lent_out.into.size()}); }};
 }
-#ifdef HAVE_READ
 Pair read(const Subject& s) {
   return {"read", [&] { floodneedle_read(s.text.data(), s.text.size(), lent_out.into.data(), lent_out.into.size(), &lent_out.answer); },
           [&] { second::read(lent(s.text), {lent_out.into.data(), lent_out.into.size()}); }};
 }
-#endif
 Pair write(const Subject& s) {
   return {"write", [&] { floodneedle_write(words(s), s.table.size(), lent_out.out.data(), lent_out.out.size(), &lent_out.answer); },
           [&] { second::write(lent(s.table), {lent_out.out.data(), lent_out.out.size()}); }};
@@ -110,12 +110,19 @@ Pair timed_step(const Subject& s) {
             second::timed_step(lent(s.table), lent(s.state), {lent_out.clocks.data(), lent_out.clocks.size()});
           }};
 }
-#ifdef HAVE_MERGE
 Pair merge(const Subject& s) {
   return {"merge", [&] { floodneedle_merge(words(s), s.table.size(), 0, lent_out.into.data(), lent_out.into.size(), &lent_out.answer); },
           [&] { second::merge(lent(s.table), 0, {lent_out.into.data(), lent_out.into.size()}); }};
 }
-#endif
+
+Pair report(const Subject& s) {
+  static Bytes out(FLOODNEEDLE_REPORT);
+  const std::string request = second::request_line(s.state, 100);
+  const auto whole = std::make_shared<Bytes>(request.begin(), request.end());
+  whole->insert(whole->end(), s.text.begin(), s.text.end());
+  return {"report", [whole] { floodneedle_report(whole->data(), whole->size(), out.data(), out.size(), &lent_out.answer); },
+          [whole] { second::report(lent(*whole)); }};
+}
 
 // ---- the tables
 
@@ -180,28 +187,28 @@ void step_lines(const std::vector<Subject>& subjects) {
 }  // namespace
 
 int main(int count, char** arguments) {
-  with_times = count > 1 && std::string(arguments[1]) == "times";
+  if (count > 1) rounds = static_cast<unsigned>(std::strtoul(arguments[1], nullptr, 10));
+  with_times = count > 2 && std::string(arguments[2]) == "times";
 
   const std::vector<Subject> texts = {long_rows(2), long_rows(16), long_rows(64)};
   head("Texts of 1 KB, 8 KB and 32 KB");
   lines(texts, check_text);
-#ifdef HAVE_READ
   lines(texts, read);
-#endif
   lines(texts, write);
   lines(texts, recognise);
 
-  const std::vector<Subject> sizes = {paper_model(),     one_component(8),    one_component(16), one_component(32),
-                                      one_component(64), many_components(16), slow_sets()};
-  head("The checks: small, from 128 to 1,024 rows in one component, 1,024 rows in 16 components, and sets that shrink slowly");
+  const std::vector<Subject> sizes = {paper_model(),         one_component(8, 16),  one_component(16, 16), one_component(32, 16),
+                                      one_component(64, 16), one_component(16, 64), many_components(16),   slow_sets()};
+  head("The checks: small; from 128 to 1,024 rows in one component; 1,024 rows with few states, in 16 components, and with sets that shrink slowly");
   lines(sizes, recognise);
   lines(sizes, accept);
   lines(sizes, confluent);
 
   const std::vector<Subject> running = {paper_model(), many_components(2), many_components(8), many_components(16)};
-  head("One step, and settling with a budget of 100");
+  head("One step; settling with a budget of 100; the program's report of that");
   lines(running, step);
   lines(running, [](const Subject& s) { return settle(s, 100); });
+  lines(running, report);
 
   step_lines({few_move(2), few_move(8), few_move(16), all_move(2), all_move(8), all_move(16)});
 
@@ -209,10 +216,8 @@ int main(int count, char** arguments) {
   head("The timed step");
   lines(timing, timed_step);
 
-#ifdef HAVE_MERGE
   const std::vector<Subject> merging = {paper_model(), to_merge(4), to_merge(8)};
   head("Merging components 0 and 1, into 8, 256 and 1,024 rows");
   lines(merging, merge);
-#endif
   return kept == 1 ? 1 : 0;
 }

@@ -63,14 +63,10 @@ Said second_check_text(Lent& l) {
   return said(second::read(bytes(l), {room.data(), room.size()}));
 }
 
-#ifdef HAVE_READ
 Said engine_read(Lent& l) {
   floodneedle_read(l.bytes.front(), l.bytes.size(), l.into.front(), l.into.size(), l.answer.place());
   return answered(l);
 }
-#else
-constexpr auto engine_read = nullptr;
-#endif
 Said second_read(Lent& l) { return said(second::read(bytes(l), into(l))); }
 
 Said engine_write(Lent& l) {
@@ -125,40 +121,28 @@ Said engine_timed_step(Lent& l) {
 }
 Said second_timed_step(Lent& l) { return said(second::timed_step(table(l), state(l), clocks(l))); }
 
-#ifdef HAVE_MERGE
 Said engine_merge(Lent& l) {
   floodneedle_merge(l.table.front(), l.table.size(), l.number, l.into.front(), l.into.size(), l.answer.place());
   return answered(l);
 }
-#else
-constexpr auto engine_merge = nullptr;
-#endif
 Said second_merge(Lent& l) { return said(second::merge(table(l), l.number, into(l))); }
 
-#ifdef HAVE_REPORT
 Said engine_report(Lent& l) {
   floodneedle_report(l.bytes.front(), l.bytes.size(), l.out.front(), l.out.size(), l.answer.place());
   return answered(l);
 }
-#else
-constexpr auto engine_report = nullptr;
-#endif
 // The second program answers with a string, so its part in the loan is played here.
 Said second_report(Lent& l) {
-  if (l.out.size() < longest_report) return said(second::WriteAnswer{second::refuse(24, {longest_report}), 0});
+  if (l.out.size() < FLOODNEEDLE_REPORT) return said(second::WriteAnswer{second::refuse(24, {FLOODNEEDLE_REPORT}), 0});
   const std::string report = second::report(bytes(l));
   std::copy(report.begin(), report.end(), l.out.front());
   return said(second::WriteAnswer{{}, report.size()});
 }
 
-#ifdef HAVE_ADVANCE
 Said engine_advance(Lent& l) {
   floodneedle_advance(l.table.front(), l.table.size(), l.state.front(), l.parts(), l.answer.place());
   return answered(l);
 }
-#else
-constexpr auto engine_advance = nullptr;
-#endif
 // A step whose state goes where it came from.
 Said second_advance(Lent& l) {
   Said stepped = second_step(l);

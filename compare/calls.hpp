@@ -8,7 +8,7 @@
 
 struct Call {
   const char* name;
-  Said (*engine)(Lent&);  // null while the engine does not export the call
+  Said (*engine)(Lent&);
   Said (*second)(Lent&);
   std::set<std::string> outcomes;  // every one that there is
   // The outcome in a word: the refusal's number, or the answer's kind.

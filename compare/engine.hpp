@@ -11,12 +11,6 @@
 #include "floodneedle.h"
 #include "second.hpp"
 
-#ifdef HAVE_REPORT
-constexpr std::uint64_t longest_report = FLOODNEEDLE_REPORT;
-#else
-constexpr std::uint64_t longest_report = 1;
-#endif
-
 using Bytes = std::vector<std::uint8_t>;
 using Table = std::vector<std::uint64_t>;
 using Clocks = std::vector<std::int64_t>;

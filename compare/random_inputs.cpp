@@ -13,11 +13,7 @@ using second::Random;
 
 std::string where;  // the input that is tried, for a difference to be found again
 
-Comparison tried(const Call& call, const Loan& loan) { return compare(call, loan, where); }
-
-void try_call(const Call& call, const Loan& loan) {
-  if (call.engine) tried(call, loan);
-}
+Comparison try_call(const Call& call, const Loan& loan) { return compare(call, loan, where); }
 
 // ---- loans. Draws stand in statements of their own, so that a seed gives the same inputs with every compiler.
 
@@ -127,14 +123,7 @@ void try_calls(Random& random, const Table& table, const Model& model, const std
   try_call(calls::merge, loan);
 }
 
-// ---- sequences: each call on what the call before has left. Where the engine lacks a call, the second program's answer goes on alone.
-
-Comparison next(const Call& call, const Loan& loan) {
-  if (call.engine) return tried(call, loan);
-  Comparison made{{}, {}, true, Lent(loan)};
-  made.second = call.second(made.left);
-  return made;
-}
+// ---- sequences: each call on what the call before has left
 
 bool refused(const Comparison& made) { return made.second.answer.kind == FLOODNEEDLE_REFUSED; }
 
@@ -144,7 +133,7 @@ void try_sequence(Random& random, const std::string& text) {
   Loan loan;
   loan.bytes = bytes_of(random.chance(90) ? text : second::damaged_text(random, text));
   loan.into = noise(random, second::image_words);
-  Comparison made = next(calls::read, loan);
+  Comparison made = try_call(calls::read, loan);
   if (refused(made)) return;
   Table table = made.left.into.content();
 
@@ -153,7 +142,7 @@ void try_sequence(Random& random, const std::string& text) {
     loan.table = table;
     loan.number = table[0] > 1 && random.chance(90) ? random.below(table[0] - 1) : random.below(table[0] + 1);
     loan.into = noise(random, second::image_words);
-    made = next(calls::merge, loan);
+    made = try_call(calls::merge, loan);
     if (refused(made)) break;
     table = made.left.into.content();
   }
@@ -169,17 +158,17 @@ void try_sequence(Random& random, const std::string& text) {
   loan.out = noise_bytes(random, 64);
   for (unsigned turn = 0; turn < 6; ++turn) {
     if (random.chance(3)) loan.state = drawn_state(random, model ? *model : Model{{second::Component{}}});
-    made = next(calls::settle, loan);
+    made = try_call(calls::settle, loan);
     const std::size_t parts = loan.state.size();
     std::uint64_t resets = made.second.answer.resets;
     if (!refused(made)) loan.state.assign(made.second.after.begin(), made.second.after.begin() + parts);
     loan.out = made.left.out.content();
     if (turn == 0) {
-      const Comparison stepped = next(calls::advance, loan);
+      const Comparison stepped = try_call(calls::advance, loan);
       if (!refused(stepped)) loan.state = stepped.left.state.content();
       resets |= stepped.second.answer.resets;
     }
-    made = next(calls::timed_step, loan);
+    made = try_call(calls::timed_step, loan);
     if (made.second.answer.kind != FLOODNEEDLE_FIRED) break;
     loan.state.assign(made.second.after.begin(), made.second.after.begin() + parts);
     loan.clocks = made.left.clocks.content();
@@ -188,7 +177,7 @@ void try_sequence(Random& random, const std::string& text) {
   }
 
   loan.out = noise_bytes(random, second::max_text);
-  made = next(calls::write, loan);
+  made = try_call(calls::write, loan);
   if (refused(made)) return;
   Bytes written = made.left.out.content();
   written.resize(made.second.answer.count);
@@ -205,7 +194,7 @@ void try_report(Random& random, const Model& model, const std::string& text) {
   if (random.chance(30)) request = second::damaged_request(random, request);
   Loan loan;
   loan.bytes = bytes_of(request + behind);
-  loan.out = Bytes(random.chance(98) ? longest_report : longest_report - 1, 0x77);
+  loan.out = Bytes(random.chance(98) ? FLOODNEEDLE_REPORT : FLOODNEEDLE_REPORT - 1, 0x77);
   try_call(calls::report, loan);
 }
 

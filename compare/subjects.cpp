@@ -66,13 +66,13 @@ Subject long_rows(unsigned states) {
   return subject(counted(16 * states, "long rows"), {{component}});
 }
 
-Subject one_component(unsigned states) {
+Subject one_component(unsigned states, unsigned actions) {
   Component component;
   component.states = states;
   component.clocks = 0xf;
-  for (unsigned action = 0; action < 16; ++action)
+  for (unsigned action = 0; action < actions; ++action)
     add_turns(component, action, action % 2 == 0 ? Kind::uin : Kind::uout, action % 3 == 0 ? 1u << action % 4 : 0, action);
-  return subject(counted(states, "states by 16"), {{component}});
+  return subject(counted(states, "states by ") + counted(actions, "actions"), {{component}});
 }
 
 Subject many_components(unsigned components) {

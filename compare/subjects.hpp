@@ -19,8 +19,8 @@ Subject paper_model();
 // One component of so many states by 16 inputs, each row as long as it can be for 64 states of them to fit into 32,768 bytes. Not for the checks.
 Subject long_rows(unsigned states);
 
-// One component of so many states by 16 urgent actions: every state has 120 pairs of them that must meet again.
-Subject one_component(unsigned states);
+// One component of so many states by urgent actions: with 16 of them every state has 120 pairs that must meet again, with 64 it has 2,016.
+Subject one_component(unsigned states, unsigned actions);
 
 // So many components of 4 states by 16 urgent actions, 4 of their own and 12 of the next three; it never settles.
 Subject many_components(unsigned components);

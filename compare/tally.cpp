@@ -41,7 +41,6 @@ Comparison compare(const Call& call, const Loan& loan, const std::string& where)
 std::uint64_t inputs() { return compared; }
 
 void expect(const std::string& why, const Call& call, const Loan& loan, const Said& expected, const Loan& left) {
-  if (!call.engine) return;
   const Comparison made = compare(call, loan, why);
   Counts& count = counts[&call];
   ++count.stated;
@@ -62,7 +61,6 @@ void expect(const std::string& why, const Call& call, const Loan& loan, const Sa
 int conclude(bool all) {
   std::uint64_t passed = 0, failed = 0;
   for (const Call* call : calls::all) {
-    if (!call->engine) continue;
     const Counts& count = counts[call];
     std::printf("%-12s %9llu inputs, %llu of them with a stated answer:", call->name, plain(count.inputs), plain(count.stated));
     for (const auto& [what, times] : count.met) std::printf("  %s %llu", what.c_str(), plain(times));

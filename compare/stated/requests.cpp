@@ -10,7 +10,7 @@ void expect_report(const std::string& input, const std::string& report) {
   const std::string why = "the input " + input.substr(0, 100);
   Loan loan;
   loan.bytes = bytes_of(input);
-  loan.out = Bytes(longest_report + 3, 0x77);
+  loan.out = Bytes(FLOODNEEDLE_REPORT + 3, 0x77);
   Loan left = loan;
   std::copy(report.begin(), report.end(), left.out.begin());
   expect(why, calls::report, loan, done(report.size()), left);
@@ -35,7 +35,6 @@ void behind_the_request() {
 }  // namespace
 
 void stated_requests() {
-  if (!calls::report.engine) return;
   // Those without refusal are stated below.
   for (const cases::RequestCase& entry : cases::request_cases)
     if (entry.refusal) expect_report(tabbed(entry.request) + m, printed(entry.refusal));
@@ -67,10 +66,10 @@ void stated_requests() {
 
   // 24 whatever the input: the need is one for all.
   for (const Text& input : {Text(), tabbed("from 1,0 100\n") + m, Text("x")})
-    for (std::uint64_t room : {std::uint64_t{0}, std::uint64_t{256}, longest_report - 1}) {
+    for (std::uint64_t room : {std::uint64_t{0}, std::uint64_t{256}, std::uint64_t{FLOODNEEDLE_REPORT} - 1}) {
       Loan loan;
       loan.bytes = bytes_of(input);
       loan.out = Bytes(room, 0x77);
-      expect("a short buffer for the report", calls::report, loan, refused(24, {longest_report}));
+      expect("a short buffer for the report", calls::report, loan, refused(24, {FLOODNEEDLE_REPORT}));
     }
 }

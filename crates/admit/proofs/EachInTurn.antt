@@ -5,7 +5,7 @@ use mathlib.Core.List.{List, [], _∷_}
 use Prim.Native.Nat.{ℕ, zero, suc, _+_, _≤_, _<_}
 use native.Mathlib.Omega.{arith}
 use native.Mathlib.Numerals.{add-one}
-use lib.ListN.{length, getD, take, drop}
+use lib.ListN.{length, getD, take, drop, drop-of-length-le}
 use lib.Seq.{drop-cons}
 use Rattle.laws.specs.Search.{orElse, mapSome}
 use Rattle.answer.specs.Told.{Told, tell}
@@ -21,12 +21,6 @@ use Rattle.layout.proofs.RowsOfRange.{well-formed, well-comp, first-start}
 use Rattle.meets.specs.Meets.{fault18}
 use Rattle.pairs.specs.declared.Shared.the-variants.{Outputs, Clocks, Urgency}
 use Rattle.pairs.specs.Clashes.{sharedFault}
-
-drop-out {ℓ} : {A : Type ℓ} (l : List A) (i : ℕ) → length l ≤ i → drop i l ≡ []
-drop-out [] zero h = refl
-drop-out [] (suc i) h = refl
-drop-out (x ∷ xs) zero h = absurd (omega arith)
-drop-out (x ∷ xs) (suc i) h = drop-out xs i (omega arith)
 
 -- 10 to 14 and 18 of the components from i on
 unfoldable pub faultsLeft : List ℕ → ℕ → Option Told
@@ -45,11 +39,11 @@ all-clashes t = refl
 
 pub none-left : (t : List ℕ) (i : ℕ) → countOf t ≤ i → faultsLeft t i ≡ none
 unfolding faultsLeft faultFrom
-none-left t i h = ap (faultFrom i (rowCount (take i (modelOf t)))) (drop-out (modelOf t) i (omega (arith, model-length t)))
+none-left t i h = ap (faultFrom i (rowCount (take i (modelOf t)))) (drop-of-length-le (modelOf t) {i = i} (omega (arith, model-length t)))
 
 pub no-clash-left : (t : List ℕ) (i : ℕ) → countOf t ≤ i → clashesLeft t i ≡ none
 unfolding clashesLeft clashAmong
-no-clash-left t i h = ap (clashAmong i) (drop-out (modelOf t) i (omega (arith, model-length t)))
+no-clash-left t i h = ap (clashAmong i) (drop-of-length-le (modelOf t) {i = i} (omega (arith, model-length t)))
 
 module _ (t : List ℕ) (im : Image t) where
   abbrev m : Model

@@ -4,7 +4,7 @@ use mathlib.Core.List.{List, [], _∷_}
 use Prim.Native.Nat.{ℕ, zero, suc, _+_, _-_, _≤_, _<_}
 use native.Mathlib.Omega.{arith}
 use native.Mathlib.Numerals.{add-one}
-use lib.ListN.{length, getD, drop}
+use lib.ListN.{length, getD, drop, drop-of-length-le}
 use lib.Seq.{drop-cons}
 use lib.Bits.{or-zero-r}
 use Rattle.laws.specs.Sets.{_∪_}
@@ -12,7 +12,7 @@ use Rattle.laws.proofs.SetLaws.{or-assoc}
 use Rattle.iosa.specs.Model.{Comp, Model, noComp, compAt, declared}
 use Rattle.iosa.specs.Checks.{enablingOf}
 use Rattle.iosa.specs.Timed.{enablingAll}
-use Rattle.moves.proofs.Along.{heads, drop-out}
+use Rattle.moves.proofs.Along.{heads}
 
 module _ (m : Model) (i : ℕ) (p : i < length m) where
   pub enabling-next : (ss : List ℕ) → i < length ss → (r : ℕ)
@@ -28,8 +28,8 @@ module _ (m : Model) (i : ℕ) (p : i < length m) where
 
 pub enabling-end : (m : Model) (ss : List ℕ) (i r : ℕ) → length m ≤ i → r ≡ r ∪ enablingAll (drop i m) (drop i ss)
 unfolding enablingAll
-enabling-end m ss i r h = sym (or-zero-r r) ∙ ap (λ k. r ∪ enablingAll k (drop i ss)) (sym (drop-out m i h))
+enabling-end m ss i r h = sym (or-zero-r r) ∙ ap (λ k. r ∪ enablingAll k (drop i ss)) (sym (drop-of-length-le m h))
 
 pub declared-end : (m : Model) (i r : ℕ) → length m ≤ i → r ≡ r ∪ declared (drop i m)
 unfolding declared
-declared-end m i r h = sym (or-zero-r r) ∙ ap (λ k. r ∪ declared k) (sym (drop-out m i h))
+declared-end m i r h = sym (or-zero-r r) ∙ ap (λ k. r ∪ declared k) (sym (drop-of-length-le m h))

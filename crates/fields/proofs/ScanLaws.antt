@@ -11,7 +11,7 @@ use lib.ListN.{length, getD, drop, drop-of-length-le}
 use lib.Seq.{drop-cons}
 use lib.Dec.{eqb, leb, ltb}
 use borrow.Author.Tests.{eq-eqb, ne-eqb, leb-true, ltb-true}
-use Rattle.laws.proofs.SetLaws.{and-parts}
+use Rattle.laws.proofs.TestLaws.{and-true}
 use Rattle.iosa.specs.Text.{byte0}
 use Rattle.answer.specs.Limits.{maxDigits}
 use Rattle.iosa.specs.Reading.{Got, got, then, exactly, theByte, isDigit, moreDigits, number}
@@ -89,7 +89,7 @@ module _ (t : List ℕ) (j n at : ℕ) where
   digits-on i h e q = rw (front t at h, q) (more-on i n (getD t at 0) (drop (at + 1) t) e)
 
 pub is-digit : (b : ℕ) → isDigit b ≡ true → (48 ≤ b) × (b < 58)
-is-digit b e = let p = and-parts (leb byte0 b) (ltb b (byte0 + 10)) e in (leb-true byte0 b (p .0), ltb-true b 58 (p .1))
+is-digit b e = let p = and-true (leb byte0 b) (ltb b (byte0 + 10)) e in (leb-true byte0 b (p .0), ltb-true b 58 (p .1))
 
 -- k digits and one more
 pub digits-room : (k n d : ℕ) → n < 10 ^ k → d < 10 → n * 10 + d < 10 ^ (k + 1)

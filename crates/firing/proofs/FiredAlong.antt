@@ -4,12 +4,12 @@ use mathlib.Core.Option.{Option, none, some}
 use mathlib.Core.List.{List}
 use Prim.Native.Nat.{ℕ, _+_, _≤_, _<_}
 use native.Mathlib.Omega.{arith}
-use lib.ListN.{length, getD, drop}
+use lib.ListN.{length, getD, drop, drop-of-length-le}
 use Rattle.laws.specs.Search.{orElse}
 use Rattle.answer.specs.Limits.{maxActions}
 use Rattle.iosa.specs.Model.{Row, Comp, Model, compAt}
 use Rattle.iosa.specs.Timed.{clockRow, clockRowOf}
-use Rattle.moves.proofs.Along.{heads, drop-out}
+use Rattle.moves.proofs.Along.{heads}
 use Rattle.firing.specs.Fired.{actionOr}
 
 -- an action below the limit is that of a row
@@ -35,4 +35,4 @@ module _ (m : Model) (ss : List ℕ) (x i : ℕ) (p : i < length m) (q : i < len
 
 pub action-end : (m : Model) (ss : List ℕ) (x i : ℕ) → length m ≤ i → clockRowOf (drop i m) (drop i ss) x ≡ none
 unfolding clockRowOf
-action-end m ss x i h = ap (λ k. clockRowOf k (drop i ss) x) (drop-out m i h)
+action-end m ss x i h = ap (λ k. clockRowOf k (drop i ss) x) (drop-of-length-le m h)

@@ -1,6 +1,7 @@
 -- Reading and writing undo each other; reading by its faults.
 pub mod Number
 pub mod Fields
+pub mod Joined
 pub mod Lines
 pub mod Members
 pub mod Tests

@@ -1,3 +1,3 @@
-pub mod OrderLaws
+pub mod GuardLaws
 pub mod SummaryLaws
 pub mod StepIs

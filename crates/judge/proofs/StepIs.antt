@@ -12,7 +12,8 @@ use lib.Bits.{bitOr}
 use borrow.Author.Tests.{lt-ltb, le-ltb, le-leb, lt-leb, ltb-true, ltb-false}
 use Rattle.laws.specs.Sets.{bit, has, _∪_, within, only}
 use Rattle.laws.specs.Search.{when, orElse}
-use Rattle.laws.proofs.SetLaws.{bit-or, bit-ext, or-assoc, and-parts}
+use Rattle.laws.proofs.SetLaws.{bit-or, bit-ext, or-assoc}
+use Rattle.laws.proofs.TestLaws.{and-true}
 use Rattle.answer.specs.Limits.{maxComponents, maxRows, maxStates, maxActions, maxClocks}
 use Rattle.iosa.specs.Model.{Row, Comp, acts, rowCount}
 use Rattle.iosa.specs.Text.{Kind, in-kind, out-kind, uin-kind, uout-kind}
@@ -281,10 +282,10 @@ module _ (m : List Comp) (l : Option Entry) where
 
     key-is : ranged ≡ true → key ≡ keyOf (rowOf s g a r t)
     key-is h =
-        let p = and-parts (ltb s n) (guardBelow g && (ltb a maxActions && (allBelow maxClocks r && ltb t n))) h in
-        let q = and-parts (guardBelow g) (ltb a maxActions && (allBelow maxClocks r && ltb t n)) (p .1) in
-        let u = and-parts (ltb a maxActions) (allBelow maxClocks r && ltb t n) (q .1) in
-        let v = and-parts (allBelow maxClocks r) (ltb t n) (u .1) in
+        let p = and-true (ltb s n) (guardBelow g && (ltb a maxActions && (allBelow maxClocks r && ltb t n))) h in
+        let q = and-true (guardBelow g) (ltb a maxActions && (allBelow maxClocks r && ltb t n)) (p .1) in
+        let u = and-true (ltb a maxActions) (allBelow maxClocks r && ltb t n) (q .1) in
+        let v = and-true (allBelow maxClocks r) (ltb t n) (u .1) in
         rw (guard-number g (q .0), summary-set r (v .0))
 
     named-is : ranged ≡ true → named (standing (at m l)) key ≡ (guardIn k g && (has (acts (current (at m l))) a && allIn k r))

@@ -8,7 +8,8 @@ use native.Mathlib.Omega.{arith}
 use lib.Dec.{ltb}
 use lib.Bits.{bitOr}
 use Rattle.laws.specs.Sets.{has, _∪_, within, only, _∈_, _⊆_}
-use Rattle.laws.proofs.SetLaws.{bit-or, bit-ext, bit-above, or-assoc, and-parts, in-or, or-in-l, or-in-r, in-one, one-in, none-in, within-true, true-within}
+use Rattle.laws.proofs.SetLaws.{bit-or, bit-ext, bit-above, or-assoc, in-or, or-in-l, or-in-r, in-one, one-in, none-in, within-true, true-within}
+use Rattle.laws.proofs.TestLaws.{and-true}
 use Rattle.answer.specs.Limits.{maxClocks}
 use Rattle.iosa.specs.Reading.{allBelow, allIn, ascending, setOf}
 use Rattle.fields.specs.declared.Resets.{Resets}
@@ -62,7 +63,7 @@ with-set : (s : Resets) (xs : List ℕ) → allBelow maxClocks xs ≡ true → w
 unfolding withAll allBelow setOf
 with-set s [] h = sym (or-none (s .set))
 with-set s (x ∷ xs) h =
-    let p = and-parts (ltb x maxClocks) (allBelow maxClocks xs) h in
+    let p = and-true (ltb x maxClocks) (allBelow maxClocks xs) h in
     let e : with s x .set ≡ (s .set ∪ only x) = ap (λ b. cond b (s .set ∪ only x) (s .set)) (p .0) in
     with-set (with s x) xs (p .1) ∙ ap (λ t. t ∪ setOf xs) e ∙ or-assoc (s .set) (only x) (setOf xs)
 
@@ -70,7 +71,7 @@ pub summary-set : (xs : List ℕ) → allBelow maxClocks xs ≡ true → summary
 unfolding summary allBelow setOf
 summary-set [] h = refl
 summary-set (x ∷ xs) h =
-    let p = and-parts (ltb x maxClocks) (allBelow maxClocks xs) h in
+    let p = and-true (ltb x maxClocks) (allBelow maxClocks xs) h in
     let e : first x .set ≡ only x = ap (λ b. cond b (only x) 0) (p .0) in
     with-set (first x) xs (p .1) ∙ ap (λ t. t ∪ setOf xs) e
 
@@ -84,7 +85,7 @@ in-all : (s : ℕ) (xs : List ℕ) → allIn s xs ≡ true → setOf xs ⊆ s
 unfolding allIn setOf
 in-all s [] h y k = absurd (none-in y k)
 in-all s (x ∷ xs) h y k =
-    let p = and-parts (has s x) (allIn s xs) h in
+    let p = and-true (has s x) (allIn s xs) h in
     ⊎-elim (λ m. let e : y ≡ x = one-in x y m in ap (has s) e ∙ p .0) (λ m. in-all s xs (p .1) y m) (in-or (only x) (setOf xs) y k)
 
 pub within-all : (s : ℕ) (xs : List ℕ) → within (setOf xs) s ≡ allIn s xs

@@ -206,7 +206,7 @@ seek-map {A} p g lo hi = from (hi - lo) lo
         go true e = refl
         go false e = e
 
-some-map : {A B : Type 0} (g : A → B) (o : Option A) → isSome (mapSome g o) ≡ isSome o
+pub some-map : {A B : Type 0} (g : A → B) (o : Option A) → isSome (mapSome g o) ≡ isSome o
 some-map g none = refl
 some-map g (some x) = refl
 

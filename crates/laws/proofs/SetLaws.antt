@@ -11,7 +11,7 @@ use native.Mathlib.Decide.{decLt, ℕ-discrete}
 use lib.Bits.{bitAnd, bitOr, bitXor, differ, and-step, or-step, xor-step, or-shr, and-shr, xor-shr, or-comm, and-comm, or-zero-r, and-zero-r, and-mask, and-le-l, xor-add-and}
 use lib.Dec.{eqb}
 use borrow.Author.Tests.{eqb-true, eq-eqb, ne-eqb, not-true}
-use Rattle.laws.proofs.TestLaws.{not-so, or-false}
+use Rattle.laws.proofs.TestLaws.{not-so, or-false, and-true}
 use Rattle.laws.specs.Sets.{bit, has, _∖_ as without, within, _∈_, _⊆_, Apart}
 
 -- ---- the digits of the operations
@@ -127,18 +127,14 @@ not-or s t x e = or-false (has s x) (has t x) (sym (has-or s t x) ∙ e)
 pub or-not : (s t x : ℕ) → has s x ≡ false → has t x ≡ false → has (bitOr s t) x ≡ false
 or-not s t x p q = has-or s t x ∙ ap₂ _||_ p q
 
-pub and-parts : (a b : Bool) → (a && b) ≡ true → (a ≡ true) × (b ≡ true)
-and-parts true b e = (refl, e)
-and-parts false b e = absurd (false≢true e)
-
 pub in-and : (s t x : ℕ) → x ∈ bitAnd s t → (x ∈ s) × (x ∈ t)
-in-and s t x h = and-parts (has s x) (has t x) (sym (has-and s t x) ∙ h)
+in-and s t x h = and-true (has s x) (has t x) (sym (has-and s t x) ∙ h)
 
 pub and-in : (s t x : ℕ) → x ∈ s → x ∈ t → x ∈ bitAnd s t
 and-in s t x h k = has-and s t x ∙ ap₂ _&&_ h k
 
 pub in-without : (s t x : ℕ) → x ∈ without s t → (x ∈ s) × (has t x ≡ false)
-in-without s t x h = let p = and-parts (has s x) (not (has t x)) (sym (has-without s t x) ∙ h) in (p .0, not-true (has t x) (p .1))
+in-without s t x h = let p = and-true (has s x) (not (has t x)) (sym (has-without s t x) ∙ h) in (p .0, not-true (has t x) (p .1))
 
 pub without-in : (s t x : ℕ) → x ∈ s → has t x ≡ false → x ∈ without s t
 without-in s t x h k = has-without s t x ∙ ap₂ (λ a b. a && not b) h k

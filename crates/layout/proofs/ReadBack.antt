@@ -16,7 +16,7 @@ use Rattle.layout.specs.Words.{wordsOf, rowWord}
 use Rattle.layout.specs.Image.{leaveBelow, firstWord, blockOf, blocksOf, rowsOf, allRowsOf, zeros, imageOf}
 
 -- ---- lengths
-zeros-length : (n : ℕ) → length (zeros n) ≡ n
+pub zeros-length : (n : ℕ) → length (zeros n) ≡ n
 unfolding zeros
 zeros-length n = length-replicate n 0
 
@@ -26,21 +26,21 @@ zeros-at zero j = refl
 zeros-at (suc n) zero = refl
 zeros-at (suc n) (suc j) = zeros-at n j
 
-block-length : (n : ℕ) (c : Comp) → length (blockOf n c) ≡ blockWords
+pub block-length : (n : ℕ) (c : Comp) → length (blockOf n c) ≡ blockWords
 unfolding blockOf
 block-length n c = omega (arith, tab-length (firstWord n c) 0 (suc maxStates))
 
-blocks-length : (n : ℕ) (m : Model) → length (blocksOf n m) ≡ blockWords * length m
+pub blocks-length : (n : ℕ) (m : Model) → length (blocksOf n m) ≡ blockWords * length m
 unfolding blocksOf
 blocks-length n [] = refl
 blocks-length n (c ∷ cs) = omega (arith, length-append (blockOf n c) (blocksOf (n + length (c .rows)) cs), block-length n c, blocks-length (n + length (c .rows)) cs)
 
-rows-length : (rs : List Row) → length (rowsOf rs) ≡ rowWords * length rs
+pub rows-length : (rs : List Row) → length (rowsOf rs) ≡ rowWords * length rs
 unfolding rowsOf
 rows-length [] = refl
 rows-length (r ∷ rs) = omega (arith, rows-length rs)
 
-all-rows-length : (m : Model) → length (allRowsOf m) ≡ rowWords * rowCount m
+pub all-rows-length : (m : Model) → length (allRowsOf m) ≡ rowWords * rowCount m
 unfolding allRowsOf rowCount
 all-rows-length [] = refl
 all-rows-length (c ∷ cs) = omega (arith, length-append (rowsOf (c .rows)) (allRowsOf cs), rows-length (c .rows), all-rows-length cs)

@@ -12,7 +12,7 @@ use borrow.Author.Tests.{ltb-true, ltb-false, lt-ltb, le-ltb}
 use Rattle.iosa.specs.Model.{Row, Comp, noRow, rowAt}
 use Rattle.iosa.specs.WellFormed.{lower, before, WellComp}
 use Rattle.iosa.proofs.Acceptance.Order.{rows-ascend}
-use Rattle.iosa.proofs.Merging.Ascend.{lower-cases}
+use Rattle.iosa.proofs.Acceptance.Order.{lower-cases}
 use Rattle.layout.specs.Image.{leaveBelow}
 
 -- ---- what the order of two rows tells

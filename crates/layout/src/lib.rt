@@ -4,6 +4,8 @@ ghost use mathlib.Core.Path.{_≡_};
 ghost use Prim.Native.Nat.{ℕ, _≤_, _<_};
 ghost use lib.ListN.{length};
 ghost use Rattle.answer.specs.Limits.{maxComponents, maxStates, maxRows};
+ghost use Rattle.iosa.specs.Model.{acts};
+ghost use Rattle.layout.specs.Image.{compOf};
 ghost use Rattle.layout.specs.Layout.{blockWords, imageWords, countOf, blockWord, firstOf, actionAt, guardAt, resetsAt, targetAt};
 
 // The words of a block before first[0].
@@ -49,6 +51,16 @@ pub fn block_word(t: &[u64], i: usize, k: usize) -> u64
     ensures { λ r. ⌜ r ≡ blockWord (now (t .entry)) i k ⌝ }
 {
     t[1 + BLOCK * i + k]
+}
+
+// The actions of component i.
+pub fn acts_of(t: &[u64], i: usize) -> u64
+    requires { ⌜ (imageWords ≤ length (now t)) × (i < maxComponents) ⌝ }
+    ensures { λ r. ⌜ r ≡ acts (compOf (now (t .entry)) i) ⌝ }
+{
+    let inputs = sets::union(block_word(t, i, INS), block_word(t, i, UINS));
+    let outputs = sets::union(block_word(t, i, OUTS), block_word(t, i, UOUTS));
+    sets::union(inputs, outputs)
 }
 
 // The first row that leaves state s of component i, or a later state.

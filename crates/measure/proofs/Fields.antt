@@ -16,6 +16,7 @@ use Rattle.laws.specs.Fold.{tab, sum}
 use Rattle.laws.proofs.SetLaws.{bit-ones, bit-above, has-and, has-ext}
 use Rattle.laws.proofs.TabLaws.{tab-same, sum-add, sum-scale, sum-at-most}
 use Rattle.answer.specs.Limits.{maxDigits, maxClocks}
+use Rattle.iosa.proofs.Reading.Joined.{joined-one, joined-more}
 use Rattle.iosa.specs.Text.{digitsOf, decimal, joined, members, guardField, setField, comma}
 use Rattle.sets.specs.Members.{wordBits, sizeOf}
 use Rattle.measure.specs.Measure.{mostBeside, perMember}
@@ -123,14 +124,6 @@ members-most s e = sum-at-most (λ x. cond (has s x) (e + length (decimal x)) 0)
 commas : List ℕ → ℕ
 commas [] = 0
 commas (n ∷ ns) = suc (length (decimal n)) + commas ns
-
-joined-more : (n m : ℕ) (ns : List ℕ) → joined (n ∷ m ∷ ns) ≡ decimal n ++ comma ∷ joined (m ∷ ns)
-unfolding joined
-joined-more n m ns = refl
-
-joined-one : (n : ℕ) → joined (n ∷ []) ≡ decimal n ++ []
-unfolding joined
-joined-one n = refl
 
 joined-width : (n : ℕ) (ns : List ℕ) → suc (length (joined (n ∷ ns))) ≡ commas (n ∷ ns)
 unfolding commas

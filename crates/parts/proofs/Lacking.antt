@@ -11,7 +11,7 @@ use Rattle.laws.specs.Sets.{has, _∪_, _∖_, only, _∈_}
 use Rattle.laws.specs.Search.{seek, when, isSome, mapSome, least}
 use Rattle.laws.proofs.SetLaws.{has-without, in-without, in-one, one-in, none-in}
 use Rattle.laws.proofs.SearchLaws.{none-seek}
-use Rattle.laws.proofs.RangeLaws.{seek-ext, seek-map}
+use Rattle.laws.proofs.RangeLaws.{seek-ext, seek-map, some-map}
 use Rattle.laws.proofs.TestLaws.{not-so}
 use Rattle.laws.proofs.UnionLaws.{has-joined}
 use Rattle.answer.specs.Limits.{maxActions}
@@ -30,10 +30,6 @@ use Rattle.parts.specs.Faults.{stateFault, actionsIn}
 
 has-only : (x a : ℕ) → has (only x) a ≡ eqb x a
 has-only x a = elim (ℕ-discrete x a) [ yes e ↦ rw (eq-eqb x a e, ← e) (in-one x) | no e ↦ rw (ne-eqb x a e) (not-so (has (only x) a) (λ m. e (sym (one-in x a m)))) ]
-
-some-map : {A B : Type 0} (g : A → B) (o : Option A) → isSome (mapSome g o) ≡ isSome o
-some-map g none = refl
-some-map g (some x) = refl
 
 module _ (t : List ℕ) (im : Image t) (i : ℕ) (h : i < countOf t) (s : ℕ) (b : s < blockWord t i 0) where
   has-actions : (a : ℕ) → has (actionsIn t i s) a ≡ isSome (rowFor (compOf t i) s a)

@@ -20,6 +20,7 @@ use Rattle.answer.specs.declared.State.{State}
 use Rattle.answer.specs.State.{numbersFrom, partsOf}
 use Rattle.sets.specs.Members.{wordBits, lowestOf}
 use Rattle.sets.proofs.MemberLaws.{lowest-found}
+use Rattle.iosa.proofs.Reading.Joined.{joined-none, joined-one, joined-more}
 use Rattle.iosa.specs.Text.{byte0, comma, dash, digitsOf, decimal, joined, members, guardField, setField}
 use Rattle.iosa.proofs.Reading.Members.{members-same, members-none}
 use Rattle.print.specs.Put.{leading}
@@ -110,22 +111,10 @@ unfoldable pub each : List ℕ → List ℕ
 each [] = []
 each (n ∷ ns) = (comma ∷ decimal n) ++ each ns
 
-joined-one : (n : ℕ) → joined (n ∷ []) ≡ decimal n ++ []
-unfolding joined
-joined-one n = refl
-
-joined-more : (n m : ℕ) (ns : List ℕ) → joined (n ∷ m ∷ ns) ≡ decimal n ++ comma ∷ joined (m ∷ ns)
-unfolding joined
-joined-more n m ns = refl
-
 pub joined-each : (n : ℕ) (ns : List ℕ) → joined (n ∷ ns) ≡ decimal n ++ each ns
 unfolding each
 joined-each n [] = joined-one n
 joined-each n (m ∷ ns) = joined-more n m ns ∙ ap (λ l. decimal n ++ comma ∷ l) (joined-each m ns)
-
-pub joined-none : joined [] ≡ []
-unfolding joined
-joined-none = refl
 
 -- ---- a set
 pub no-set : (s : ℕ) → s ≡ 0 → setField s ≡ dash ∷ []

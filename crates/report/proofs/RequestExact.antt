@@ -7,6 +7,7 @@ use Rattle.iosa.specs.Text.{tab, lf, decimal, joined, fieldsAfter}
 use Rattle.iosa.specs.Reading.{Got, got, then, exactly, theByte, number, numbers, field}
 use Rattle.iosa.specs.Line.{Fits, Ends, Any, Exact}
 use Rattle.iosa.specs.Report.{Request, fromWord, requestLine}
+use Rattle.iosa.proofs.Reading.Lines.{field-printed, field-scanned, field-before}
 use Rattle.iosa.proofs.Reading.Fields.{then-some, exactly-scanned, number-exact, numbers-exact, ListFits}
 
 unfoldable pub requestText : Request → List ℕ
@@ -15,30 +16,10 @@ requestText q = fromWord ++ fieldsAfter (joined (q .state) ∷ decimal (q .budge
 abbrev pub RequestFits : Request → Type 0
 RequestFits q = ListFits (q .state) × Fits (q .budget)
 
-fields-end : (fs : List (List ℕ)) (bs : List ℕ) → Ends (fieldsAfter fs ++ bs)
-unfolding fieldsAfter
-fields-end [] bs = (refl, refl)
-fields-end (f ∷ fs) bs = (refl, refl)
-
-module _ {A : Type 0} (scan : List ℕ → Option (Got A)) (print : A → List ℕ) (Good : A → Type 0) (r : Exact scan print Good Ends) where
-  field-printed : (x : A) → Good x → (fs : List (List ℕ)) (bs : List ℕ) → field scan (fieldsAfter (print x ∷ fs) ++ bs) ≡ got x (fieldsAfter fs ++ bs)
-  unfolding fieldsAfter exactly
-  field-printed x h fs bs = ap scan (append-assoc (print x) (fieldsAfter fs) bs) ∙ r .printed x (fieldsAfter fs ++ bs) h (fields-end fs bs)
-
-  field-scanned : (bs : List ℕ) (g : Got A) → field scan bs ≡ some g → (bs ≡ (tab ∷ print (g .value)) ++ g .rest) × Good (g .value)
-  field-scanned bs g e =
-      let t = then-some (theByte tab bs) (λ _ cs. scan cs) e in
-      let q = r .scanned (t .0 .rest) g (t .2) in
-      (exactly-scanned (tab ∷ []) bs (t .0) (t .1) ∙ ap {B = List ℕ} (λ l. tab ∷ l) (q .0), q .1)
-
 printed : (q : Request) (bs : List ℕ) → RequestFits q → requestLine (requestText q ++ bs) ≡ got q bs
 unfolding requestLine requestText fieldsAfter exactly
 printed q bs h =
     rw (field-printed numbers joined ListFits numbers-exact (q .state) (h .0) (decimal (q .budget) ∷ []) bs, field-printed number decimal Fits number-exact (q .budget) (h .1) [] bs)
-
-field-before : (l : List ℕ) (fs : List (List ℕ)) (rest : List ℕ) {bs cs : List ℕ} → bs ≡ (tab ∷ l) ++ cs → cs ≡ fieldsAfter fs ++ rest → bs ≡ fieldsAfter (l ∷ fs) ++ rest
-unfolding fieldsAfter
-field-before l fs rest p q = p ∙ ap {B = List ℕ} (λ r. (tab ∷ l) ++ r) q ∙ sym (append-assoc (tab ∷ l) (fieldsAfter fs) rest)
 
 -- the scans of its parts, one after the other
 abbrev asRequest : Got (List ℕ) → Got ℕ → Got (Unit {0}) → Got Request

@@ -11,7 +11,7 @@ use lib.ListN.{length, take, set, length-set, length-replicate}
 use lib.Seq.{take-suc-set, append-snoc}
 use lib.Dec.{ltb}
 use borrow.Author.Tests.{lt-ltb, le-ltb, ltb-true}
-use Rattle.laws.proofs.SetLaws.{and-parts}
+use Rattle.laws.proofs.TestLaws.{and-true}
 use Rattle.answer.specs.Limits.{maxComponents, maxStates, noState}
 use Rattle.answer.specs.declared.State.{State}
 use Rattle.answer.specs.State.{numbersFrom, partsOf}
@@ -93,7 +93,7 @@ bytes-same [] f [] e = refl
 bytes-same [] f (n ∷ ns) e = absurd (let z : _≡_ {A = ℕ} 0 1 = cc in omega arith)
 bytes-same (c ∷ cs) f [] e = refl
 bytes-same (c ∷ cs) f (n ∷ ns) e =
-    let p = and-parts (ltb n (c .states)) (inRange cs ns) e in
+    let p = and-true (ltb n (c .states)) (inRange cs ns) e in
     ap₂ _∷_ (byte-same n (c .states) (f .0) (p .0)) (bytes-same cs (f .1) ns (p .1))
 
 in-range-length : (m : Model) (ns : List ℕ) → inRange m ns ≡ true → length ns ≡ length m
@@ -101,7 +101,7 @@ unfolding inRange
 in-range-length [] [] e = refl
 in-range-length [] (n ∷ ns) e = absurd (let z : _≡_ {A = ℕ} 0 1 = cc in omega arith)
 in-range-length (c ∷ cs) [] e = absurd (let z : _≡_ {A = ℕ} 0 1 = cc in omega arith)
-in-range-length (c ∷ cs) (n ∷ ns) e = ap suc (in-range-length cs ns (and-parts (ltb n (c .states)) (inRange cs ns) e .1))
+in-range-length (c ∷ cs) (n ∷ ns) e = ap suc (in-range-length cs ns (and-true (ltb n (c .states)) (inRange cs ns) e .1))
 
 wrong-length : (m : Model) (ns : List ℕ) → (length ns ≡ length m → ⊥) → inRange m ns ≡ false
 wrong-length m ns h = go (inRange m ns) refl

@@ -6,7 +6,7 @@ use mathlib.Core.List.{List, [], _∷_}
 use Prim.Native.Nat.{ℕ, zero, suc, _+_, _≤_, _<_}
 use native.Mathlib.Omega.{arith}
 use native.Mathlib.Numerals.{add-one}
-use lib.ListN.{length, getD, drop}
+use lib.ListN.{length, getD, drop, drop-of-length-le}
 use lib.Seq.{drop-cons}
 use lib.Bits.{or-zero-r}
 use Rattle.laws.specs.Sets.{_∪_}
@@ -24,7 +24,6 @@ use Rattle.iosa.specs.Settle.{Settling, resting, afterListed, play}
 use Rattle.layout.specs.Image.{modelOf}
 use Rattle.moves.specs.Moves.{resetAll, afterAll, movedAll, offersAll, lowestAll}
 use Rattle.moves.proofs.StepsByOffers.{offered-step, no-offer-no-step}
-use Rattle.moves.proofs.Along.{drop-out}
 use Rattle.settling.specs.Gives.{Ready, EndsAt, SettlingGives, SettleAnswers}
 use Rattle.settling.proofs.Reached.{Reached, reached-first, next-parts, reached-next}
 
@@ -67,7 +66,7 @@ module _ (m : Model) where
 
   play-end : (i : ℕ) (l s : List ℕ) → length l ≤ i → play m i (drop i l) s ≡ answered (resting (isStable m s) s)
   unfolding play
-  play-end i l s h = ap (λ r. play m i r s) (drop-out l i h)
+  play-end i l s h = ap (λ r. play m i r s) (drop-of-length-le l h)
 
 -- i actions of the list are done, with these resets, and cur is reached
 pub record Plays (t list : List ℕ) (x cur : State) (resets i : ℕ) : Type 0 where

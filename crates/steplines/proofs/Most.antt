@@ -12,6 +12,7 @@ use Rattle.answer.specs.Told.{tell, valuesAt}
 use Rattle.answer.specs.declared.Place.{Place}
 use Rattle.answer.specs.declared.Place.the-variants.{Whole, Line, Row, Bytes, Index, Clock, Component, Cell, Clash, SharedAction, SharedClock}
 use Rattle.answer.specs.declared.Refusal.{Refusal}
+use Rattle.iosa.proofs.Reading.Joined.{joined-none, joined-one, joined-more}
 use Rattle.iosa.specs.Model.{Model}
 use Rattle.iosa.specs.Text.{tab, lf, comma, decimal, joined, setField}
 use Rattle.iosa.specs.Step.{Gone, Went, move, together, moveAll, isUout, urgentStep, lowest}
@@ -24,18 +25,6 @@ use Rattle.tell.proofs.TellLaws.{tail-parts, step-parts, last-parts, refused-pa
 use Rattle.steplines.specs.Run.{lineBytes, mostBytes, linesOf, runText}
 
 -- ---- one line
-joined-more : (n m : ℕ) (ns : List ℕ) → joined (n ∷ m ∷ ns) ≡ decimal n ++ comma ∷ joined (m ∷ ns)
-unfolding joined
-joined-more n m ns = refl
-
-joined-one : (n : ℕ) → joined (n ∷ []) ≡ decimal n ++ []
-unfolding joined
-joined-one n = refl
-
-joined-none : joined [] ≡ []
-unfolding joined
-joined-none = refl
-
 pub joined-most : (ns : List ℕ) → length (joined ns) ≤ 6 * length ns
 joined-most [] = rw joined-none (omega arith)
 joined-most (n ∷ []) = rw (joined-one n) (omega (arith, length-append (decimal n) [], width-most n))

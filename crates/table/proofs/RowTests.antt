@@ -6,13 +6,13 @@ use Prim.Native.Nat.{ℕ, zero, suc, _+_, _-_, _^_, _≤_, _<_}
 use native.Mathlib.Numerals.{add-one}
 use native.Mathlib.Omega.{arith}
 use lib.Dec.{eqb, ltb}
-use borrow.Author.Tests.{eq-eqb, ne-eqb, eqb-true, eqb-false, le-ltb}
 use Rattle.laws.specs.Sets.{has, within, only}
 use Rattle.laws.proofs.SetLaws.{bit-above, one-in, in-one, none-in, within-true, true-within}
 use Rattle.laws.proofs.TestLaws.{not-so}
 use Rattle.sets.specs.Members.{wordBits}
 use Rattle.iosa.specs.Model.{guardSet}
 use Rattle.iosa.specs.WellFormed.{lower, before}
+use Rattle.iosa.proofs.Acceptance.Order.{lower-same, lower-here, lower-last}
 use Rattle.layout.specs.Layout.{actionAt, guardAt, resetsAt, targetAt}
 use Rattle.table.specs.Rows.{climbs}
 
@@ -36,39 +36,20 @@ guard-one zero s h = absurd (omega arith)
 guard-one (suc x) s h = let e : suc x - 1 ≡ x = omega arith in rw e (within-one x s)
 
 -- ---- the order of rows
-lower-same : (x y : ℕ) (xs ys : List ℕ) → x ≡ y → lower (x ∷ xs) (y ∷ ys) ≡ lower xs ys
-unfolding lower
-lower-same x y xs ys e = rw (eq-eqb x y e, lower)
-
-lower-differ : (x y : ℕ) (xs ys : List ℕ) → (x ≡ y → ⊥) → lower (x ∷ xs) (y ∷ ys) ≡ ltb x y
-unfolding lower
-lower-differ x y xs ys e = rw (ne-eqb x y e, lower)
-
-lower-none : lower [] [] ≡ false
-unfolding lower
-lower-none = refl
-
-lower-last : (x y : ℕ) → lower (x ∷ []) (y ∷ []) ≡ ltb x y
-lower-last x y = go (eqb x y) refl
-  where
-    go : (b : Bool) → eqb x y ≡ b → lower (x ∷ []) (y ∷ []) ≡ ltb x y
-    go true e = let p = eqb-true x y e in lower-same x y [] [] p ∙ lower-none ∙ sym (le-ltb x y (omega arith))
-    go false e = lower-differ x y [] [] (eqb-false x y e)
-
 -- actions a, b, guards g, h, resets x, y, targets d, e
 module _ (a b g h x y d e : ℕ) where
   abbrev key : Bool
   key = lower (a ∷ g ∷ x ∷ d ∷ []) (b ∷ h ∷ y ∷ e ∷ [])
 
   pub by-action : (a ≡ b → ⊥) → ltb a b ≡ key
-  by-action n = sym (lower-differ a b (g ∷ x ∷ d ∷ []) (h ∷ y ∷ e ∷ []) n)
+  by-action n = sym (lower-here a b (g ∷ x ∷ d ∷ []) (h ∷ y ∷ e ∷ []) n)
 
   pub by-guard : a ≡ b → (g ≡ h → ⊥) → ltb g h ≡ key
-  by-guard p n = sym (lower-same a b (g ∷ x ∷ d ∷ []) (h ∷ y ∷ e ∷ []) p ∙ lower-differ g h (x ∷ d ∷ []) (y ∷ e ∷ []) n)
+  by-guard p n = sym (lower-same a b (g ∷ x ∷ d ∷ []) (h ∷ y ∷ e ∷ []) p ∙ lower-here g h (x ∷ d ∷ []) (y ∷ e ∷ []) n)
 
   pub by-resets : a ≡ b → g ≡ h → (x ≡ y → ⊥) → ltb x y ≡ key
   by-resets p q n =
-      sym (lower-same a b (g ∷ x ∷ d ∷ []) (h ∷ y ∷ e ∷ []) p ∙ lower-same g h (x ∷ d ∷ []) (y ∷ e ∷ []) q ∙ lower-differ x y (d ∷ []) (e ∷ []) n)
+      sym (lower-same a b (g ∷ x ∷ d ∷ []) (h ∷ y ∷ e ∷ []) p ∙ lower-same g h (x ∷ d ∷ []) (y ∷ e ∷ []) q ∙ lower-here x y (d ∷ []) (e ∷ []) n)
 
   pub by-target : a ≡ b → g ≡ h → x ≡ y → ltb d e ≡ key
   by-target p q r =

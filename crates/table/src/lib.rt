@@ -113,29 +113,13 @@ fn states_climb(t: &[u64], i: usize) -> bool
     true
 }
 
-// The actions of component i.
-fn acts_of(t: &[u64], i: usize) -> u64
-    requires { ⌜ (imageWords ≤ length (now t)) × (i < maxComponents) ⌝ }
-    ensures { λ w. ⌜ w ≡ acts (compOf (now (t .entry)) i) ⌝ }
-{
-    let inputs = sets::union(
-        layout::block_word(t, i, layout::INS),
-        layout::block_word(t, i, layout::UINS),
-    );
-    let outputs = sets::union(
-        layout::block_word(t, i, layout::OUTS),
-        layout::block_word(t, i, layout::UOUTS),
-    );
-    sets::union(inputs, outputs)
-}
-
 fn comp_rows_right(t: &[u64], i: usize) -> bool
     requires { ⌜ Sane (now t) × (i < maxComponents) ⌝ }
     ensures { λ w. ⌜ w ≡ compRowsRight (now (t .entry)) i ⌝ }
 {
     let states = layout::block_word(t, i, layout::STATES);
     let clocks = layout::block_word(t, i, layout::CLOCKS);
-    let acts = acts_of(t, i);
+    let acts = layout::acts_of(t, i);
     let lo = layout::first_of(t, i, 0);
     let hi = layout::first_of(t, i, states as usize);
     if range_right(t, acts, clocks, states, lo, hi) {

@@ -1,13 +1,13 @@
 -- "`row` lines ascend strictly": the order of rows is a strict order, so that of two rows of a component the later one is the greater.
 use mathlib.Core.Path.{_≡_, refl, sym, _∙_, ap}
-use mathlib.Core.Logic.{_≢_}
+use mathlib.Core.Logic.{_≢_, _⊎_, inl, inr}
 use mathlib.Core.Bool.{Bool, true, false, true≢false, false≢true}
 use mathlib.Core.List.{List, [], _∷_}
 use Prim.Native.Nat.{ℕ, zero, suc, _+_, _-_, _<_}
 use native.Mathlib.Omega.{arith}
 use lib.ListN.{length}
 use lib.Dec.{eqb, ltb}
-use borrow.Author.Tests.{eqb-true, eq-eqb, ne-eqb, ltb-true, lt-ltb}
+use borrow.Author.Tests.{eqb-true, eq-eqb, ne-eqb, ltb-true, lt-ltb, le-ltb}
 use Rattle.iosa.specs.Model.{Row, Comp, rowAt}
 use Rattle.iosa.specs.WellFormed.{lower, order, before, WellComp}
 
@@ -59,3 +59,32 @@ module _ (c : Comp) (w : WellComp c) where
   -- no two rows are equal
   pub rows-differ : (j k : ℕ) → j < k → k < length (c .rows) → rowAt c j ≢ rowAt c k
   rows-differ j k h n e = true≢false (sym (rows-ascend j k h n) ∙ ap (λ r. before r (rowAt c k)) e ∙ before-irreflexive (rowAt c k))
+
+-- ---- the first number that differs decides
+pub lower-less : (x y : ℕ) (xs ys : List ℕ) → x < y → lower (x ∷ xs) (y ∷ ys) ≡ true
+unfolding lower
+lower-less x y xs ys h = rw (ne-eqb x y (λ e. omega arith), lower) (lt-ltb x y h)
+
+pub lower-same : (x y : ℕ) (xs ys : List ℕ) → x ≡ y → lower (x ∷ xs) (y ∷ ys) ≡ lower xs ys
+unfolding lower
+lower-same x y xs ys e = rw (eq-eqb x y e, lower)
+
+pub lower-here : (x y : ℕ) (xs ys : List ℕ) → (x ≡ y → ⊥) → lower (x ∷ xs) (y ∷ ys) ≡ ltb x y
+unfolding lower
+lower-here x y xs ys e = rw (ne-eqb x y e, lower)
+
+pub lower-last : (x y : ℕ) → lower (x ∷ []) (y ∷ []) ≡ ltb x y
+unfolding lower
+lower-last x y = go (eqb x y) refl
+  where
+    go : (b : Bool) → eqb x y ≡ b → lower (x ∷ []) (y ∷ []) ≡ ltb x y
+    go true e = rw (e, lower) (sym (le-ltb x y (omega (arith, eqb-true x y e))))
+    go false e = rw (e, lower)
+
+pub lower-cases : (x y : ℕ) (xs ys : List ℕ) → lower (x ∷ xs) (y ∷ ys) ≡ true → (x < y) ⊎ ((x ≡ y) × (lower xs ys ≡ true))
+unfolding lower
+lower-cases x y xs ys h = go (eqb x y) refl h
+  where
+    go : (b : Bool) → eqb x y ≡ b → (elim b as (λ _. Bool) [ true ↦ lower xs ys | false ↦ ltb x y ]) ≡ true → (x < y) ⊎ ((x ≡ y) × (lower xs ys ≡ true))
+    go true e h = inr (eqb-true x y e, h)
+    go false e h = inl (ltb-true x y h)

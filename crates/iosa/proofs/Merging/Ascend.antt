@@ -19,7 +19,7 @@ use Rattle.iosa.specs.WellFormed.{lower, before, WellComp}
 use Rattle.iosa.specs.Automaton.{Leads, autoOf, Conditions, Compatible}
 use Rattle.iosa.specs.Checks.{leaves, unclocked}
 use Rattle.iosa.specs.Merge.{rowsBy, pairOf, firstMoves, secondMoves, bothMove, joinGuards, eachWith, pairRows, productRows}
-use Rattle.iosa.proofs.Acceptance.Order.{before-irreflexive, before-transitive}
+use Rattle.iosa.proofs.Acceptance.Order.{lower-less, lower-same, lower-cases, before-irreflexive, before-transitive}
 use Rattle.iosa.proofs.Acceptance.Guards.{guard-zero, guard-same}
 use Rattle.iosa.proofs.Merging.Rows.{rows-by-in, rows-by-lead, each-with-in, input-unguarded, pair-rows-in}
 
@@ -28,23 +28,6 @@ Before r q = before r q ≡ true
 
 abbrev pub Ascending : List Row → Type 0
 Ascending rs = Pairwise Before rs
-
--- ---- the first number that differs decides
-lower-less : (x y : ℕ) (xs ys : List ℕ) → x < y → lower (x ∷ xs) (y ∷ ys) ≡ true
-unfolding lower
-lower-less x y xs ys h = rw (ne-eqb x y (λ e. omega arith), lower) (lt-ltb x y h)
-
-lower-same : (x y : ℕ) (xs ys : List ℕ) → x ≡ y → lower (x ∷ xs) (y ∷ ys) ≡ lower xs ys
-unfolding lower
-lower-same x y xs ys e = rw (eq-eqb x y e, lower)
-
-pub lower-cases : (x y : ℕ) (xs ys : List ℕ) → lower (x ∷ xs) (y ∷ ys) ≡ true → (x < y) ⊎ ((x ≡ y) × (lower xs ys ≡ true))
-unfolding lower
-lower-cases x y xs ys h = go (eqb x y) refl h
-  where
-    go : (b : Bool) → eqb x y ≡ b → (elim b as (λ _. Bool) [ true ↦ lower xs ys | false ↦ ltb x y ]) ≡ true → (x < y) ⊎ ((x ≡ y) × (lower xs ys ≡ true))
-    go true e h = inr (eqb-true x y e, h)
-    go false e h = inl (ltb-true x y h)
 
 -- behind from and action: guard, resets, target
 abbrev Tail : Row → Row → Type 0

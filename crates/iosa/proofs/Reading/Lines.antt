@@ -16,17 +16,17 @@ fields-end [] bs = (refl, refl)
 fields-end (f ∷ fs) bs = (refl, refl)
 
 module _ {A : Type 0} (scan : List ℕ → Option (Got A)) (print : A → List ℕ) (Good : A → Type 0) where
-  field-printed : Exact scan print Good Ends → (x : A) → Good x → (fs : List (List ℕ)) (bs : List ℕ) → field scan (fieldsAfter (print x ∷ fs) ++ bs) ≡ got x (fieldsAfter fs ++ bs)
+  pub field-printed : Exact scan print Good Ends → (x : A) → Good x → (fs : List (List ℕ)) (bs : List ℕ) → field scan (fieldsAfter (print x ∷ fs) ++ bs) ≡ got x (fieldsAfter fs ++ bs)
   unfolding fieldsAfter exactly
   field-printed r x h fs bs = ap scan (append-assoc (print x) (fieldsAfter fs) bs) ∙ r .printed x (fieldsAfter fs ++ bs) h (fields-end fs bs)
 
-  field-scanned : {E : List ℕ → Type 0} → Exact scan print Good E → (bs : List ℕ) (g : Got A) → field scan bs ≡ some g → (bs ≡ (tab ∷ print (g .value)) ++ g .rest) × Good (g .value)
+  pub field-scanned : {E : List ℕ → Type 0} → Exact scan print Good E → (bs : List ℕ) (g : Got A) → field scan bs ≡ some g → (bs ≡ (tab ∷ print (g .value)) ++ g .rest) × Good (g .value)
   field-scanned r bs g e =
       let t = then-some (theByte tab bs) (λ _ cs. scan cs) e in
       let q = r .scanned (t .0 .rest) g (t .2) in
       (exactly-scanned (tab ∷ []) bs (t .0) (t .1) ∙ ap {B = List ℕ} (λ l. tab ∷ l) (q .0), q .1)
 
-field-before : (l : List ℕ) (fs : List (List ℕ)) (rest : List ℕ) {bs cs : List ℕ} → bs ≡ (tab ∷ l) ++ cs → cs ≡ fieldsAfter fs ++ rest → bs ≡ fieldsAfter (l ∷ fs) ++ rest
+pub field-before : (l : List ℕ) (fs : List (List ℕ)) (rest : List ℕ) {bs cs : List ℕ} → bs ≡ (tab ∷ l) ++ cs → cs ≡ fieldsAfter fs ++ rest → bs ≡ fieldsAfter (l ∷ fs) ++ rest
 unfolding fieldsAfter
 field-before l fs rest p q = p ∙ ap {B = List ℕ} (λ r. (tab ∷ l) ++ r) q ∙ sym (append-assoc (tab ∷ l) (fieldsAfter fs) rest)
 

@@ -1,7 +1,7 @@
 -- `judge::guard_named` meets its contract.
 use mathlib.Core.Path.{sym, _∙_}
 use Rattle.judge.specs.Judged.{guardNamed}
-use Rattle.judge.proofs.OrderLaws.{guard-named}
+use Rattle.judge.proofs.GuardLaws.{guard-named}
 use borrow.Author.Needs.{needs}
 use Rattle.judge.proofs.guard_named.Statement.{statement}
 use Rattle.judge.proofs.guard_named.Tie as tie

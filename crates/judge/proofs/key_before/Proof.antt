@@ -2,7 +2,7 @@
 use mathlib.Core.Path.{_≡_, sym, _∙_}
 use Rattle.iosa.specs.WellFormed.{before}
 use Rattle.judge.specs.Judged.{keyBefore}
-use Rattle.judge.proofs.OrderLaws.{lower-same, lower-here, lower-last}
+use Rattle.iosa.proofs.Acceptance.Order.{lower-same, lower-here, lower-last}
 use Rattle.judge.proofs.key_before.Statement.{statement}
 use Rattle.judge.proofs.key_before.Tie as tie
 

@@ -1,10 +1,10 @@
--- `table::acts_of`: the four sets joined.
+-- `layout::acts_of`: the four sets joined.
 use mathlib.Core.Path.{_∙_, ap₂}
 use lib.Bits.{bitOr}
 use Rattle.layout.specs.Image.{compOf}
 use borrow.Author.Needs.{needs}
-use Rattle.table.proofs.acts_of.Statement.{statement}
-use Rattle.table.proofs.acts_of.Tie as tie
+use Rattle.layout.proofs.acts_of.Statement.{statement}
+use Rattle.layout.proofs.acts_of.Tie as tie
 
 block-word-requires : tie.Need-block-word-requires
 block-word-requires c κs = search needs
