@@ -142,8 +142,9 @@ void lines(const std::vector<Subject>& subjects, Make make) {
     call = pair.call;
     works.push_back(pair.engine);
     works.push_back(pair.second);
+    lent_out.answer.kind = FLOODNEEDLE_DONE;
     pair.engine();
-    if (lent_out.answer.kind == FLOODNEEDLE_REFUSED) std::printf("%s is refused: ", s.name.c_str());
+    if (lent_out.answer.kind == FLOODNEEDLE_REFUSED) std::printf("%s is refused.\n", s.name.c_str());
   }
   const std::vector<double> cost = least(works);
   for (std::size_t i = 0; i < subjects.size(); ++i) {
@@ -216,8 +217,14 @@ int main(int count, char** arguments) {
   head("The timed step");
   lines(timing, timed_step);
 
-  const std::vector<Subject> merging = {paper_model(), to_merge(4), to_merge(8)};
-  head("Merging components 0 and 1, into 8, 256 and 1,024 rows");
+  const std::vector<Subject> merging = {paper_model(), to_merge(8, 1), to_merge(8, 2), to_merge(8, 4), to_merge(8, 8), to_merge(4, 8)};
+  head("Merging components 0 and 1: M, then 64 pairs of states with more and more rows, then 16 pairs");
   lines(merging, merge);
+
+  const Subject large = one_component(64, 16);
+  const std::vector<Subject> wrong = {damaged(large, "wrong in its first block", 8), damaged(large, "wrong in its first row", 1169),
+                                      damaged(large, "wrong in its last row", 5261)};
+  head("Tables that are no image: the 64 states by 16 actions with one word wrong");
+  lines(wrong, recognise);
   return kept == 1 ? 1 : 0;
 }

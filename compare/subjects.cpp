@@ -140,17 +140,23 @@ Subject waiting(unsigned components) {
     component.started = component.clocks;
     model.components.push_back(component);
   }
-  return subject(counted(components, "components waiting"), model);
+  return subject(counted(components, components == 1 ? "component waiting" : "components waiting"), model);
 }
 
-Subject to_merge(unsigned states) {
+Subject to_merge(unsigned states, unsigned actions) {
   Model model;
   for (unsigned c = 0; c < 2; ++c) {
     Component component;
     component.states = states;
     component.clocks = second::only(c);
-    for (unsigned k = 0; k < 8; ++k) add_turns(component, 2 * k + c, Kind::in, k % 2 == 0 ? component.clocks : 0, k);
+    for (unsigned k = 0; k < actions; ++k) add_turns(component, 2 * k + c, Kind::in, k % 2 == 0 ? component.clocks : 0, k);
     model.components.push_back(component);
   }
-  return subject(counted(states, "by as many states"), model);
+  return subject(counted(states * states, "pairs into ") + counted(2 * states * states * actions, "rows"), model);
+}
+
+Subject damaged(Subject whole, const std::string& name, std::size_t word) {
+  whole.name = name;
+  whole.table[word] ^= second::only(63);
+  return whole;
 }

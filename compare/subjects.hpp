@@ -37,5 +37,8 @@ Subject slow_sets();
 // So many components of 4 states that wait for four clocks each, and hear others; every state is stable.
 Subject waiting(unsigned components);
 
-// Two components of so many states by 8 inputs each, which have nothing in common.
-Subject to_merge(unsigned states);
+// Two components of so many states by inputs each, which have nothing in common.
+Subject to_merge(unsigned states, unsigned actions);
+
+// The same with one word of its table wrong: no image.
+Subject damaged(Subject whole, const std::string& name, std::size_t word);
