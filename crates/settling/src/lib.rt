@@ -89,7 +89,7 @@ fn ended(t: &[u64], cur: State, steps: usize, resets: u64) -> Settled
     }
 }
 
-// Settling by our rule, at most budget times; the actions taken at the front of the trace.
+// Settling by our rule, at most budget times; the actions taken at the front of the trace. The numbers stay in one place: a state handed on by value costs as much as a small step.
 pub fn by_rule(t: &[u64], x: State, budget: usize, trace: &mut [u8]) -> Settled
     requires { ⌜ Ready (now t) x × (budget ≤ length (now trace)) ⌝ }
     ensures { λ r. ⌜ SettleGives (modelOf (now (t .entry))) budget x r × TraceHolds (modelOf (now (t .entry))) budget x (now (trace .entry)) (now (trace .exit)) ⌝ }
