@@ -31,14 +31,14 @@ filled f A s v h e ih j p = elim (ℕ-discrete j s) [
   | no w ↦ getD-set-other A s j v 0 w ∙ ih j (omega arith)
 ]
 
--- ---- one narrowing, by the test of its target's set
-pub row-stays : (A : List ℕ) (r : Row) → getD A (r .target) 0 ∩ handedOn A r ≡ getD A (r .target) 0 → Fell false A (narrowed A r)
-row-stays A r e = ap (set A (r .target)) e ∙ set-getD A (r .target) 0
-
-pub row-falls : (A : List ℕ) (r : Row) → (getD A (r .target) 0 ∩ handedOn A r ≡ getD A (r .target) 0 → ⊥) → Fell true A (narrowed A r)
-row-falls A r ne = elim (decLt (r .target) (length A)) [
-  | yes h ↦ shrinks A r h (ap not (ne-eqb _ _ ne))
-  | no h ↦ absurd (ne (omega (arith, List·getD-eq-default A 0 {n = r .target} (omega arith), and-le-l (getD A (r .target) 0) (handedOn A r))))
+-- ---- one narrowing lets the sum fall if the row breaks the sets, else it changes nothing
+pub narrowed-fell : (A : List ℕ) (r : Row) → Fell (breaks A r) A (narrowed A r)
+narrowed-fell A r = elim (ℕ-discrete (getD A (r .target) 0 ∩ handedOn A r) (getD A (r .target) 0)) [
+  | yes e ↦ rw (eq-eqb _ _ e) (ap (set A (r .target)) e ∙ set-getD A (r .target) 0)
+  | no ne ↦ rw (ne-eqb _ _ ne) (elim (decLt (r .target) (length A)) [
+    | yes h ↦ shrinks A r h (ap not (ne-eqb _ _ ne))
+    | no h ↦ absurd (ne (omega (arith, List·getD-eq-default A 0 {n = r .target} (omega arith), and-le-l (getD A (r .target) 0) (handedOn A r))))
+  ])
 ]
 
 -- one after the other
@@ -49,9 +49,6 @@ fell-on A B C false true p q = omega (arith, ap sum p)
 
 abbrev Falls : List ℕ → List ℕ → Type 0
 Falls A B = (r : Bool) × Fell r A B
-
-narrowed-falls : (A : List ℕ) (r : Row) → Falls A (narrowed A r)
-narrowed-falls A r = elim (ℕ-discrete (getD A (r .target) 0 ∩ handedOn A r) (getD A (r .target) 0)) [ yes e ↦ (false, row-stays A r e) | no ne ↦ (true, row-falls A r ne) ]
 
 -- ---- steps that change nothing or let the sum fall, one after the other
 module _ (f : ℕ → List ℕ → List ℕ) (down : (k : ℕ) (A : List ℕ) → Falls A (f k A)) where
@@ -113,7 +110,7 @@ module _ (t : List ℕ) (im : Image t) (i : ℕ) (h : i < countOf t) where
           let to = rowAt (compOf t i) k .target in
           let room : to < length A = omega (arith, lo .0, w .rows k p .target) in
           sym (getD-set-same A to _ 0 room)
-          ∙ ap (λ B. getD B to 0) (over-unchanged by-rows (λ k B. narrowed-falls B (rowAt (compOf t i) k)) 0 (length (compOf t i .rows)) A (sym (pass-rows A) ∙ sym e) k (omega arith) p)
+          ∙ ap (λ B. getD B to 0) (over-unchanged by-rows (λ k B. (breaks B (rowAt (compOf t i) k), narrowed-fell B (rowAt (compOf t i) k))) 0 (length (compOf t i .rows)) A (sym (pass-rows A) ∙ sym e) k (omega arith) p)
 
   -- the sets to begin with
   pub first-low : (A : List ℕ) → FirstSets (compOf t i) A → Low (compOf t i) w A

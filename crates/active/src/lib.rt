@@ -2,11 +2,9 @@
 use answer::Model;
 use rows::Found;
 ghost use mathlib.Core.Path.{_≡_};
-ghost use mathlib.Core.Bool.{Bool, true, false};
-ghost use Prim.Native.Nat.{ℕ, _+_, _≤_, _<_};
+ghost use Prim.Native.Nat.{_≤_, _<_};
 ghost use lib.ListN.{length, getD};
-ghost use Rattle.laws.specs.Fold.{tab};
-ghost use Rattle.answer.specs.Limits.{maxClocks};
+ghost use Rattle.answer.specs.Limits.{maxStates, maxClocks};
 ghost use Rattle.iosa.specs.Model.{guardSet};
 ghost use Rattle.iosa.specs.Checks.{enablingOf, unstable, allowed};
 ghost use Rattle.iosa.specs.Greatest.{Greatest};
@@ -74,18 +72,14 @@ fn first_set(t: &[u64], i: usize, s: usize) -> u64
 }
 
 // The sets to begin with.
-fn first_sets(t: &[u64], i: usize) -> Sets
-    requires { ⌜ Image (now t) × (i < countOf (now t)) ⌝ }
-    ensures { λ r. ⌜ FirstSets (compOf (now (t .entry)) i) (r .sets) ⌝ }
+fn first_sets(t: &[u64], i: usize, act: &mut [u64; Model::STATES])
+    requires { ⌜ Image (now t) × (i < countOf (now t)) × (length (now act) ≡ maxStates) ⌝ }
+    ensures { λ _. ⌜ FirstSets (compOf (now (t .entry)) i) (now (act .exit)) ⌝ }
 {
     let states = layout::block_word(t, i, layout::STATES) as usize;
-    let mut all = Sets {
-        sets: [0; Model::STATES],
-    };
     for s in 0..states {
-        all.sets[s] = first_set(t, i, s);
+        act[s] = first_set(t, i, s);
     }
-    all
 }
 
 // Once by every row that leaves s: its target keeps what the row hands on. Whether a set became smaller.
@@ -101,10 +95,8 @@ fn narrow_state(t: &[u64], i: usize, s: usize, act: &mut [u64; Model::STATES]) -
         let kept = sets::minus(act[s], guard_set(layout::guard_at(t, k)));
         let old = act[to];
         let new = old & sets::union(kept, layout::resets_at(t, k));
-        if new != old {
-            act[to] = new;
-            less = true;
-        }
+        act[to] = new;
+        less = (new != old) | less;
     }
     less
 }
@@ -127,7 +119,10 @@ pub fn solve(t: &[u64], i: usize) -> Sets
     requires { ⌜ Image (now t) × (i < countOf (now t)) ⌝ }
     ensures { λ r. ⌜ Greatest (compOf (now (t .entry)) i) (λ s. getD (r .sets) s 0) ⌝ }
 {
-    let mut all = first_sets(t, i);
+    let mut all = Sets {
+        sets: [0; Model::STATES],
+    };
+    first_sets(t, i, &mut all.sets);
     while pass_once(t, i, &mut all.sets) {}
     all
 }

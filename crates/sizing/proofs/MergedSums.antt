@@ -34,13 +34,6 @@ use Rattle.sizing.specs.Bare.{bareOf}
 use Rattle.sizing.specs.Sized.{Sized}
 
 -- ---- the lines beside the rows
-pub head-merged : (t : List ℕ) (i j wide tall si sj outs uouts ii ins ui uins clocks n : ℕ) → wide ≡ blockWord t j 0 → tall ≡ blockWord t i 0 → si ≡ blockWord t i 1 → sj ≡ blockWord t j 1
-    → outs ≡ blockWord t i 3 ∪ blockWord t j 3 → uouts ≡ blockWord t i 5 ∪ blockWord t j 5 → ii ≡ blockWord t i 2 ∪ blockWord t j 2 → ins ≡ ii ∖ outs
-    → ui ≡ blockWord t i 4 ∪ blockWord t j 4 → uins ≡ ui ∖ uouts → clocks ≡ blockWord t i 6 ∪ blockWord t j 6
-    → n ≡ length (compText (bare (tall * wide) (si * wide + sj) ins outs uins uouts clocks)) → n ≡ length (compText (bareOf (merged (compOf t i) (compOf t j))))
-unfolding bareOf merged compOf
-head-merged t i j wide tall si sj outs uouts ii ins ui uins clocks n p0 p1 p2 p3 p4 p5 p6 p7 p8 p9 p10 e = e ∙ rw (p7, p9, p6, p8, p4, p5, p10, p2, p3, p1, p0)
-
 bare-few : (c : Comp) → length (compText (bareOf c)) ≤ headBytes
 unfolding bareOf
 bare-few c = bare-most (c .states) (c .start) (c .ins) (c .outs) (c .uins) (c .uouts) (c .clocks)

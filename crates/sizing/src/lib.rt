@@ -25,16 +25,8 @@ fn head_width(t: &[u64], i: usize, j: usize) -> usize
     requires { ⌜ Image (now t) × (i < countOf (now t)) × (j < countOf (now t)) ⌝ }
     ensures { λ r. ⌜ r ≡ length (compText (bareOf (merged (compOf (now (t .entry)) i) (compOf (now (t .entry)) j)))) ⌝ }
 {
-    let wide = layout::block_word(t, j, layout::STATES);
-    let states = layout::block_word(t, i, layout::STATES) * wide;
-    let start = layout::block_word(t, i, layout::START) * wide
-        + layout::block_word(t, j, layout::START);
-    let outs = merging::union_of(t, i, j, layout::OUTS);
-    let uouts = merging::union_of(t, i, j, layout::UOUTS);
-    let ins = sets::minus(merging::union_of(t, i, j, layout::INS), outs);
-    let uins = sets::minus(merging::union_of(t, i, j, layout::UINS), uouts);
-    let clocks = merging::union_of(t, i, j, layout::CLOCKS);
-    measure::head_width(states, start, ins, outs, uins, uouts, clocks)
+    let h = merging::head_of(t, i, j);
+    measure::head_width(h.states, h.start, h.ins, h.outs, h.uins, h.uouts, h.clocks)
 }
 
 // The bytes of the merged model beside the product's rows.

@@ -1,11 +1,9 @@
 -- `active::first_sets` meets its contract: the places passed hold what is allowed.
-use mathlib.Core.Path.{_≡_, refl, sym, ap, ap₂, _∙_}
-use Prim.Native.Nat.{ℕ, zero, suc, _+_, _-_, _≤_, _<_}
+use mathlib.Core.Path.{_≡_}
+use Prim.Native.Nat.{ℕ, _-_, _≤_, _<_}
 use native.Mathlib.Omega.{arith}
-use native.Mathlib.Numerals.{add-one}
-use lib.ListN.{length, getD, set}
+use lib.ListN.{length, getD, length-set}
 use denote.Ref.{now}
-use lib.ListN.{length-set}
 use Rattle.answer.specs.Limits.{maxStates}
 use Rattle.iosa.specs.Checks.{allowed}
 use Rattle.layout.specs.Image.{compOf}
@@ -15,16 +13,12 @@ use Rattle.active.proofs.Passes.{filled}
 use borrow.Author.Needs.{needs}
 use Rattle.active.proofs.first_sets.Statement.{statement}
 use Rattle.active.proofs.first_sets.Tie as tie
-use Rattle.active.proofs.first_sets.Reads as reads
-use Rattle.active.proofs.first_sets.Lts as lts
-use Rattle.active.proofs.first_set.Reads as first-set-reads
-use Rattle.layout.proofs.block_word.Reads as block-word-reads
 
 abbrev Inv-loop : tie.InvT-loop
-Inv-loop t i states all₀ s₀ all s = (s ≤ states) × (length (all .sets) ≡ maxStates) × ((j : ℕ) → j < s → getD (all .sets) j 0 ≡ allowed (compOf t i) j)
+Inv-loop t i act₀ states s₀ act s = (s ≤ states) × (length act ≡ maxStates) × ((j : ℕ) → j < s → getD act j 0 ≡ allowed (compOf t i) j)
 
 abbrev μ-loop : tie.MeasureT-loop
-μ-loop t i states all₀ s₀ all s = states - s
+μ-loop t i act₀ states s₀ act s = states - s
 
 block-word-requires : tie.Need-block-word-requires Inv-loop μ-loop
 block-word-requires c κs = let s0 = c .before in word-ready _ (s0 .pre .0) _ (s0 .pre .1) _ (omega arith)
@@ -35,11 +29,11 @@ loop-holds c = (search needs, search needs, λ j h. absurd (omega arith))
 first-set-requires : tie.Need-first-set-requires Inv-loop μ-loop
 first-set-requires c κs = let s0 = c .before .before .before .before in (s0 .pre .0, s0 .pre .1, omega (arith, c .before .before .block-word .ensures))
 
-mul-all : tie.Need-mul-all Inv-loop μ-loop
-mul-all c = let s0 = c .before .before .before .before .before in omega (arith, c .before .before .before .block-word .ensures, comp-ranges _ (s0 .pre .0) _ (s0 .pre .1) .states)
+element-write-act : tie.Need-element-write-act Inv-loop μ-loop
+element-write-act c = let s0 = c .before .before .before .before .before in omega (arith, c .before .before .before .block-word .ensures, comp-ranges _ (s0 .pre .0) _ (s0 .pre .1) .states)
 
-element-write-all : tie.Need-element-write-all Inv-loop μ-loop
-element-write-all c = let s0 = c .before .before .before .before .before in omega (arith, c .before .before .before .block-word .ensures, comp-ranges _ (s0 .pre .0) _ (s0 .pre .1) .states)
+mul-act : tie.Need-mul-act Inv-loop μ-loop
+mul-act c = omega (arith, element-write-act c)
 
 add-s : tie.Need-add-s Inv-loop μ-loop
 add-s c = search needs
@@ -53,8 +47,8 @@ loop-again c =
     let l = c .before .before .loop in (
       search needs,
       simp length-set (l .inv .1),
-      filled (allowed (compOf (now (s0 .args .t)) (s0 .args .i))) (l .all .sets) (l .s) _
-          (omega (arith, l .inv .1, c .before .before .before .block-word .ensures, comp-ranges _ (s0 .pre .0) _ (s0 .pre .1) .states)) (c .first-set .ensures) (l .inv .2),
+      filled (allowed (compOf (now (s0 .args .t)) (s0 .args .i))) (l .act) (l .s) _
+          (omega (arith, l .inv .1, element-write-act c)) (c .first-set .ensures) (l .inv .2),
     )
 
 returns : tie.Need-returns Inv-loop μ-loop
@@ -72,8 +66,8 @@ first-sets-spec =
     block-word-requires
     loop-holds
     first-set-requires
-    mul-all
-    element-write-all
+    mul-act
+    element-write-act
     add-s
     loop-less
     loop-again

@@ -1,8 +1,6 @@
 -- `active::solve` meets its contract: the sets stay above all that the rows allow, and end where no row breaks them.
-use mathlib.Core.Path.{_≡_, sym, _∙_}
-use native.Mathlib.Omega.{arith}
+use mathlib.Core.Path.{sym, _∙_}
 use Rattle.laws.specs.Fold.{sum}
-use Rattle.active.specs.Narrowing.{Fell}
 use Rattle.active.proofs.Passes.{Between, pass-low, pass-high, unchanged-greatest, first-low, first-high}
 use borrow.Author.Needs.{needs}
 use Rattle.active.proofs.solve.Statement.{statement}
@@ -19,7 +17,7 @@ first-sets-requires c κs = search needs
 
 loop-holds : tie.Need-loop-holds Inv-loop μ-loop
 loop-holds c =
-    let s0 = c .before .before in
+    let s0 = c .before .before .before in
     let f = c .first-sets .ensures in
     record { image = s0 .pre .0; inside = s0 .pre .1; low = first-low _ (s0 .pre .0) _ (s0 .pre .1) _ f; high = first-high _ (s0 .pre .0) _ (s0 .pre .1) _ f }
 

@@ -1,82 +1,26 @@
 -- `sizing::head_width`: the product's numbers and sets.
-use native.Mathlib.Omega.{arith}
-use Rattle.layout.proofs.ImageIsSane.{image-long, comp-ranges}
-use Rattle.product.proofs.WalkLaws.{pair-fits, target-fits}
-use Rattle.product.proofs.PairStep.{in-range}
-use Rattle.sizing.proofs.MergedSums.{head-merged}
+use mathlib.Core.Path.{_≡_, _∙_, ap}
+use lib.ListN.{length}
+use Rattle.iosa.specs.Text.{compText}
+use Rattle.measure.specs.Measure.{bare}
+use Rattle.merging.specs.declared.Head.{Head}
+use Rattle.merging.specs.Heads.{asHead}
+use Rattle.sizing.specs.Bare.{bareOf}
 use borrow.Author.Needs.{needs}
 use Rattle.sizing.proofs.head_width.Statement.{statement}
 use Rattle.sizing.proofs.head_width.Tie as tie
 
-block-word-requires : tie.Need-block-word-requires
-block-word-requires c κs = let s = c .before in (image-long _ (s .pre .0), in-range _ (s .pre .0) _ (s .pre .2), omega arith)
-
-block-word-requires-2 : tie.Need-block-word-requires-2
-block-word-requires-2 c κs = let s = c .before .before in (image-long _ (s .pre .0), in-range _ (s .pre .0) _ (s .pre .1), omega arith)
-
-mul-states : tie.Need-mul-states
-mul-states c = let s = c .before .before .before in pair-fits _ _ 0 (omega (arith, c .block-word2 .ensures, comp-ranges _ (s .pre .0) (s .args .i) (s .pre .1) .states)) (omega (arith, c .before .block-word .ensures, comp-ranges _ (s .pre .0) (s .args .j) (s .pre .2) .states)) (omega arith)
-
-block-word-requires-3 : tie.Need-block-word-requires-3
-block-word-requires-3 c κs = let s = c .before .before .before in (image-long _ (s .pre .0), in-range _ (s .pre .0) _ (s .pre .1), omega arith)
-
-mul-start : tie.Need-mul-start
-mul-start c = let s = c .before .before .before .before in pair-fits _ _ 0 (omega (arith, c .block-word3 .ensures, comp-ranges _ (s .pre .0) (s .args .i) (s .pre .1) .start, comp-ranges _ (s .pre .0) (s .args .i) (s .pre .1) .states)) (omega (arith, c .before .before .block-word .ensures, comp-ranges _ (s .pre .0) (s .args .j) (s .pre .2) .states)) (omega arith)
-
-block-word-requires-4 : tie.Need-block-word-requires-4
-block-word-requires-4 c κs = let s = c .before .before .before .before in (image-long _ (s .pre .0), in-range _ (s .pre .0) _ (s .pre .2), omega arith)
-
-add-start : tie.Need-add-start
-add-start c =
-    let s = c .before .before .before .before .before in
-    target-fits _ _ _ (omega (arith, c .before .block-word3 .ensures, comp-ranges _ (s .pre .0) (s .args .i) (s .pre .1) .start, comp-ranges _ (s .pre .0) (s .args .i) (s .pre .1) .states)) (omega (arith, c .before .before .before .block-word .ensures, comp-ranges _ (s .pre .0) (s .args .j) (s .pre .2) .states)) (omega (arith, c .block-word4 .ensures, comp-ranges _ (s .pre .0) (s .args .j) (s .pre .2) .start, comp-ranges _ (s .pre .0) (s .args .j) (s .pre .2) .states))
-
-union-of-requires : tie.Need-union-of-requires
-union-of-requires c κs = let s = c .before .before .before .before .before in (image-long _ (s .pre .0), in-range _ (s .pre .0) _ (s .pre .1), in-range _ (s .pre .0) _ (s .pre .2), omega arith)
-
-union-of-requires-2 : tie.Need-union-of-requires-2
-union-of-requires-2 c κs = let s = c .before .before .before .before .before .before in (image-long _ (s .pre .0), in-range _ (s .pre .0) _ (s .pre .1), in-range _ (s .pre .0) _ (s .pre .2), omega arith)
-
-union-of-requires-3 : tie.Need-union-of-requires-3
-union-of-requires-3 c κs = let s = c .before .before .before .before .before .before .before in (image-long _ (s .pre .0), in-range _ (s .pre .0) _ (s .pre .1), in-range _ (s .pre .0) _ (s .pre .2), omega arith)
-
-minus-requires : tie.Need-minus-requires
-minus-requires c κs = search needs
-
-union-of-requires-4 : tie.Need-union-of-requires-4
-union-of-requires-4 c κs = let s = c .before .before .before .before .before .before .before .before .before in (image-long _ (s .pre .0), in-range _ (s .pre .0) _ (s .pre .1), in-range _ (s .pre .0) _ (s .pre .2), omega arith)
-
-minus-requires-2 : tie.Need-minus-requires-2
-minus-requires-2 c κs = search needs
-
-union-of-requires-5 : tie.Need-union-of-requires-5
-union-of-requires-5 c κs = let s = c .before .before .before .before .before .before .before .before .before .before .before in (image-long _ (s .pre .0), in-range _ (s .pre .0) _ (s .pre .1), in-range _ (s .pre .0) _ (s .pre .2), omega arith)
+head-of-requires : tie.Need-head-of-requires
+head-of-requires c κs = search needs
 
 head-width-requires : tie.Need-head-width-requires
 head-width-requires c κs = search needs
 
 returns : tie.Need-returns
+unfolding bareOf asHead
 returns c =
-    let s = c .before .before .before .before .before .before .before .before .before .before .before .before .before in
-    head-merged (s .args .t .now) (s .args .i) (s .args .j) _ _ _ _ _ _ _ _ _ _ _ _ (c .before .before .before .before .before .before .before .before .before .before .before .block-word .ensures) (c .before .before .before .before .before .before .before .before .before .before .block-word2 .ensures) (c .before .before .before .before .before .before .before .before .before .block-word3 .ensures) (c .before .before .before .before .before .before .before .before .block-word4 .ensures) (c .before .before .before .before .before .before .before .union-of .ensures) (c .before .before .before .before .before .before .union-of2 .ensures) (c .before .before .before .before .before .union-of3 .ensures) (c .before .before .before .before .minus .ensures) (c .before .before .before .union-of4 .ensures) (c .before .before .minus2 .ensures) (c .before .union-of5 .ensures) (c .head-width .ensures)
+    c .head-width .ensures
+    ∙ ap (λ (h : Head). length (compText (bare (h .states) (h .start) (h .ins) (h .outs) (h .uins) (h .uouts) (h .clocks)))) (c .before .head-of .ensures)
 
 pub head-width-spec : {M : Type 1} → statement M
-head-width-spec =
-    tie.close
-    (tie.spec
-    block-word-requires
-    block-word-requires-2
-    mul-states
-    block-word-requires-3
-    mul-start
-    block-word-requires-4
-    add-start
-    union-of-requires
-    union-of-requires-2
-    union-of-requires-3
-    minus-requires
-    union-of-requires-4
-    minus-requires-2
-    union-of-requires-5
-    head-width-requires
-    returns)
+head-width-spec = tie.close (tie.spec head-of-requires head-width-requires returns)
