@@ -217,7 +217,8 @@ int main(int count, char** arguments) {
   head("The timed step");
   lines(timing, timed_step);
 
-  const std::vector<Subject> merging = {paper_model(), to_merge(8, 1), to_merge(8, 2), to_merge(8, 4), to_merge(8, 8), to_merge(4, 8)};
+  const std::vector<Subject> merging = {paper_model(),  to_merge(8, 0), to_merge(8, 1), to_merge(8, 2),
+                                        to_merge(8, 4), to_merge(8, 8), to_merge(4, 8)};
   head("Merging components 0 and 1: M, then 64 pairs of states with more and more rows, then 16 pairs");
   lines(merging, merge);
 
