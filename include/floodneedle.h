@@ -22,7 +22,7 @@ extern "C" {
 #endif
 
 /* Sizes: words of a table, bytes of the longest text, bytes of a state, the largest budget, which is also the longest list or trace, the
- * number of clock values, and bytes of the longest report. */
+ * number of clock values, and bytes into which every report fits. */
 #define FLOODNEEDLE_TABLE 5265
 #define FLOODNEEDLE_TEXT 32768
 #define FLOODNEEDLE_STATE 16
