@@ -22,7 +22,7 @@ setWord OfKind.Out = 3
 setWord OfKind.Uin = 4
 setWord OfKind.Uout = 5
 
--- "started (0 or 1)": the clock joins the second set only where it is set at the start
+-- "1 if set at the start, else 0": only then does the clock join the second set
 abbrev pub Begins : Bool → List ℕ → ℕ → ℕ → List ℕ → Type 0
 Begins true mid at x t′ = Joined mid at x t′
 Begins false mid at x t′ = t′ ≡ mid

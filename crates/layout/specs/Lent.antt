@@ -7,7 +7,7 @@ use Rattle.iosa.specs.Model.{Model}
 use Rattle.layout.specs.Layout.{imageWords}
 use Rattle.layout.specs.Image.{imageOf}
 
--- "64-bit words"
+-- a word of the table has 64 bits (docs/TABLE.md)
 abbrev pub wordBytes : ℕ
 wordBytes = 8
 
