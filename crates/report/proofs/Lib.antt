@@ -6,3 +6,4 @@ pub mod Within
 pub mod RequestExact
 pub mod Front
 pub mod NoReportIsLonger
+pub mod LongestReport
