@@ -18,6 +18,7 @@ use Rattle.answer.specs.State.{numbersFrom, partsOf}
 use Rattle.answer.proofs.StateLaws.{parts-front, parts-length}
 use Rattle.iosa.specs.Model.{Comp, Model}
 use Rattle.iosa.specs.Step.{inRange}
+use Rattle.iosa.proofs.Settling.Range.{range-length, wrong-length}
 use Rattle.request.specs.Kept.{byteOf, with, withAll, held}
 
 -- ---- one number more
@@ -96,20 +97,6 @@ bytes-same (c ∷ cs) f (n ∷ ns) e =
     let p = and-true (ltb n (c .states)) (inRange cs ns) e in
     ap₂ _∷_ (byte-same n (c .states) (f .0) (p .0)) (bytes-same cs (f .1) ns (p .1))
 
-in-range-length : (m : Model) (ns : List ℕ) → inRange m ns ≡ true → length ns ≡ length m
-unfolding inRange
-in-range-length [] [] e = refl
-in-range-length [] (n ∷ ns) e = absurd (let z : _≡_ {A = ℕ} 0 1 = cc in omega arith)
-in-range-length (c ∷ cs) [] e = absurd (let z : _≡_ {A = ℕ} 0 1 = cc in omega arith)
-in-range-length (c ∷ cs) (n ∷ ns) e = ap suc (in-range-length cs ns (and-true (ltb n (c .states)) (inRange cs ns) e .1))
-
-wrong-length : (m : Model) (ns : List ℕ) → (length ns ≡ length m → ⊥) → inRange m ns ≡ false
-wrong-length m ns h = go (inRange m ns) refl
-  where
-    go : (b : Bool) → inRange m ns ≡ b → b ≡ false
-    go true e = absurd (h (in-range-length m ns e))
-    go false e = refl
-
 module _ (m : Model) (few : Few m) (size : length m ≤ maxComponents) (ns : List ℕ) where
   pub held-in-range : inRange m (partsOf (held ns)) ≡ inRange m ns
   held-in-range = by-cases (decLt maxComponents (length ns))
@@ -117,4 +104,4 @@ module _ (m : Model) (few : Few m) (size : length m ≤ maxComponents) (ns : Lis
       (λ h. ap (inRange m) (held-few ns (omega arith)) ∙ range-bytes m few ns)
 
   pub held-same : inRange m ns ≡ true → partsOf (held ns) ≡ ns
-  held-same e = held-few ns (omega (arith, in-range-length m ns e)) ∙ bytes-same m few ns e
+  held-same e = held-few ns (omega (arith, range-length m ns e)) ∙ bytes-same m few ns e

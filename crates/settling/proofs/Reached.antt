@@ -8,11 +8,11 @@ use Rattle.answer.specs.Limits.{maxComponents}
 use Rattle.answer.specs.declared.State.{State}
 use Rattle.answer.specs.State.{partsOf, withParts}
 use Rattle.answer.proofs.StateLaws.{parts-length, with-parts, with-parts-again, with-own-parts}
+use Rattle.iosa.proofs.Settling.Parts.{within-length}
 use Rattle.layout.specs.Image.{modelOf}
 use Rattle.layout.proofs.RowsOfRange.{well-formed}
 use Rattle.moves.specs.Moves.{afterAll}
 use Rattle.moves.specs.Standing.{Standing}
-use Rattle.moves.proofs.StepsByOffers.{within-length}
 use Rattle.moves.proofs.Ready.{count-few, count-model}
 use Rattle.moves.proofs.KeepsRange.{all-keep}
 use Rattle.settling.specs.Gives.{Ready}

@@ -6,6 +6,7 @@ use mathlib.Core.List.{List, [], _∷_}
 use Prim.Native.Nat.{ℕ, _<_}
 use Rattle.laws.specs.Sets.{has, _∈_}
 use Rattle.laws.proofs.SetLaws.{or-in-r, in-or, or-cases, in-below}
+use Rattle.laws.proofs.TestLaws.{or-true}
 use Rattle.answer.specs.Limits.{maxActions}
 use Rattle.iosa.specs.Model.{Comp, Model, inputs, outputs, urgents, acts}
 use Rattle.iosa.specs.WellFormed.{WellComp}
@@ -27,10 +28,6 @@ unfolding isUout
 any-uout [] a u = absurd u
 any-uout (c ∷ cs) a (inl h) = rw h
 any-uout (c ∷ cs) a (inr h) = rw (any-uout cs a h) (or-true (has (c .uouts) a))
-  where
-    or-true : (b : Bool) → (b || true) ≡ true
-    or-true true = refl
-    or-true false = refl
 
 any-so : {X : Type 0} (m : Model) → Any (λ c. X) m → X
 any-so [] u = absurd u
