@@ -5,3 +5,4 @@ pub mod AfterRead
 pub mod Within
 pub mod RequestExact
 pub mod Front
+pub mod LongestReport

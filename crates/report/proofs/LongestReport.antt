@@ -1,0 +1,150 @@
+-- The longest report is reached: an input for which the program prints as many bytes as the limits allow.
+use mathlib.Core.Path.{_≡_, refl, _∙_, ap}
+use mathlib.Core.Bool.{false}
+use mathlib.Core.Option.{none, some}
+use mathlib.Core.List.{List, [], _∷_, _++_}
+use Prim.Native.Nat.{ℕ, zero, suc, _+_, _*_, _-_, _^_}
+use native.Mathlib.Omega.{arith}
+use lib.Bits.{or-self, or-zero-r}
+use lib.ListN.{length, replicate, length-append}
+use Rattle.laws.specs.Sets.{_∪_, only}
+use Rattle.laws.specs.Fold as Fold
+use Rattle.answer.specs.Limits.{maxComponents, maxClocks, maxBudget}
+use Rattle.answer.specs.Told.{answered}
+use Rattle.iosa.specs.Model.{Comp, Model}
+use Rattle.iosa.specs.Text.{tab, decimal, textOf}
+use Rattle.iosa.specs.Checks.{confluentOf}
+use Rattle.iosa.specs.Reading.{got, readOf}
+use Rattle.iosa.specs.Step.{Went, urgentStep, lowest, stateFault}
+use Rattle.iosa.specs.Settle.{Settling, settle, budgetFault, traceFault, settleOf}
+use Rattle.iosa.specs.Report.{Request, requestText, stepLine, stepLines, lastLine, answerLines, requestOf, reportOf}
+use Rattle.iosa.specs.Examples.{reply}
+use Rattle.iosa.proofs.Settling.Rule.{lowest-some}
+use Rattle.tell.specs.Tell.{tailOf}
+use Rattle.tell.proofs.TellLaws.{step-parts}
+use Rattle.report.proofs.ReportLaws.{report-model}
+
+-- ---- the input: sixteen components in state 10, where action 10 resets all 64 clocks and leads back, and the largest budget
+abbrev allClocks : ℕ
+allClocks = 2 ^ maxClocks - 1
+
+unfoldable pub loud : Comp
+loud =
+    record {
+      states = 11;
+      start = 0;
+      ins = 0;
+      outs = 0;
+      uins = 0;
+      uouts = only 10;
+      clocks = allClocks;
+      started = 0;
+      rows = record { from = 10; guard = 0; action = 10; resets = allClocks; target = 10 } ∷ [];
+    }
+
+unfoldable pub still : Comp
+still = record { states = 11; start = 0; ins = 0; outs = 0; uins = 0; uouts = 0; clocks = 0; started = 0; rows = [] }
+
+unfoldable pub longestModel : Model
+longestModel = loud ∷ replicate (maxComponents - 1) still
+
+abbrev pub tens : List ℕ
+tens = replicate maxComponents 10
+
+abbrev pub longestRequest : Request
+longestRequest = record { state = tens; budget = maxBudget }
+
+unfoldable pub longestInput : List ℕ
+longestInput = requestText longestRequest ++ textOf longestModel
+
+-- ---- of any model: a step that leads back, taken again and again
+-- the bytes of the numbers k, k + 1, .., of n places
+unfoldable countBytes : ℕ → ℕ → ℕ
+countBytes k n = Fold.sum (Fold.tab (λ j. length (decimal j)) k n)
+
+module _ (m : Model) (s : List ℕ) (a r : ℕ) where
+  abbrev back : Went (List ℕ)
+  back = record { action = a; gone = record { resets = r; after = s } }
+
+  abbrev resetsIn : ℕ → ℕ
+  resetsIn zero = 0
+  resetsIn (suc n) = r
+
+  abbrev looped : ℕ → Settling (List ℕ)
+  looped n = record { stable = false; steps = n; resets = resetsIn n; trace = replicate n a; state = s }
+
+  -- what a step line has beside its count
+  abbrev beside : ℕ
+  beside = 6 + length (decimal a) + length (tailOf r s)
+
+  resets-again : (n : ℕ) → r ∪ resetsIn n ≡ r
+  resets-again zero = or-zero-r r
+  resets-again (suc n) = or-self r
+
+  module _ (e : lowest (urgentStep m) s ≡ some back) where
+    settle-loops : (n : ℕ) → settle (urgentStep m) n s ≡ looped n
+    unfolding settle
+    settle-loops zero = rw (e, settle)
+    settle-loops (suc n) = rw (e, settle) (rw (settle-loops n, resets-again n))
+
+    lines-length : (k n : ℕ) → length (stepLines m k s (replicate n a)) ≡ countBytes k n + beside * n
+    unfolding stepLines countBytes
+    lines-length k zero = omega arith
+    lines-length k (suc n) =
+        rw (lowest-some (urgentStep m) s back e .0, stepLines) (omega (
+          arith,
+          length-append (stepLine k a (back .gone)) (stepLines m (suc k) s (replicate n a)),
+          ap length (step-parts k a (back .gone)),
+          length-append (decimal k) ((tab ∷ decimal a) ++ tailOf r s),
+          length-append (decimal a) (tailOf r s),
+          lines-length (suc k) n,
+        ))
+
+    report-length : (n : ℕ) → settleOf m s n n ≡ answered (settle (urgentStep m) n s) → length (answerLines m s (settleOf m s n n)) ≡ countBytes 1 n + beside * n + length (lastLine (looped n))
+    unfolding answerLines
+    report-length n f =
+        rw (f, settle-loops n) (length-append (stepLines m 1 s (replicate n a)) (lastLine (looped n)) ∙ rw (lines-length 1 n))
+
+-- ---- what antt computes of the input
+requested : requestOf longestInput ≡ got longestRequest (textOf longestModel)
+unfolding reply requestText longestInput longestModel loud still
+requested = refl
+
+read : readOf (textOf longestModel) ≡ answered longestModel
+unfolding reply longestModel loud still
+read = refl
+
+confluent : confluentOf longestModel ≡ none
+unfolding reply longestModel loud still
+confluent = refl
+
+in-range : stateFault longestModel tens ≡ none
+unfolding reply longestModel loud still
+in-range = refl
+
+leads-back : lowest (urgentStep longestModel) tens ≡ some (back longestModel tens 10 allClocks)
+unfolding reply longestModel loud still
+leads-back = refl
+
+-- 9 counts of one digit, 90 of two, 900 of three and 3,097 of four
+counts : countBytes 1 maxBudget ≡ 15277
+unfolding reply countBytes
+counts = refl
+
+line : beside longestModel tens 10 allClocks ≡ 239
+unfolding reply tailOf
+line = refl
+
+last : length (lastLine (looped longestModel tens 10 allClocks maxBudget)) ≡ 245
+unfolding reply
+last = refl
+
+-- ---- the report
+answers : settleOf longestModel tens maxBudget maxBudget ≡ answered (settle (urgentStep longestModel) maxBudget tens)
+unfolding settleOf budgetFault traceFault
+answers = rw (confluent, in-range, settleOf)
+
+pub longest-reached : length (reportOf longestInput) ≡ 994466
+longest-reached =
+    ap length (report-model longestInput (textOf longestModel) longestRequest requested longestModel read)
+    ∙ report-length longestModel tens 10 allClocks leads-back maxBudget answers ∙ rw (counts, line, last)
