@@ -18,12 +18,12 @@ use Rattle.layout.specs.Layout.{countOf, blockWord, firstOf, guardAt, resetsAt,
 use Rattle.layout.specs.Image.{Image, compOf, rowIn}
 use Rattle.layout.specs.Ranges.{RowRanges}
 use Rattle.layout.proofs.Bridge.{clock-row}
-use Rattle.layout.proofs.ImageIsSane.{row-ranges}
+use Rattle.layout.proofs.ImageIsSane.{row-ranges, comp-ranges}
 use Rattle.rows.specs.Ranges.{foundOf, byGuard}
 use Rattle.rows.specs.declared.Found.{Found}
 use Rattle.rows.specs.declared.Found.the-variants.{At, Nothing}
 use Rattle.rows.proofs.FoundLaws.{at-some, nothing-none}
-use Rattle.moves.specs.Moves.{orStays, movedOne}
+use Rattle.moves.specs.Moves.{orStays, movedOne, RowFound, goneFound}
 use Rattle.firing.specs.Fired.{byClock, guardedOne, firedOne}
 
 -- the range as the code reads it
@@ -61,7 +61,7 @@ module _ (t : List ℕ) (im : Image t) (i s x : ℕ) (h : i < countOf t) (b : s 
       pub guard-row : clockRow (compOf t i) s x ≡ some (rowIn t s k)
       guard-row = row-is ∙ ap (mapSome (rowIn t s)) found
 
-      pub guard-move : guardedOne x (compOf t i) s ≡ record { resets = resetsAt t k; after = targetAt t k }
+      guard-move : guardedOne x (compOf t i) s ≡ record { resets = resetsAt t k; after = targetAt t k }
       unfolding guardedOne
       guard-move = ap (λ o. orStays s (goneBy o)) guard-row
 
@@ -69,9 +69,20 @@ module _ (t : List ℕ) (im : Image t) (i s x : ℕ) (h : i < countOf t) (b : s 
     pub no-guard-row : f ≡ Nothing → clockRow (compOf t i) s x ≡ none
     no-guard-row n = row-is ∙ ap (mapSome (rowIn t s)) (nothing-none (byClock t i s x) (sym e ∙ n))
 
-    pub no-guard-move : f ≡ Nothing → guardedOne x (compOf t i) s ≡ record { resets = 0; after = s }
+    no-guard-move : f ≡ Nothing → guardedOne x (compOf t i) s ≡ record { resets = 0; after = s }
     unfolding guardedOne
     no-guard-move n = ap (λ o. orStays s (goneBy o)) (no-guard-row n)
+
+    -- ---- either way
+    pub guard-found : RowFound t f
+    guard-found = record { place = λ k at. guard-ranges k at .place; target = λ k at. omega (arith, guard-ranges k at .target, comp-ranges t im i h .states) }
+
+    pub guarded-by : guardedOne x (compOf t i) s ≡ goneFound t s f
+    guarded-by = go f refl
+      where
+        go : (g : Found) → f ≡ g → guardedOne x (compOf t i) s ≡ goneFound t s g
+        go (At k) at = guard-move k at
+        go Nothing n = no-guard-move n
 
 -- ---- the owner of the clock, and another
 pub owner-fires : (c : Comp) (s x a : ℕ) → has (c .clocks) x ≡ true → firedOne x a c s ≡ guardedOne x c s

@@ -69,16 +69,7 @@ pub fn guarded_move(t: &[u64], i: usize, s: u8, c: u64) -> Move
     ensures { λ r. ⌜ GoneTo (guardedOne c (compOf (now (t .entry)) i) s) r ⌝ }
 {
     let f = clock_row(t, i, s, c);
-    match f {
-        Found::At(k) => Move {
-            resets: layout::resets_at(t, k),
-            target: layout::target_at(t, k) as u8,
-        },
-        Found::Nothing => Move {
-            resets: 0,
-            target: s,
-        },
-    }
+    moves::move_by(t, f, s)
 }
 
 // One component when a clock fires: its owner by that clock's row, another by the row's action.

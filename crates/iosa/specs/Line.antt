@@ -17,6 +17,11 @@ abbrev pub AllFit : List ℕ → Type 0
 AllFit [] = Unit {0}
 AllFit (n ∷ ns) = Fits n × AllFit ns
 
+-- numbers joined by commas: one at least
+abbrev pub ListFits : List ℕ → Type 0
+ListFits [] = ⊥
+ListFits (n ∷ ns) = AllFit (n ∷ ns)
+
 abbrev pub GuardFits : Option ℕ → Type 0
 GuardFits none = Unit {0}
 GuardFits (some x) = Fits x

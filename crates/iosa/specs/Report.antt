@@ -11,6 +11,7 @@ use Rattle.answer.specs.Told.{Told, tell, Answer, answered, refused}
 use Rattle.iosa.specs.Model.{Model}
 use Rattle.iosa.specs.Text.{tab, lf, decimal, joined, setField, fieldsAfter}
 use Rattle.iosa.specs.Reading.{Got, got, then, exactly, theByte, number, numbers, field, readOf}
+use Rattle.iosa.specs.Line.{Fits, ListFits}
 use Rattle.iosa.specs.Step.{Gone, urgentStep}
 use Rattle.iosa.specs.Settle.{Settling, settleOf}
 
@@ -30,6 +31,14 @@ requestLine bs =
     then (field number ds) (λ n es.
     then (theByte lf es) (λ _ fs.
     got (record { state = s; budget = n }) fs))))
+
+-- a request as it is printed, with its LF
+unfoldable pub requestText : Request → List ℕ
+requestText q = fromWord ++ fieldsAfter (joined (q .state) ∷ decimal (q .budget) ∷ [])
+
+-- each of its numbers has 1 to 5 digits
+abbrev pub RequestFits : Request → Type 0
+RequestFits q = ListFits (q .state) × Fits (q .budget)
 
 -- 9 "request line of the program of wrong shape, or over 256 bytes with its LF"
 abbrev pub shortEnough : List ℕ → Option (Got Request) → Option (Got Request)

@@ -14,10 +14,10 @@ use Rattle.laws.proofs.SearchLaws.{no-some}
 use Rattle.answer.specs.Limits.{maxRequest, maxBytes}
 use Rattle.answer.specs.Told.{tell}
 use Rattle.iosa.specs.Reading.{Got, got}
-use Rattle.iosa.specs.Report.{Request, requestLine, shortEnough, requestOf, refusedLine, reportOf}
+use Rattle.iosa.specs.Report.{Request, requestLine, requestText, RequestFits, shortEnough, requestOf, refusedLine, reportOf}
 use Rattle.iosa.proofs.Reading.Faults.{too-long-exactly}
 use Rattle.report.proofs.ReportLaws.{report-9, report-text}
-use Rattle.report.proofs.RequestExact.{requestText, RequestFits, request-exact}
+use Rattle.report.proofs.RequestExact.{request-exact}
 
 -- a request line before any bytes
 request-before : (q : Request) → RequestFits q → (bs : List ℕ) → requestOf (requestText q ++ bs) ≡ cond (ltb maxRequest (length (requestText q))) none (got q bs)

@@ -17,13 +17,12 @@ use Rattle.iosa.specs.Checks.{confluentOf}
 use Rattle.iosa.specs.Reading.{got, readOf}
 use Rattle.iosa.specs.Step.{Went, urgentStep, lowest, stateFault}
 use Rattle.iosa.specs.Settle.{Settling, settle, budgetFault, traceFault, settleOf}
-use Rattle.iosa.specs.Report.{Request, stepLine, stepLines, lastLine, answerLines, requestOf, reportOf}
+use Rattle.iosa.specs.Report.{Request, requestText, stepLine, stepLines, lastLine, answerLines, requestOf, reportOf}
 use Rattle.iosa.specs.Examples.{reply}
 use Rattle.iosa.proofs.Settling.Rule.{lowest-some}
 use Rattle.tell.specs.Tell.{tailOf}
 use Rattle.tell.proofs.TellLaws.{step-parts}
 use Rattle.report.proofs.ReportLaws.{report-model}
-use Rattle.report.proofs.RequestExact.{requestText}
 
 -- ---- the input: sixteen components in state 10, where action 10 resets all 64 clocks and leads back, and the largest budget
 abbrev allClocks : ℕ

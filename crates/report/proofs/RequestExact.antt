@@ -5,16 +5,10 @@ use mathlib.Core.List.{List, [], _∷_, _++_, append-assoc}
 use Prim.Native.Nat.{ℕ}
 use Rattle.iosa.specs.Text.{tab, lf, decimal, joined, fieldsAfter}
 use Rattle.iosa.specs.Reading.{Got, got, then, exactly, theByte, number, numbers, field}
-use Rattle.iosa.specs.Line.{Fits, Ends, Any, Exact}
-use Rattle.iosa.specs.Report.{Request, fromWord, requestLine}
+use Rattle.iosa.specs.Line.{Fits, ListFits, Any, Exact}
+use Rattle.iosa.specs.Report.{Request, fromWord, requestLine, requestText, RequestFits}
 use Rattle.iosa.proofs.Reading.Lines.{field-printed, field-scanned, field-before}
-use Rattle.iosa.proofs.Reading.Fields.{then-some, exactly-scanned, number-exact, numbers-exact, ListFits}
-
-unfoldable pub requestText : Request → List ℕ
-requestText q = fromWord ++ fieldsAfter (joined (q .state) ∷ decimal (q .budget) ∷ [])
-
-abbrev pub RequestFits : Request → Type 0
-RequestFits q = ListFits (q .state) × Fits (q .budget)
+use Rattle.iosa.proofs.Reading.Fields.{then-some, exactly-scanned, number-exact, numbers-exact}
 
 printed : (q : Request) (bs : List ℕ) → RequestFits q → requestLine (requestText q ++ bs) ≡ got q bs
 unfolding requestLine requestText fieldsAfter exactly

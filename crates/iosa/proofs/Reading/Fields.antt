@@ -14,7 +14,7 @@ use Rattle.laws.proofs.SearchLaws.{no-some}
 use Rattle.answer.specs.Limits.{maxDigits}
 use Rattle.iosa.specs.Text.{byte0, comma, dash, Kind, in-kind, out-kind, uin-kind, uout-kind, kindWord, decimal, joined, guardField}
 use Rattle.iosa.specs.Reading.{Got, got, then, exactly, theByte, number, moreNumbers, numbers, guardOrDash, numbersOrDash, kind, guardOf}
-use Rattle.iosa.specs.Line.{Fits, AllFit, GuardFits, listField, Ends, Any, Exact}
+use Rattle.iosa.specs.Line.{Fits, AllFit, ListFits, GuardFits, listField, Ends, Any, Exact}
 use Rattle.iosa.proofs.Reading.Number.{NoDigit, digits-of, number-printed, number-scanned}
 
 -- ---- scans one after the other
@@ -179,10 +179,6 @@ further-scanned (suc k) (b ∷ bs) g e = go (λ h. list-scanned k (further-scann
         let t = then-some (number bs) (λ n cs. then (moreNumbers k cs) (λ ns ds. got (n ∷ ns) ds)) e in
         let r = ih (t .0) (t .1) (t .2) in
         rw (r .value) (ap₂ {C = List ℕ} (λ n l. n ∷ l) (eqb-true b comma q) (r .front), r .fit)
-
-abbrev pub ListFits : List ℕ → Type 0
-ListFits [] = ⊥
-ListFits (n ∷ ns) = AllFit (n ∷ ns)
 
 further-long : (ns bs : List ℕ) → length ns ≤ length (further ns ++ bs)
 further-long [] bs = omega arith
