@@ -184,7 +184,7 @@ void try_sequence(Random& random, const std::string& text) {
   try_text(written, Table(second::image_words));
 }
 
-// Reports are lent a buffer of 2 MB, which takes its time: one for every fourth model.
+// Reports are lent a buffer of a megabyte, which takes its time: one for every fourth model.
 void try_report(Random& random, const Model& model, const std::string& text) {
   const Bytes state = random.chance(80) ? second::generate_state(random, model) : second::generate_odd_state(random, model);
   const std::uint64_t budget = second::generate_odd_budget(random);

@@ -1,5 +1,5 @@
 // Where the proved engine is slowest beside the second program: every input of some generated models is timed, and the worst ratios of each call are
-// told with their outcome. This file stands in for tally.cpp, so the inputs are the comparison's own; but reports are left out, since lending 2 MB
+// told with their outcome. This file stands in for tally.cpp, so the inputs are the comparison's own; but reports are left out, since lending a megabyte
 // each time disturbs what is timed.
 // usage: slowest MODELS
 #include <chrono>

@@ -22,13 +22,13 @@ extern "C" {
 #endif
 
 /* Sizes: words of a table, bytes of the longest text, bytes of a state, the largest budget, which is also the longest list or trace, the
- * number of clock values, and bytes into which every report fits. */
+ * number of clock values, and bytes of the longest report there can be. */
 #define FLOODNEEDLE_TABLE 5265
 #define FLOODNEEDLE_TEXT 32768
 #define FLOODNEEDLE_STATE 16
 #define FLOODNEEDLE_BUDGET 4096
 #define FLOODNEEDLE_CLOCKS 64
-#define FLOODNEEDLE_REPORT 2097664
+#define FLOODNEEDLE_REPORT 994466
 
 enum floodneedle_kind {
   FLOODNEEDLE_REFUSED = 0,

@@ -22,6 +22,31 @@ std::string printed(const second::Refusal& refusal) {
   return line + "\n";
 }
 
+// The numbers from..to, joined by commas.
+std::string range(unsigned from, unsigned to) {
+  std::string line = std::to_string(from);
+  for (unsigned n = from + 1; n <= to; ++n) line += "," + std::to_string(n);
+  return line;
+}
+
+// 4,096 steps, each of which resets all 64 clocks, of 16 components in states of two digits: it fills the shortest buffer that is not refused.
+void longest_report() {
+  const std::string all = range(0, 63), states = "10" + repeated(",10", 15);
+  Text model = tabbed("comp 11 0\nact 10 uout\n");
+  for (unsigned x = 0; x < 64; ++x) model += tabbed("clk " + std::to_string(x) + " 0\n");
+  model += tabbed("row 10 - 10 " + all + " 10\n") + repeated(tabbed("comp 11 0\n"), 15);
+  const std::string tail = " " + all + " " + states + "\n";
+  std::string report;
+  for (unsigned n = 1; n <= 4096; ++n) report += tabbed("step " + std::to_string(n) + " 10" + tail);
+  report += tabbed("unsettled 4096" + tail);
+  Loan loan;
+  loan.bytes = bytes_of(tabbed("from " + states + " 4096\n") + model);
+  loan.out = Bytes(FLOODNEEDLE_REPORT, 0x77);
+  Loan left = loan;
+  left.out = bytes_of(report);
+  expect("the longest report", calls::report, loan, done(FLOODNEEDLE_REPORT), left);
+}
+
 // Behind a request that is 21 and 22 at its turn: lines count from the model's first, and all that reading and the checks refuse comes first.
 void behind_the_request() {
   const Text request = tabbed("from 64 4097\n");
@@ -57,12 +82,13 @@ void stated_requests() {
   expect_report(request + m, "refused\t21\t0\n");
   behind_the_request();
 
-  // The longest there is: 4,096 steps.
+  // The largest budget, and one more.
   const Text loop = tabbed("comp 1 0\nact 0 uout\nrow 0 - 0 - 0\n");
   std::string steps;
   for (unsigned n = 1; n <= 4096; ++n) steps += tabbed("step " + std::to_string(n) + " 0 - 0\n");
   expect_report(tabbed("from 0 4096\n") + loop, steps + tabbed("unsettled 4096 - 0\n"));
   expect_report(tabbed("from 0 4097\n") + loop, "refused\t22\t0\n");
+  longest_report();
 
   // 24 whatever the input: the need is one for all.
   for (const Text& input : {Text(), tabbed("from 1,0 100\n") + m, Text("x")})

@@ -14,7 +14,7 @@ use borrow.Author.Tests.{ltb-true, ltb-false, lt-ltb, le-ltb}
 use Rattle.laws.specs.Sets.{has}
 use Rattle.laws.specs.Fold.{tab, sum}
 use Rattle.laws.proofs.SetLaws.{bit-ones, bit-above, has-and, has-ext}
-use Rattle.laws.proofs.TabLaws.{tab-same, sum-add, sum-scale, sum-at-most}
+use Rattle.laws.proofs.TabLaws.{tab-same, sum-add, sum-le, sum-scale, sum-at-most}
 use Rattle.answer.specs.Limits.{maxDigits, maxClocks}
 use Rattle.iosa.proofs.Reading.Joined.{joined-one, joined-more}
 use Rattle.iosa.specs.Text.{digitsOf, decimal, joined, members, guardField, setField, comma}
@@ -68,6 +68,9 @@ width-most n =
     by-cases (decLt n 100) (λ h. omega (arith, width-2 n (omega arith) h)) (λ b.
     by-cases (decLt n 1000) (λ h. omega (arith, width-3 n (omega arith) h)) (λ d.
     by-cases (decLt n 10000) (λ h. omega (arith, width-4 n (omega arith) h)) (λ e. omega (arith, width-5 n (omega arith))))))
+
+pub width-small : (n : ℕ) → n < 100 → length (decimal n) ≤ 2
+width-small n h = by-cases (decLt n 10) (λ a. omega (arith, width-1 n a)) (λ a. omega (arith, width-2 n (omega arith) h))
 
 -- ---- members, with e bytes beside each
 -- the numbers of one digit, as a set
@@ -172,14 +175,28 @@ set-width (suc s) h k = go (members (suc s) maxClocks 0) refl
     go [] e = absurd (set-nonempty (suc s) h k e)
     go (n ∷ ns) e = ap (λ l. suc (length (joined l))) e ∙ joined-width n ns ∙ ap commas (sym e) ∙ set-commas (suc s)
 
-pub set-most : (s : ℕ) → length (setField s) ≤ 6 * wordBits
+-- the numbers below 64 and a comma behind each: 10 of one digit, 54 of two
+every-clock : sum (tab (λ x. 1 + length (decimal x)) 0 wordBits) ≡ 182
+unfolding decimal digitsOf
+every-clock = refl
+
+set-widest : (s : ℕ) → perMember s 1 ≤ 182
+unfolding perMember
+set-widest s = rw every-clock at (sum-le (λ x. cond (has s x) (1 + length (decimal x)) 0) (λ x. 1 + length (decimal x)) 0 wordBits (λ x p q. go x (has s x)))
+  where
+    go : (x : ℕ) (b : Bool) → cond b (1 + length (decimal x)) 0 ≤ 1 + length (decimal x)
+    go x true = omega arith
+    go x false = omega arith
+
+-- no set is longer than that of all clocks
+pub set-most : (s : ℕ) → length (setField s) ≤ 181
 unfolding setField joined
 set-most zero = omega arith
 set-most (suc s) = go (members (suc s) maxClocks 0) (set-commas (suc s))
   where
-    go : (ns : List ℕ) → commas ns ≡ perMember (suc s) 1 → length (joined ns) ≤ 6 * wordBits
+    go : (ns : List ℕ) → commas ns ≡ perMember (suc s) 1 → length (joined ns) ≤ 181
     go [] e = omega arith
-    go (n ∷ ns) e = omega (arith, joined-width n ns, e, members-most (suc s) 1)
+    go (n ∷ ns) e = omega (arith, joined-width n ns, e, set-widest (suc s))
 
 -- ---- a guard
 pub guard-most : (g : ℕ) → length (guardField g) ≤ maxDigits

@@ -5,4 +5,5 @@ pub mod AfterRead
 pub mod Within
 pub mod RequestExact
 pub mod Front
+pub mod NoReportIsLonger
 pub mod LongestReport

@@ -1,4 +1,4 @@
--- The longest report is reached: an input for which the program prints as many bytes as the limits allow.
+-- The longest report is reached: an input for which the program prints as many bytes as `report` asks of a buffer.
 use mathlib.Core.Path.{_≡_, refl, _∙_, ap}
 use mathlib.Core.Bool.{false}
 use mathlib.Core.Option.{none, some}
@@ -22,6 +22,7 @@ use Rattle.iosa.specs.Examples.{reply}
 use Rattle.iosa.proofs.Settling.Rule.{lowest-some}
 use Rattle.tell.specs.Tell.{tailOf}
 use Rattle.tell.proofs.TellLaws.{step-parts}
+use Rattle.steplines.specs.Run.{mostBytes}
 use Rattle.report.proofs.ReportLaws.{report-model}
 
 -- ---- the input: sixteen components in state 10, where action 10 resets all 64 clocks and leads back, and the largest budget
@@ -144,7 +145,7 @@ answers : settleOf longestModel tens maxBudget maxBudget ≡ answered (settle (u
 unfolding settleOf budgetFault traceFault
 answers = rw (confluent, in-range, settleOf)
 
-pub longest-reached : length (reportOf longestInput) ≡ 994466
+pub longest-reached : length (reportOf longestInput) ≡ mostBytes
 longest-reached =
     ap length (report-model longestInput (textOf longestModel) longestRequest requested longestModel read)
     ∙ report-length longestModel tens 10 allClocks leads-back maxBudget answers ∙ rw (counts, line, last)

@@ -1,4 +1,4 @@
--- The contract of the call `report` (01, "The program and its example"): the report at the front of a lent buffer, or 24 where the buffer is shorter than the bound into which every report fits.
+-- The contract of the call `report` (01, "The program and its example"): the report at the front of a lent buffer, or 24 where the buffer is shorter than the longest report there can be.
 use mathlib.Core.Path.{_≡_}
 use mathlib.Core.Option.{some}
 use mathlib.Core.Bool.{cond}

@@ -21,7 +21,6 @@ use Rattle.iosa.proofs.Settling.Rule.{lowest-some}
 use Rattle.layout.specs.Image.{modelOf}
 use Rattle.layout.proofs.RowsOfRange.{well-formed}
 use Rattle.moves.specs.Moves.{resetAll, afterAll, movedAll, lowestAll}
-use Rattle.moves.proofs.StepsByOffers.{within-length}
 use Rattle.settling.specs.Gives.{Ready}
 use Rattle.settling.proofs.Plus.{plus, plus-nothing, plus-step, settle-rests, settle-out}
 use Rattle.moves.proofs.Lowest.{lowest-here, lowest-nowhere}
@@ -90,7 +89,7 @@ begins t budget x old r len b room =
       reached = reached-first t x r len;
       left =
           left-same
-          (left-all old 0 (runText m s budget) (omega (arith, run-most m s budget (within-length m s (r .standing .within)) (well-formed t (r .standing .image) .components) b)))
+          (left-all old 0 (runText m s budget) (omega (arith, run-most m (well-formed t (r .standing .image)) (r .conforming) (r .joinable) s budget (r .standing .within) b)))
           (rest-all m s budget ∙ ap (λ k. restOf m 0 0 k s) n);
     }
 

@@ -19,11 +19,13 @@ ghost use Rattle.settling.specs.Gives.{Ready};
 ghost use Rattle.print.specs.Put.{Put};
 ghost use Rattle.steplines.specs.Run.{mostBytes, runText};
 
-// No printed line is longer.
-pub const LINE: usize = 512;
+// The widest step line has a count of four digits, the widest last line as many steps.
+const STEP_LINE: usize = 243;
 
-// No report is longer: a line for each step of the largest budget, and the last line.
-pub const REPORT: usize = LINE * (State::BUDGET + 1);
+const LAST_LINE: usize = 245;
+
+// The longest report there can be: of the counts 1 to 4,096 lack 9, 99 and 999 a digit each.
+pub const REPORT: usize = STEP_LINE * State::BUDGET - (9 + 99 + 999) + LAST_LINE;
 
 // One step after the other, each printed as it is taken.
 pub fn put_run(t: &[u64], x: State, budget: usize, out: &mut [u8]) -> usize
