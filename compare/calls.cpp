@@ -47,10 +47,8 @@ std::string printed_kind(const Said& said, const Lent& lent) {
 }
 
 Said engine_recognise(Lent& l) {
-  Said said;
-  if (floodneedle_recognise(l.table.front(), l.table.size())) said.answer.kind = FLOODNEEDLE_DONE;
-  else said = ::said(second::Answer{second::refuse(20, {0})});
-  return said;
+  const bool is_image = floodneedle_recognise(l.table.front(), l.table.size());
+  return said(second::Answer{is_image ? second::Refusal{} : second::refuse(20, {0})});
 }
 Said second_recognise(Lent& l) { return said(second::recognise(table(l))); }
 

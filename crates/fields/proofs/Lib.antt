@@ -1,4 +1,5 @@
 pub mod ScanLaws
 pub mod FieldLaws
 pub mod NumberLaws
+pub mod Gather
 pub mod ResetLaws

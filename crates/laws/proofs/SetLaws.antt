@@ -8,7 +8,7 @@ use native.Mathlib.Nat.{div-one, mod-lt, div-div-eq-div-mul, div-eq-of-lt, div-s
 use lib.Arith.{bin-ind, half-le}
 use lib.Pow.{pow-mono, pow-lt, pow-pos, pow-add, shl-shr}
 use native.Mathlib.Decide.{decLt, ℕ-discrete}
-use lib.Bits.{bitAnd, bitOr, bitXor, differ, and-step, or-step, xor-step, or-shr, and-shr, xor-shr, or-comm, and-comm, or-zero-r, and-zero-r, and-mask, and-le-l, xor-add-and}
+use lib.Bits.{bitAnd, bitOr, bitXor, differ, and-step, or-step, xor-step, or-shr, and-shr, xor-shr, or-comm, and-comm, or-zero-r, and-zero-r, and-mask, and-le-l, and-le-r, or-add-and, xor-add-and}
 use lib.Dec.{eqb}
 use borrow.Author.Tests.{eqb-true, eq-eqb, ne-eqb, not-true}
 use Rattle.laws.proofs.TestLaws.{not-so, or-false, and-true}
@@ -59,6 +59,10 @@ bit-ext a b h = go (max a b) a b (le-max-left a b) (le-max-right a b) h
 
 pub or-assoc : (a b c : ℕ) → bitOr (bitOr a b) c ≡ bitOr a (bitOr b c)
 or-assoc a b c = bit-ext _ _ (λ x. simp bit-or (omega arith))
+
+-- a union that is empty
+pub or-none : (a b : ℕ) → bitOr a b ≡ 0 → (a ≡ 0) × (b ≡ 0)
+or-none a b e = (omega (arith, or-add-and a b, and-le-r a b), omega (arith, or-add-and a b, and-le-l a b))
 
 -- ---- the members of the operations
 two : (P : ℕ → ℕ → Type 0) → P 0 0 → P 0 1 → P 1 0 → P 1 1 → (p q : ℕ) → p < 2 → q < 2 → P p q

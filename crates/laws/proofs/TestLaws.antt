@@ -26,6 +26,11 @@ pub both-go : (a b : Bool) → a ≡ true → both a b ≡ b
 unfolding both
 both-go a b e = rw (e, both)
 
+pub both-yes : (a b : Bool) → b ≡ true → both a b ≡ a
+unfolding both
+both-yes true b e = e
+both-yes false b e = refl
+
 pub and-true : (a b : Bool) → (a && b) ≡ true → (a ≡ true) × (b ≡ true)
 and-true true b e = (refl, e)
 and-true false b e = absurd (false≢true e)

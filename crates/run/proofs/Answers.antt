@@ -37,11 +37,16 @@ unfolding saysVerdict
 refuses-settling q f x e = (ap asRefused e, refl, refl, refl)
 
 -- ---- the model's calls, refusal by refusal
-or-first {ℓ} : {A : Type ℓ} (o p : Option A) (x : A) → o ≡ some x → orElse o p ≡ some x
+pub or-first {ℓ} : {A : Type ℓ} (o p : Option A) (x : A) → o ≡ some x → orElse o p ≡ some x
 or-first o p x e = rw e
 
 or-then {ℓ} : {A : Type ℓ} (o p : Option A) → o ≡ none → orElse o p ≡ p
 or-then o p e = rw e
+
+or-last {ℓ} : {A : Type ℓ} (o p q e : Option A) → orElse (orElse o (orElse p q)) e ≡ orElse o (orElse p (orElse q e))
+or-last none none q e = refl
+or-last none (some x) q e = refl
+or-last (some x) p q e = refl
 
 -- a refusal, or else what x says
 abbrev pick : {A : Type 0} → Answer A → Option Told → Answer A
@@ -99,47 +104,45 @@ module _ (m : Model) (s : List ℕ) where
   unfolding traceFault
   trace-right n room h = ap (λ b. when b (tell 24 (n ∷ []))) (le-ltb room n h)
 
-  pub settle-refused : (n room : ℕ) (f : Told) → confluentOf m ≡ some f → settleOf m s n room ≡ refused f
-  unfolding settleOf
-  settle-refused n room f e = ap (pick (answered (settle (urgentStep m) n s))) (or-first (confluentOf m) (orElse (stateFault m s) (orElse (budgetFault n) (traceFault n room))) f e)
+  -- what stands in the way of the first step: what the model fails by, 21, 22
+  abbrev pub startFault : ℕ → Option Told
+  startFault n = orElse (confluentOf m) (orElse (stateFault m s) (budgetFault n))
 
-  pub list-refused : (l : List ℕ) (f : Told) → confluentOf m ≡ some f → settleListOf m s l ≡ refused f
-  unfolding settleListOf
-  list-refused l f e = ap (pick (play m 0 l s)) (or-first (confluentOf m) (orElse (stateFault m s) (budgetFault (length l))) f e)
+  module _ (ok : confluentOf m ≡ none) (n : ℕ) where
+    from-state : startFault n ≡ orElse (stateFault m s) (budgetFault n)
+    from-state = or-then (confluentOf m) (orElse (stateFault m s) (budgetFault n)) ok
 
-  module _ (ok : confluentOf m ≡ none) where
-    module _ (n room : ℕ) where
-      pub settle-wrong : inRange m s ≡ false → settleOf m s n room ≡ refused (tell 21 (0 ∷ []))
-      unfolding settleOf
-      settle-wrong e = ap (pick (answered (settle (urgentStep m) n s))) (or-then (confluentOf m) (orElse (stateFault m s) (orElse (budgetFault n) (traceFault n room))) ok ∙ or-first (stateFault m s) (orElse (budgetFault n) (traceFault n room)) (tell 21 (0 ∷ [])) (state-wrong e))
+    from-budget : inRange m s ≡ true → startFault n ≡ budgetFault n
+    from-budget e = from-state ∙ or-then (stateFault m s) (budgetFault n) (state-right e)
 
-      after-state : inRange m s ≡ true → orElse (confluentOf m) (orElse (stateFault m s) (orElse (budgetFault n) (traceFault n room))) ≡ orElse (budgetFault n) (traceFault n room)
-      after-state e = or-then (confluentOf m) (orElse (stateFault m s) (orElse (budgetFault n) (traceFault n room))) ok ∙ or-then (stateFault m s) (orElse (budgetFault n) (traceFault n room)) (state-right e)
+    pub start-wrong : inRange m s ≡ false → startFault n ≡ some (tell 21 (0 ∷ []))
+    start-wrong e = from-state ∙ or-first (stateFault m s) (budgetFault n) (tell 21 (0 ∷ [])) (state-wrong e)
 
-      pub settle-over : inRange m s ≡ true → maxBudget < n → settleOf m s n room ≡ refused (tell 22 (0 ∷ []))
-      unfolding settleOf
-      settle-over e h = ap (pick (answered (settle (urgentStep m) n s))) (after-state e ∙ or-first (budgetFault n) (traceFault n room) (tell 22 (0 ∷ [])) (budget-over n h))
+    pub start-over : inRange m s ≡ true → maxBudget < n → startFault n ≡ some (tell 22 (0 ∷ []))
+    start-over e h = from-budget e ∙ budget-over n h
 
-      pub settle-short : inRange m s ≡ true → n ≤ maxBudget → room < n → settleOf m s n room ≡ refused (tell 24 (n ∷ []))
-      unfolding settleOf
-      settle-short e h k = ap (pick (answered (settle (urgentStep m) n s))) (after-state e ∙ or-then (budgetFault n) (traceFault n room) (budget-right n h) ∙ trace-short n room k)
+    pub start-right : inRange m s ≡ true → n ≤ maxBudget → startFault n ≡ none
+    start-right e h = from-budget e ∙ budget-right n h
 
-      pub settle-goes : inRange m s ≡ true → n ≤ maxBudget → n ≤ room → settleOf m s n room ≡ answered (settle (urgentStep m) n s)
-      unfolding settleOf
-      settle-goes e h k = ap (pick (answered (settle (urgentStep m) n s))) (after-state e ∙ or-then (budgetFault n) (traceFault n room) (budget-right n h) ∙ trace-right n room k)
+  module _ (n room : ℕ) where
+    settle-picks : settleOf m s n room ≡ pick (answered (settle (urgentStep m) n s)) (orElse (startFault n) (traceFault n room))
+    unfolding settleOf
+    settle-picks = ap (pick (answered (settle (urgentStep m) n s))) (sym (or-last (confluentOf m) (stateFault m s) (budgetFault n) (traceFault n room)))
 
-    module _ (l : List ℕ) where
-      pub list-wrong : inRange m s ≡ false → settleListOf m s l ≡ refused (tell 21 (0 ∷ []))
-      unfolding settleListOf
-      list-wrong e = ap (pick (play m 0 l s)) (or-then (confluentOf m) (orElse (stateFault m s) (budgetFault (length l))) ok ∙ or-first (stateFault m s) (budgetFault (length l)) (tell 21 (0 ∷ [])) (state-wrong e))
+    pub settle-refused : (f : Told) → startFault n ≡ some f → settleOf m s n room ≡ refused f
+    settle-refused f e = settle-picks ∙ ap (pick (answered (settle (urgentStep m) n s))) (or-first (startFault n) (traceFault n room) f e)
 
-      list-after : inRange m s ≡ true → orElse (confluentOf m) (orElse (stateFault m s) (budgetFault (length l))) ≡ budgetFault (length l)
-      list-after e = or-then (confluentOf m) (orElse (stateFault m s) (budgetFault (length l))) ok ∙ or-then (stateFault m s) (budgetFault (length l)) (state-right e)
+    pub settle-short : startFault n ≡ none → room < n → settleOf m s n room ≡ refused (tell 24 (n ∷ []))
+    settle-short e k = settle-picks ∙ ap (pick (answered (settle (urgentStep m) n s))) (or-then (startFault n) (traceFault n room) e ∙ trace-short n room k)
 
-      pub list-over : inRange m s ≡ true → maxBudget < length l → settleListOf m s l ≡ refused (tell 22 (0 ∷ []))
-      unfolding settleListOf
-      list-over e h = ap (pick (play m 0 l s)) (list-after e ∙ budget-over (length l) h)
+    pub settle-goes : startFault n ≡ none → n ≤ room → settleOf m s n room ≡ answered (settle (urgentStep m) n s)
+    settle-goes e k = settle-picks ∙ ap (pick (answered (settle (urgentStep m) n s))) (or-then (startFault n) (traceFault n room) e ∙ trace-right n room k)
 
-      pub list-goes : inRange m s ≡ true → length l ≤ maxBudget → settleListOf m s l ≡ play m 0 l s
-      unfolding settleListOf
-      list-goes e h = ap (pick (play m 0 l s)) (list-after e ∙ budget-right (length l) h)
+  module _ (l : List ℕ) where
+    pub list-refused : (f : Told) → startFault (length l) ≡ some f → settleListOf m s l ≡ refused f
+    unfolding settleListOf
+    list-refused f e = ap (pick (play m 0 l s)) e
+
+    pub list-goes : startFault (length l) ≡ none → settleListOf m s l ≡ play m 0 l s
+    unfolding settleListOf
+    list-goes e = ap (pick (play m 0 l s)) e

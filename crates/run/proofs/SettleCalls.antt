@@ -1,10 +1,12 @@
 -- Settling's answer, branch by branch, is what its call promises, and so is the trace.
 use mathlib.Core.Path.{_≡_, refl, sym, _∙_, ap}
-use mathlib.Core.Bool.{Bool, true, false}
+use mathlib.Core.Bool.{Bool, true, false, not}
 use mathlib.Core.Option.{Option, none, some}
 use mathlib.Core.List.{List, [], _∷_}
 use Prim.Native.Nat.{ℕ, _≤_, _<_}
 use lib.ListN.{length}
+use borrow.Author.Tests.{not-true, not-false}
+use Rattle.laws.specs.Search.{orElse}
 use Rattle.answer.specs.Limits.{maxBudget}
 use Rattle.answer.specs.Told.{Told, tell, told, saysChecked, Answer, answered, refused}
 use Rattle.answer.specs.declared.Checked.{Checked}
@@ -15,8 +17,8 @@ use Rattle.answer.specs.declared.Settled.{Settled}
 use Rattle.answer.specs.State.{partsOf}
 use Rattle.iosa.specs.Model.{Model}
 use Rattle.iosa.specs.Checks.{confluentOf}
-use Rattle.iosa.specs.Step.{inRange, urgentStep}
-use Rattle.iosa.specs.Settle.{Settling, settle, play, settleOf, settleListOf}
+use Rattle.iosa.specs.Step.{inRange, stateFault, urgentStep}
+use Rattle.iosa.specs.Settle.{Settling, settle, play, budgetFault, settleOf, settleListOf}
 use Rattle.layout.specs.Image.{modelOf}
 use Rattle.settling.specs.Gives.{SettleAnswers, SettleGives, TraceHolds}
 use Rattle.table.specs.OnTable.{onTable, checkOn}
@@ -24,46 +26,81 @@ use Rattle.table.proofs.OnTableLaws.{on-image}
 use Rattle.table.proofs.CheckedLaws.{call-refuses}
 use Rattle.run.specs.Refusals.{wholeAt, bytesAt, refusedSettling}
 use Rattle.run.specs.Calls.{SettleCall, SettleListCall, traceAfter}
-use Rattle.run.proofs.Answers.{settle-answers, refuses-settling, settle-refused, list-refused, settle-wrong, settle-over, settle-short, settle-goes, list-wrong, list-over, list-goes}
-use Rattle.run.proofs.Ready.{Passed, refused-by}
+use Rattle.run.proofs.Answers.{or-first, settle-answers, refuses-settling, startFault, start-wrong, start-over, start-right, settle-refused, settle-short, settle-goes, list-refused, list-goes}
+use Rattle.run.proofs.Ready.{Passed, passed, refused-by}
+
+-- ---- both calls refuse whatever stands in the way of the first step
+module _ (x : State) where
+  pub settle-follows : (budget room : ℕ) (m : Model) (f : Told) → startFault m (partsOf x) budget ≡ some f → settleOf m (partsOf x) budget room ≡ refused f
+  settle-follows budget room m f e = settle-refused m (partsOf x) budget room f e
+
+  pub list-follows : (l : List ℕ) (m : Model) (f : Told) → startFault m (partsOf x) (length l) ≡ some f → settleListOf m (partsOf x) l ≡ refused f
+  list-follows l m f e = list-refused m (partsOf x) l f e
 
 module _ (t : List ℕ) (x : State) where
-  refused-with : (call : Model → Answer (Settling (List ℕ))) (q : Refusal) (f : Told) (r : Settled) → onTable t call ≡ refused f → told q ≡ some f → r ≡ refusedSettling q → SettleAnswers (onTable t call) x r
-  refused-with call q f r e h k = settle-answers (onTable t call) (refused f) x r e (rw k (refuses-settling q f x h))
+  -- a call that refuses with q
+  pub record Refuses (call : Model → Answer (Settling (List ℕ))) (q : Refusal) : Type 0 where
+    pub fault : Told
+    pub tells : told q ≡ some fault
+    pub answer : onTable t call ≡ refused fault
+
+  refused-with : (call : Model → Answer (Settling (List ℕ))) (q : Refusal) (r : Settled) → Refuses call q → r ≡ refusedSettling q → SettleAnswers (onTable t call) x r
+  refused-with call q r f k = settle-answers (onTable t call) (refused (f .fault)) x r (f .answer) (rw k (refuses-settling q (f .fault) x (f .tells)))
+
+  -- ---- before the first step, by our rule and by a list alike: what the model fails by, 21, 22
+  module _ (call : Model → Answer (Settling (List ℕ))) (steps : ℕ) (follows : (m : Model) (f : Told) → startFault m (partsOf x) steps ≡ some f → call m ≡ refused f)
+      (ch : Checked) (says : saysChecked ch ≡ some (checkOn t confluentOf)) where
+    pub by-check : (q : Refusal) → ch ≡ Refused q → Refuses call q
+    by-check q is =
+        let p = refused-by t confluentOf ch says q is in
+        record {
+          fault = p .0;
+          tells = p .1;
+          answer = call-refuses t confluentOf call (λ m f e. follows m f (or-first (confluentOf m) (orElse (stateFault m (partsOf x)) (budgetFault steps)) f e)) (p .0) (p .2);
+        }
+
+    module _ (fine : ch ≡ Fine) {b : Bool} (range : b ≡ inRange (modelOf t) (partsOf x)) where
+      ok : Passed t confluentOf
+      ok = passed t confluentOf ch says fine
+
+      pub by-state : not b ≡ true → Refuses call (wholeAt 21)
+      unfolding told
+      by-state n = record {
+        fault = tell 21 (0 ∷ []);
+        tells = refl;
+        answer = on-image t call (ok .image) ∙ follows (modelOf t) (tell 21 (0 ∷ [])) (start-wrong (modelOf t) (partsOf x) (ok .none) steps (sym range ∙ not-true b n));
+      }
+
+      pub by-steps : not b ≡ false → maxBudget < steps → Refuses call (wholeAt 22)
+      unfolding told
+      by-steps n h = record {
+        fault = tell 22 (0 ∷ []);
+        tells = refl;
+        answer = on-image t call (ok .image) ∙ follows (modelOf t) (tell 22 (0 ∷ [])) (start-over (modelOf t) (partsOf x) (ok .none) steps (sym range ∙ not-false b n) h);
+      }
 
   -- ---- by our rule
   module _ (budget : ℕ) (old : List ℕ) where
     abbrev call : Model → Answer (Settling (List ℕ))
     call m = settleOf m (partsOf x) budget (length old)
 
-    refused-as : (q : Refusal) (f : Told) (r : Settled) → onTable t call ≡ refused f → told q ≡ some f → r ≡ refusedSettling q → SettleCall t x budget old old r
-    refused-as q f r e h k = record { answer = refused-with call q f r e h k; trace = sym (ap (λ v. traceAfter v old) e) }
+    pub settle-refuses : (q : Refusal) (r : Settled) → Refuses call q → r ≡ refusedSettling q → SettleCall t x budget old old r
+    settle-refuses q r f k = record { answer = refused-with call q r f k; trace = sym (ap (λ v. traceAfter v old) (f .answer)) }
 
-    pub settle-is-refused : (ch : Checked) → saysChecked ch ≡ some (checkOn t confluentOf) → (q : Refusal) → ch ≡ Refused q → (r : Settled) → r ≡ refusedSettling q → SettleCall t x budget old old r
-    settle-is-refused ch pre q is r k =
-        let p = refused-by t confluentOf ch pre q is in
-        refused-as q (p .0) r (call-refuses t confluentOf call (λ m f e. settle-refused m (partsOf x) budget (length old) f e) (p .0) (p .2)) (p .1) k
+    module _ (ok : Passed t confluentOf) (r : Settled) (h : inRange (modelOf t) (partsOf x) ≡ true) (b : budget ≤ maxBudget) where
+      starts : startFault (modelOf t) (partsOf x) budget ≡ none
+      starts = start-right (modelOf t) (partsOf x) (ok .none) budget h b
 
-    module _ (ok : Passed t confluentOf) (r : Settled) where
       on : onTable t call ≡ call (modelOf t)
       on = on-image t call (ok .image)
 
-      pub settle-is-wrong : inRange (modelOf t) (partsOf x) ≡ false → r ≡ refusedSettling (wholeAt 21) → SettleCall t x budget old old r
+      pub settle-is-short : length old < budget → r ≡ refusedSettling (bytesAt budget) → SettleCall t x budget old old r
       unfolding told
-      settle-is-wrong h k = refused-as (wholeAt 21) (tell 21 (0 ∷ [])) r (on ∙ settle-wrong (modelOf t) (partsOf x) (ok .none) budget (length old) h) refl k
+      settle-is-short s k = settle-refuses (bytesAt budget) r (record { fault = tell 24 (budget ∷ []); tells = refl; answer = on ∙ settle-short (modelOf t) (partsOf x) budget (length old) starts s }) k
 
-      pub settle-is-over : inRange (modelOf t) (partsOf x) ≡ true → maxBudget < budget → r ≡ refusedSettling (wholeAt 22) → SettleCall t x budget old old r
-      unfolding told
-      settle-is-over h b k = refused-as (wholeAt 22) (tell 22 (0 ∷ [])) r (on ∙ settle-over (modelOf t) (partsOf x) (ok .none) budget (length old) h b) refl k
-
-      pub settle-is-short : inRange (modelOf t) (partsOf x) ≡ true → budget ≤ maxBudget → length old < budget → r ≡ refusedSettling (bytesAt budget) → SettleCall t x budget old old r
-      unfolding told
-      settle-is-short h b s k = refused-as (bytesAt budget) (tell 24 (budget ∷ [])) r (on ∙ settle-short (modelOf t) (partsOf x) (ok .none) budget (length old) h b s) refl k
-
-      pub settle-is-done : inRange (modelOf t) (partsOf x) ≡ true → budget ≤ maxBudget → budget ≤ length old → (new : List ℕ) → SettleGives (modelOf t) budget x r → TraceHolds (modelOf t) budget x old new
-          → SettleCall t x budget old new r
-      settle-is-done h b s new g tr =
-          let e = on ∙ settle-goes (modelOf t) (partsOf x) (ok .none) budget (length old) h b s in
+      pub settle-is-done : budget ≤ length old → (new : List ℕ) → SettleGives (modelOf t) budget x r → TraceHolds (modelOf t) budget x old new → SettleCall t x budget old new r
+      settle-is-done s new g tr =
+          let e = on ∙ settle-goes (modelOf t) (partsOf x) budget (length old) starts s in
           record { answer = settle-answers (onTable t call) (answered (settle (urgentStep (modelOf t)) budget (partsOf x))) x r e g; trace = tr ∙ sym (ap (λ v. traceAfter v old) e) }
 
   -- ---- by a list
@@ -71,22 +108,10 @@ module _ (t : List ℕ) (x : State) where
     abbrev play-call : Model → Answer (Settling (List ℕ))
     play-call m = settleListOf m (partsOf x) l
 
-    pub list-is-refused : (ch : Checked) → saysChecked ch ≡ some (checkOn t confluentOf) → (q : Refusal) → ch ≡ Refused q → (r : Settled) → r ≡ refusedSettling q → SettleListCall t x l r
-    list-is-refused ch pre q is r k =
-        let p = refused-by t confluentOf ch pre q is in
-        record { answer = refused-with play-call q (p .0) r (call-refuses t confluentOf play-call (λ m f e. list-refused m (partsOf x) l f e) (p .0) (p .2)) (p .1) k }
+    pub list-refuses : (q : Refusal) (r : Settled) → Refuses play-call q → r ≡ refusedSettling q → SettleListCall t x l r
+    list-refuses q r f k = record { answer = refused-with play-call q r f k }
 
-    module _ (ok : Passed t confluentOf) (r : Settled) where
-      list-on : onTable t play-call ≡ play-call (modelOf t)
-      list-on = on-image t play-call (ok .image)
-
-      pub list-is-wrong : inRange (modelOf t) (partsOf x) ≡ false → r ≡ refusedSettling (wholeAt 21) → SettleListCall t x l r
-      unfolding told
-      list-is-wrong h k = record { answer = refused-with play-call (wholeAt 21) (tell 21 (0 ∷ [])) r (list-on ∙ list-wrong (modelOf t) (partsOf x) (ok .none) l h) refl k }
-
-      pub list-is-over : inRange (modelOf t) (partsOf x) ≡ true → maxBudget < length l → r ≡ refusedSettling (wholeAt 22) → SettleListCall t x l r
-      unfolding told
-      list-is-over h b k = record { answer = refused-with play-call (wholeAt 22) (tell 22 (0 ∷ [])) r (list-on ∙ list-over (modelOf t) (partsOf x) (ok .none) l h b) refl k }
-
-      pub list-is-played : inRange (modelOf t) (partsOf x) ≡ true → length l ≤ maxBudget → SettleAnswers (play (modelOf t) 0 l (partsOf x)) x r → SettleListCall t x l r
-      list-is-played h b g = record { answer = settle-answers (onTable t play-call) (play (modelOf t) 0 l (partsOf x)) x r (list-on ∙ list-goes (modelOf t) (partsOf x) (ok .none) l h b) g }
+    pub list-is-played : Passed t confluentOf → (r : Settled) → inRange (modelOf t) (partsOf x) ≡ true → length l ≤ maxBudget → SettleAnswers (play (modelOf t) 0 l (partsOf x)) x r → SettleListCall t x l r
+    list-is-played ok r h b g =
+        let e = on-image t play-call (ok .image) ∙ list-goes (modelOf t) (partsOf x) l (start-right (modelOf t) (partsOf x) (ok .none) (length l) h b) in
+        record { answer = settle-answers (onTable t play-call) (play (modelOf t) 0 l (partsOf x)) x r e g }

@@ -1,15 +1,22 @@
 -- `measure::states_width`: what is counted and what is left make the whole.
 use mathlib.Core.Path.{_≡_}
-use Prim.Native.Nat.{_+_, _-_}
+use mathlib.Core.List.{List}
+use Prim.Native.Nat.{ℕ, _+_, _-_, _<_}
 use native.Mathlib.Omega.{arith}
 use lib.ListN.{length}
-use Rattle.laws.specs.Fold.{spread}
+use Rattle.laws.specs.Fold.{tab, spread}
 use Rattle.iosa.specs.Text.{rowLines}
-use Rattle.layout.specs.Image.{rowsLeaving, compOf}
+use Rattle.layout.specs.Layout.{firstOf}
+use Rattle.layout.specs.Image.{rowsLeaving, rowIn, compOf}
 use Rattle.measure.proofs.Lines.{rows-most, ranges-next, ranges-done}
 use Rattle.measure.proofs.Bounds.{rows-few, leaving-is, all-leaving}
 use Rattle.measure.proofs.states_width.Statement.{statement}
 use Rattle.measure.proofs.states_width.Tie as tie
+
+-- one turn: the rows that leave state s, and those behind them
+turn : (t : List ℕ) (i s states lo hi : ℕ) → s < states → lo ≡ firstOf t i s → hi ≡ firstOf t i (s + 1)
+    → length (rowLines (spread (rowsLeaving t i) s (states - s))) ≡ length (rowLines (tab (rowIn t s) lo (hi - lo))) + length (rowLines (spread (rowsLeaving t i) (s + 1) (states - (s + 1))))
+turn t i s states lo hi h p q = omega (arith, ranges-next (rowsLeaving t i) s states h, leaving-is t i s lo hi p q)
 
 abbrev Inv-loop : tie.InvT-loop
 Inv-loop t i states sum₀ s₀ sum s = sum + length (rowLines (spread (rowsLeaving t i) s (states - s))) ≡ length (rowLines (compOf t i .rows))
@@ -48,17 +55,10 @@ rows-width-requires c κs =
 
 add-sum : tie.Need-add-sum Inv-loop μ-loop
 add-sum c =
-    let args = c .before .before .before .before .before .before .before .args in
-    let the-pre = c .before .before .before .before .before .before .before .pre in
-    let block-word = c .before .before .before .before .before .block-word in
-    let loop = c .before .before .before .before .loop in
-    let loop-test = c .before .before .before .loop-test in
-    let first-of = c .before .before .first-of in
-    let first-of2 = c .before .first-of2 in
-    let i = args .i in
-    let t = args .t .now in
-    let s = loop .s in
-    omega (arith, ranges-next (rowsLeaving t i) s (block-word .result) (loop-test .taken), leaving-is t i s (first-of .result) (first-of2 .result) (first-of .ensures) (first-of2 .ensures), rows-most (compOf t i .rows), rows-few t (the-pre .0) i (the-pre .1))
+    let s0 = c .before .before .before .before .before .before .before in
+    let t = s0 .args .t .now in
+    let i = s0 .args .i in
+    omega (arith, turn t i _ _ _ _ (c .before .before .before .loop-test .taken) (c .before .before .first-of .ensures) (c .before .first-of2 .ensures), rows-most (compOf t i .rows), rows-few t (s0 .pre .0) i (s0 .pre .1))
 
 add-s : tie.Need-add-s Inv-loop μ-loop
 add-s c = omega arith
@@ -68,16 +68,8 @@ loop-less c = omega arith
 
 loop-again : tie.Need-loop-again Inv-loop μ-loop
 loop-again c =
-    let args = c .before .before .before .before .before .before .before .args in
-    let block-word = c .before .before .before .before .before .block-word in
-    let loop = c .before .before .before .before .loop in
-    let loop-test = c .before .before .before .loop-test in
-    let first-of = c .before .before .first-of in
-    let first-of2 = c .before .first-of2 in
-    let i = args .i in
-    let t = args .t .now in
-    let s = loop .s in
-    omega (arith, ranges-next (rowsLeaving t i) s (block-word .result) (loop-test .taken), leaving-is t i s (first-of .result) (first-of2 .result) (first-of .ensures) (first-of2 .ensures))
+    let s0 = c .before .before .before .before .before .before .before in
+    omega (arith, turn (s0 .args .t .now) (s0 .args .i) _ _ _ _ (c .before .before .before .loop-test .taken) (c .before .before .first-of .ensures) (c .before .first-of2 .ensures))
 
 returns : tie.Need-returns Inv-loop μ-loop
 returns c =

@@ -1,15 +1,19 @@
 -- `parts::check_component` meets its contract: each check in its turn, after those before it were fine.
-use mathlib.Core.Path.{_≡_, refl, sym, ap, ap₂, _∙_}
-use Prim.Native.Nat.{ℕ, zero, suc, _+_, _-_, _≤_, _<_}
-use native.Mathlib.Omega.{arith}
-use native.Mathlib.Numerals.{add-one}
-use lib.ListN.{length, getD, set}
-use denote.Ref.{now}
+use mathlib.Core.Path.{_≡_}
+use mathlib.Core.Option.{Option}
+use mathlib.Core.List.{List}
+use Prim.Native.Nat.{ℕ, _<_}
 use Rattle.laws.specs.Search.{seek, orElse}
-use Rattle.layout.specs.Layout.{blockWord, firstOf}
-use Rattle.layout.specs.Image.{compOf}
+use Rattle.answer.specs.Told.{Told}
+use Rattle.answer.specs.declared.Refusal.{Refusal}
+use Rattle.answer.specs.declared.Checked.{Checked}
+use Rattle.answer.specs.declared.Checked.the-variants.{Fine, Refused}
+use Rattle.iosa.specs.Checks.{faultAt}
+use Rattle.layout.specs.Layout.{countOf, blockWord, firstOf}
+use Rattle.layout.specs.Image.{Image, compOf}
+use Rattle.parts.specs.declared.Asked.{Asked}
 use Rattle.parts.specs.declared.Asked.the-variants.{Clocks, Inputs, Single}
-use Rattle.parts.specs.Faults.{fault10, fault14, stateFault}
+use Rattle.parts.specs.Faults.{Says, fault10, fault14, stateFault}
 use Rattle.parts.proofs.Saying.{says-as, refused-first, fine-next, not-fine}
 use Rattle.parts.proofs.ByStates.{turn-by-states}
 use borrow.Author.Needs.{needs}
@@ -20,6 +24,53 @@ use Rattle.parts.proofs.check_component.Lts as lts
 use Rattle.parts.proofs.check_active.Reads as check-active-reads
 use Rattle.parts.proofs.check_guards.Reads as check-guards-reads
 use Rattle.parts.proofs.check_states.Reads as check-states-reads
+
+-- 11, 12 and 13 as the code asks for them, each before those behind it
+abbrev by-states : Asked → List ℕ → ℕ → Option Told
+by-states q t i = seek (stateFault q t i) 0 (blockWord t i 0)
+
+abbrev from-single : List ℕ → ℕ → Option Told
+from-single t i = orElse (by-states Single t i) (fault14 i (compOf t i))
+
+abbrev from-inputs : List ℕ → ℕ → Option Told
+from-inputs t i = orElse (by-states Inputs t i) (from-single t i)
+
+abbrev from-clocks : List ℕ → ℕ → Option Told
+from-clocks t i = orElse (by-states Clocks t i) (from-inputs t i)
+
+abbrev Tells : List ℕ → ℕ → Checked → Type 0
+Tells t i r = Says r (faultAt i (firstOf t i 0) (compOf t i))
+
+module _ (t : List ℕ) (im : Image t) (i : ℕ) (h : i < countOf t) where
+  asked : (r : Checked) → Says r (orElse (fault10 (firstOf t i 0) (compOf t i)) (from-clocks t i)) → Tells t i r
+  asked r e = says-as r _ _ (turn-by-states t im i h) e
+
+  refused-guards : (r : Checked) (x : Refusal) → Says r (fault10 (firstOf t i 0) (compOf t i)) → r ≡ Refused x → Tells t i r
+  refused-guards r x e n = asked r (refused-first r (fault10 (firstOf t i 0) (compOf t i)) (from-clocks t i) e (not-fine r x n))
+
+  module _ (g : Checked) (eg : Says g (fault10 (firstOf t i 0) (compOf t i))) (fg : g ≡ Fine) where
+    past-guards : (r : Checked) → Says r (from-clocks t i) → Tells t i r
+    past-guards r e = asked r (fine-next g r (fault10 (firstOf t i 0) (compOf t i)) (from-clocks t i) eg fg e)
+
+    refused-clocks : (r : Checked) (x : Refusal) → Says r (by-states Clocks t i) → r ≡ Refused x → Tells t i r
+    refused-clocks r x e n = past-guards r (refused-first r (by-states Clocks t i) (from-inputs t i) e (not-fine r x n))
+
+    module _ (k : Checked) (ek : Says k (by-states Clocks t i)) (fk : k ≡ Fine) where
+      past-clocks : (r : Checked) → Says r (from-inputs t i) → Tells t i r
+      past-clocks r e = past-guards r (fine-next k r (by-states Clocks t i) (from-inputs t i) ek fk e)
+
+      refused-inputs : (r : Checked) (x : Refusal) → Says r (by-states Inputs t i) → r ≡ Refused x → Tells t i r
+      refused-inputs r x e n = past-clocks r (refused-first r (by-states Inputs t i) (from-single t i) e (not-fine r x n))
+
+      module _ (m : Checked) (em : Says m (by-states Inputs t i)) (fm : m ≡ Fine) where
+        past-inputs : (r : Checked) → Says r (from-single t i) → Tells t i r
+        past-inputs r e = past-clocks r (fine-next m r (by-states Inputs t i) (from-single t i) em fm e)
+
+        refused-single : (r : Checked) (x : Refusal) → Says r (by-states Single t i) → r ≡ Refused x → Tells t i r
+        refused-single r x e n = past-inputs r (refused-first r (by-states Single t i) (fault14 i (compOf t i)) e (not-fine r x n))
+
+        past-single : (d : Checked) → Says d (by-states Single t i) → d ≡ Fine → (r : Checked) → Says r (fault14 i (compOf t i)) → Tells t i r
+        past-single d ed fd r e = past-inputs r (fine-next d r (by-states Single t i) (fault14 i (compOf t i)) ed fd e)
 
 check-guards-requires : tie.Need-check-guards-requires
 check-guards-requires c κs = search needs
@@ -33,15 +84,7 @@ enum-told-2 c = search needs
 returns : tie.Need-returns
 returns c =
     let s0 = c .before .before .before .before in
-    let t = now (s0 .args .t) in
-    let i = s0 .args .i in
-    let o1 = fault10 (firstOf t i 0) (compOf t i) in
-    let o2 = seek (stateFault Clocks t i) 0 (blockWord t i 0) in
-    let o3 = seek (stateFault Inputs t i) 0 (blockWord t i 0) in
-    let o4 = seek (stateFault Single t i) 0 (blockWord t i 0) in
-    let o5 = fault14 i (compOf t i) in
-    let turn = turn-by-states t (s0 .pre .0) i (s0 .pre .1) in
-    says-as _ _ _ turn (refused-first _ o1 (orElse o2 (orElse o3 (orElse o4 o5))) (c .before .before .check-guards .ensures) (not-fine _ _ (c .enum-told2 .given .1)))
+    refused-guards _ (s0 .pre .0) _ (s0 .pre .1) _ _ (c .before .before .check-guards .ensures) (c .enum-told2 .given .1)
 
 check-states-requires : tie.Need-check-states-requires
 check-states-requires c κs = search needs
@@ -55,15 +98,7 @@ enum-told-4 c = search needs
 returns-2 : tie.Need-returns-2
 returns-2 c =
     let s0 = c .before .before .before .before .before .before .before in
-    let t = now (s0 .args .t) in
-    let i = s0 .args .i in
-    let o1 = fault10 (firstOf t i 0) (compOf t i) in
-    let o2 = seek (stateFault Clocks t i) 0 (blockWord t i 0) in
-    let o3 = seek (stateFault Inputs t i) 0 (blockWord t i 0) in
-    let o4 = seek (stateFault Single t i) 0 (blockWord t i 0) in
-    let o5 = fault14 i (compOf t i) in
-    let turn = turn-by-states t (s0 .pre .0) i (s0 .pre .1) in
-    says-as _ _ _ turn (fine-next _ _ o1 (orElse o2 (orElse o3 (orElse o4 o5))) (c .before .before .before .before .before .check-guards .ensures) (c .before .before .before .enum-told .given .1) (refused-first _ o2 (orElse o3 (orElse o4 o5)) (c .before .before .check-states .ensures) (not-fine _ _ (c .enum-told4 .given .1))))
+    refused-clocks _ (s0 .pre .0) _ (s0 .pre .1) _ (c .before .before .before .before .before .check-guards .ensures) (c .before .before .before .enum-told .given .1) _ _ (c .before .before .check-states .ensures) (c .enum-told4 .given .1)
 
 check-states-requires-2 : tie.Need-check-states-requires-2
 check-states-requires-2 c κs = search needs
@@ -77,15 +112,7 @@ enum-told-6 c = search needs
 returns-3 : tie.Need-returns-3
 returns-3 c =
     let s0 = c .before .before .before .before .before .before .before .before .before .before in
-    let t = now (s0 .args .t) in
-    let i = s0 .args .i in
-    let o1 = fault10 (firstOf t i 0) (compOf t i) in
-    let o2 = seek (stateFault Clocks t i) 0 (blockWord t i 0) in
-    let o3 = seek (stateFault Inputs t i) 0 (blockWord t i 0) in
-    let o4 = seek (stateFault Single t i) 0 (blockWord t i 0) in
-    let o5 = fault14 i (compOf t i) in
-    let turn = turn-by-states t (s0 .pre .0) i (s0 .pre .1) in
-    says-as _ _ _ turn (fine-next _ _ o1 (orElse o2 (orElse o3 (orElse o4 o5))) (c .before .before .before .before .before .before .before .before .check-guards .ensures) (c .before .before .before .before .before .before .enum-told .given .1) (fine-next _ _ o2 (orElse o3 (orElse o4 o5)) (c .before .before .before .before .before .check-states .ensures) (c .before .before .before .enum-told3 .given .1) (refused-first _ o3 (orElse o4 o5) (c .before .before .check-states2 .ensures) (not-fine _ _ (c .enum-told6 .given .1)))))
+    refused-inputs _ (s0 .pre .0) _ (s0 .pre .1) _ (c .before .before .before .before .before .before .before .before .check-guards .ensures) (c .before .before .before .before .before .before .enum-told .given .1) _ (c .before .before .before .before .before .check-states .ensures) (c .before .before .before .enum-told3 .given .1) _ _ (c .before .before .check-states2 .ensures) (c .enum-told6 .given .1)
 
 check-states-requires-3 : tie.Need-check-states-requires-3
 check-states-requires-3 c κs = search needs
@@ -99,15 +126,7 @@ enum-told-8 c = search needs
 returns-4 : tie.Need-returns-4
 returns-4 c =
     let s0 = c .before .before .before .before .before .before .before .before .before .before .before .before .before in
-    let t = now (s0 .args .t) in
-    let i = s0 .args .i in
-    let o1 = fault10 (firstOf t i 0) (compOf t i) in
-    let o2 = seek (stateFault Clocks t i) 0 (blockWord t i 0) in
-    let o3 = seek (stateFault Inputs t i) 0 (blockWord t i 0) in
-    let o4 = seek (stateFault Single t i) 0 (blockWord t i 0) in
-    let o5 = fault14 i (compOf t i) in
-    let turn = turn-by-states t (s0 .pre .0) i (s0 .pre .1) in
-    says-as _ _ _ turn (fine-next _ _ o1 (orElse o2 (orElse o3 (orElse o4 o5))) (c .before .before .before .before .before .before .before .before .before .before .before .check-guards .ensures) (c .before .before .before .before .before .before .before .before .before .enum-told .given .1) (fine-next _ _ o2 (orElse o3 (orElse o4 o5)) (c .before .before .before .before .before .before .before .before .check-states .ensures) (c .before .before .before .before .before .before .enum-told3 .given .1) (fine-next _ _ o3 (orElse o4 o5) (c .before .before .before .before .before .check-states2 .ensures) (c .before .before .before .enum-told5 .given .1) (refused-first _ o4 o5 (c .before .before .check-states3 .ensures) (not-fine _ _ (c .enum-told8 .given .1))))))
+    refused-single _ (s0 .pre .0) _ (s0 .pre .1) _ (c .before .before .before .before .before .before .before .before .before .before .before .check-guards .ensures) (c .before .before .before .before .before .before .before .before .before .enum-told .given .1) _ (c .before .before .before .before .before .before .before .before .check-states .ensures) (c .before .before .before .before .before .before .enum-told3 .given .1) _ (c .before .before .before .before .before .check-states2 .ensures) (c .before .before .before .enum-told5 .given .1) _ _ (c .before .before .check-states3 .ensures) (c .enum-told8 .given .1)
 
 check-active-requires : tie.Need-check-active-requires
 check-active-requires c κs = search needs
@@ -115,15 +134,7 @@ check-active-requires c κs = search needs
 returns-5 : tie.Need-returns-5
 returns-5 c =
     let s0 = c .before .before .before .before .before .before .before .before .before .before .before .before .before .before in
-    let t = now (s0 .args .t) in
-    let i = s0 .args .i in
-    let o1 = fault10 (firstOf t i 0) (compOf t i) in
-    let o2 = seek (stateFault Clocks t i) 0 (blockWord t i 0) in
-    let o3 = seek (stateFault Inputs t i) 0 (blockWord t i 0) in
-    let o4 = seek (stateFault Single t i) 0 (blockWord t i 0) in
-    let o5 = fault14 i (compOf t i) in
-    let turn = turn-by-states t (s0 .pre .0) i (s0 .pre .1) in
-    says-as _ _ _ turn (fine-next _ _ o1 (orElse o2 (orElse o3 (orElse o4 o5))) (c .before .before .before .before .before .before .before .before .before .before .before .before .check-guards .ensures) (c .before .before .before .before .before .before .before .before .before .before .enum-told .given .1) (fine-next _ _ o2 (orElse o3 (orElse o4 o5)) (c .before .before .before .before .before .before .before .before .before .check-states .ensures) (c .before .before .before .before .before .before .before .enum-told3 .given .1) (fine-next _ _ o3 (orElse o4 o5) (c .before .before .before .before .before .before .check-states2 .ensures) (c .before .before .before .before .enum-told5 .given .1) (fine-next _ _ o4 o5 (c .before .before .before .check-states3 .ensures) (c .before .enum-told7 .given .1) (c .check-active .ensures)))))
+    past-single _ (s0 .pre .0) _ (s0 .pre .1) _ (c .before .before .before .before .before .before .before .before .before .before .before .before .check-guards .ensures) (c .before .before .before .before .before .before .before .before .before .before .enum-told .given .1) _ (c .before .before .before .before .before .before .before .before .before .check-states .ensures) (c .before .before .before .before .before .before .before .enum-told3 .given .1) _ (c .before .before .before .before .before .before .check-states2 .ensures) (c .before .before .before .before .enum-told5 .given .1) _ (c .before .before .before .check-states3 .ensures) (c .before .enum-told7 .given .1) _ (c .check-active .ensures)
 
 pub check-component-spec : {M : Type 1} → statement M
 check-component-spec =

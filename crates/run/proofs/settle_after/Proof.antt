@@ -1,6 +1,6 @@
 -- `run::settle_after` meets its contract.
 use mathlib.Core.Path.{_≡_, refl, sym, ap, _∙_}
-use borrow.Author.Tests.{not-true, not-false}
+use borrow.Author.Tests.{not-false}
 use denote.Ref.{now}
 use Rattle.iosa.specs.Checks.{acceptOf, confluentOf}
 use Rattle.run.proofs.Ready.{passed, image-of, ready}
@@ -8,7 +8,7 @@ use mathlib.Core.Option.{none}
 use Rattle.layout.specs.Image.{modelOf}
 use Rattle.iosa.proofs.Acceptance.ConfluentExactly.{confluent-accepted}
 use Rattle.run.specs.Refusals.{refusedSettling}
-use Rattle.run.proofs.SettleCalls.{settle-is-refused, settle-is-wrong, settle-is-over, settle-is-short, settle-is-done}
+use Rattle.run.proofs.SettleCalls.{by-check, by-state, by-steps, settle-follows, settle-refuses, settle-is-short, settle-is-done}
 use borrow.Author.Needs.{needs}
 use Rattle.run.proofs.settle_after.Statement.{statement}
 use Rattle.run.proofs.settle_after.Tie as tie
@@ -50,8 +50,7 @@ refused-settling-requires-2 c κs = search needs
 returns : tie.Need-returns
 returns c =
     let s0 = c .before .before .before .before .before .before .before .before in
-    settle-is-wrong _ _ _ _ (passed _ confluentOf _ (s0 .pre) (c .before .before .before .before .enum-told .given .1)) _
-    (sym (c .before .before .before .in-range .ensures) ∙ not-true _ (c .before .before .if1 .taken)) (c .refused-settling2 .ensures ∙ ap refusedSettling (c .before .refusal .ensures))
+    settle-refuses _ _ _ _ _ _ (by-state _ _ _ _ (settle-follows _ _ _) _ (s0 .pre) (c .before .before .before .before .enum-told .given .1) (c .before .before .before .in-range .ensures) (c .before .before .if1 .taken)) (c .refused-settling2 .ensures ∙ ap refusedSettling (c .before .refusal .ensures))
 
 -- src/lib.rt:106:41
 refusal-requires-2 : tie.Need-refusal-requires-2
@@ -65,9 +64,7 @@ refused-settling-requires-3 c κs = search needs
 returns-2 : tie.Need-returns-2
 returns-2 c =
     let s0 = c .before .before .before .before .before .before .before .before .before in
-    settle-is-over _ _ _ _ (passed _ confluentOf _ (s0 .pre) (c .before .before .before .before .before .enum-told .given .1)) _
-    (sym (c .before .before .before .before .in-range .ensures) ∙ not-false _ (c .before .before .before .if1 .left)) (c .before .before .if2 .taken)
-    (c .refused-settling3 .ensures ∙ ap refusedSettling (c .before .refusal2 .ensures))
+    settle-refuses _ _ _ _ _ _ (by-steps _ _ _ _ (settle-follows _ _ _) _ (s0 .pre) (c .before .before .before .before .before .enum-told .given .1) (c .before .before .before .before .in-range .ensures) (c .before .before .before .if1 .left) (c .before .before .if2 .taken)) (c .refused-settling3 .ensures ∙ ap refusedSettling (c .before .refusal2 .ensures))
 
 -- src/lib.rt:109:41
 short-trace-requires : tie.Need-short-trace-requires
@@ -94,7 +91,9 @@ by-rule-requires c κs =
 
 -- src/lib.rt:95:1
 returns-4 : tie.Need-returns-4
-returns-4 c = let s0 = c .before .before .before .before .before .before in settle-is-refused _ _ _ _ _ (s0 .pre) _ (c .before .before .checked .given .1) _ (c .refused-settling .ensures)
+returns-4 c =
+    let s0 = c .before .before .before .before .before .before in
+    settle-refuses _ _ _ _ _ _ (by-check _ _ _ _ (settle-follows _ _ _) _ (s0 .pre) _ (c .before .before .checked .given .1)) (c .refused-settling .ensures)
 
 -- src/lib.rt:95:1
 same-length : tie.Need-same-length
