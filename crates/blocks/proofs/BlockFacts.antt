@@ -17,7 +17,7 @@ use Rattle.laws.proofs.TestLaws.{both-true, true-both, and-not-both, not-so}
 use Rattle.answer.specs.Limits.{maxComponents, maxStates, maxRows}
 use Rattle.layout.specs.Layout.{headWords, blockWords, rowsAt, imageWords, countOf, blockWord, firstOf}
 use Rattle.layout.specs.Image.{Sane}
-use Rattle.blocks.specs.Blocks.{zeroWords, sizesRight, apart, setsRight, headRight, endBefore, inOrder, firstPlace, firstsRight, blocksRight}
+use Rattle.blocks.specs.Blocks.{zeroWords, sizesRight, apart, setsRight, headRight, endBefore, inOrder, firstPlace, firstsRight, blocksRight, Bounded}
 
 -- ---- the sizes
 pub record Sizes (t : List ℕ) (i : ℕ) : Type 0 where
@@ -171,7 +171,10 @@ pub record Blocks (t : List ℕ) : Type 0 where
   pub sizes : (i : ℕ) → i < countOf t → Sizes t i
   pub apart : (i : ℕ) → i < countOf t → SetsApart t i
   pub firsts : (i : ℕ) → i < countOf t → Firsts t i
-  pub blank : (k : ℕ) → 1 + blockWords * countOf t ≤ k → k < rowsAt → getD t k 0 ≡ 0
+
+-- "blocks of components that the model does not have are zero throughout"
+abbrev pub Blank : List ℕ → Type 0
+Blank t = (k : ℕ) → 1 + blockWords * countOf t ≤ k → k < rowsAt → getD t k 0 ≡ 0
 
 module _ (t : List ℕ) where
   pub blocks-told : blocksRight t ≡ true → Blocks t
@@ -180,14 +183,12 @@ module _ (t : List ℕ) where
       let p = both-true (leb 1 (countOf t)) _ e in
       let q = both-true (leb (countOf t) maxComponents) _ (p .1) in
       let r = both-true (all (headRight t) 0 (countOf t)) _ (q .1) in
-      let f = both-true (all (firstsRight t) 0 (countOf t)) _ (r .1) in
       record {
         some = leb-true 1 (countOf t) (p .0);
         count = leb-true (countOf t) maxComponents (q .0);
         sizes = λ i h. head-sizes t i (all-true (headRight t) 0 (countOf t) (r .0) i (omega arith) h);
         apart = λ i h. head-sets t i (all-true (headRight t) 0 (countOf t) (r .0) i (omega arith) h);
-        firsts = λ i h. firsts-told t i (all-true (firstsRight t) 0 (countOf t) (f .0) i (omega arith) h);
-        blank = zeros-told t (1 + blockWords * countOf t) rowsAt (f .1);
+        firsts = λ i h. firsts-told t i (all-true (firstsRight t) 0 (countOf t) (r .1) i (omega arith) h);
       }
 
   pub blocks-so : Blocks t → blocksRight t ≡ true
@@ -196,29 +197,37 @@ module _ (t : List ℕ) where
       true-both _ _ (le-leb 1 (countOf t) (w .some))
       (true-both _ _ (le-leb (countOf t) maxComponents (w .count))
       (true-both _ _ (true-all (headRight t) 0 (countOf t) (λ i p h. head-so t i (w .sizes i h) (w .apart i h)))
-      (true-both _ _ (true-all (firstsRight t) 0 (countOf t) (λ i p h. firsts-so t i (w .firsts i h)))
-      (zeros-so t (1 + blockWords * countOf t) rowsAt (w .blank)))))
+      (true-all (firstsRight t) 0 (countOf t) (λ i p h. firsts-so t i (w .firsts i h)))))
 
-  module _ (w : Blocks t) where
+  pub blocks-bounded : Blocks t → imageWords ≤ length t → Bounded t
+  blocks-bounded w long =
+      record {
+        long = long;
+        count = w .count;
+        states = λ i h. w .sizes i h .states;
+        firsts = λ i s h q. firsts-few t i (w .firsts i h) s q;
+      }
+
+  module _ (blank : Blank t) where
     pub blank-word : (i k : ℕ) → countOf t ≤ i → i < maxComponents → k < blockWords → blockWord t i k ≡ 0
     unfolding blockWord
-    blank-word i k p h q = w .blank (1 + blockWords * i + k) (omega arith) (omega arith)
+    blank-word i k p h q = blank (1 + blockWords * i + k) (omega arith) (omega arith)
 
     pub blank-first : (i s : ℕ) → countOf t ≤ i → i < maxComponents → s ≤ maxStates → firstOf t i s ≡ 0
     unfolding firstOf
     blank-first i s p h q = blank-word i (headWords + s) p h (omega arith)
 
-    pub blocks-sane : imageWords ≤ length t → Sane t
-    blocks-sane long =
+    pub bounded-sane : Bounded t → Sane t
+    bounded-sane ok =
         record {
-          long = long;
-          count = w .count;
-          states = λ i h. by-cases (decLt i (countOf t)) (λ p. w .sizes i p .states) (λ p. omega (arith, blank-word i 0 (omega arith) h (omega arith)));
-          firsts = λ i s h q. by-cases (decLt i (countOf t)) (λ p. firsts-few t i (w .firsts i p) s q) (λ p. omega (arith, blank-first i s (omega arith) h q));
+          long = ok .long;
+          count = ok .count;
+          states = λ i h. by-cases (decLt i (countOf t)) (ok .states i) (λ p. omega (arith, blank-word i 0 (omega arith) h (omega arith)));
+          firsts = λ i s h q. by-cases (decLt i (countOf t)) (λ p. ok .firsts i s p q) (λ p. omega (arith, blank-first i s (omega arith) h q));
         }
 
 -- where rows end
-pub end-few : (t : List ℕ) → Sane t → (i : ℕ) → i ≤ maxComponents → endBefore t i ≤ maxRows
+pub end-few : (t : List ℕ) → Bounded t → (i : ℕ) → i ≤ countOf t → endBefore t i ≤ maxRows
 unfolding endBefore
 end-few t ok zero h = omega arith
 end-few t ok (suc i) h = ok .firsts i (blockWord t i 0) (omega arith) (ok .states i (omega arith))

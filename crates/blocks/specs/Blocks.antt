@@ -1,14 +1,14 @@
 -- Whether the blocks of a table are those of an image (docs/TABLE.md): a test for each sentence about them.
 use mathlib.Core.Bool.{Bool}
 use mathlib.Core.List.{List}
-use Prim.Native.Nat.{ℕ, zero, suc, _+_, _*_}
-use lib.ListN.{getD}
+use Prim.Native.Nat.{ℕ, zero, suc, _+_, _*_, _≤_}
+use lib.ListN.{length, getD}
 use lib.Dec.{eqb, ltb, leb}
 use Rattle.laws.specs.Sets.{_∪_, _∩_, within}
 use Rattle.laws.specs.Fold.{all}
 use Rattle.laws.specs.Tests.{both}
 use Rattle.answer.specs.Limits.{maxComponents, maxStates, maxRows}
-use Rattle.layout.specs.Layout.{headWords, blockWords, rowsAt, countOf, blockWord, firstOf}
+use Rattle.layout.specs.Layout.{headWords, blockWords, imageWords, countOf, blockWord, firstOf}
 
 -- "every place that a model does not use is zero": the words from lo on, below hi
 unfoldable pub zeroWords : List ℕ → ℕ → ℕ → Bool
@@ -54,11 +54,13 @@ firstsRight t i =
     (both (leb (firstOf t i (blockWord t i 0)) maxRows)
     (zeroWords t (firstPlace i (suc (blockWord t i 0))) (firstPlace i (suc maxStates)))))
 
--- "number of components, 1 to 16", a block for each, and "blocks of components that the model does not have are zero throughout"
+-- "number of components, 1 to 16", a block for each
 unfoldable pub blocksRight : List ℕ → Bool
-blocksRight t =
-    both (leb 1 (countOf t))
-    (both (leb (countOf t) maxComponents)
-    (both (all (headRight t) 0 (countOf t))
-    (both (all (firstsRight t) 0 (countOf t))
-    (zeroWords t (1 + blockWords * countOf t) rowsAt))))
+blocksRight t = both (leb 1 (countOf t)) (both (leb (countOf t) maxComponents) (both (all (headRight t) 0 (countOf t)) (all (firstsRight t) 0 (countOf t))))
+
+-- what the tests of rows ask of the blocks: ranges that keep every index in bounds, of the components that there are
+pub record Bounded (t : List ℕ) : Type 0 where
+  pub long : imageWords ≤ length t
+  pub count : countOf t ≤ maxComponents
+  pub states : (i : ℕ) → suc i ≤ countOf t → blockWord t i 0 ≤ maxStates
+  pub firsts : (i s : ℕ) → suc i ≤ countOf t → s ≤ maxStates → firstOf t i s ≤ maxRows

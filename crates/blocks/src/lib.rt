@@ -146,8 +146,5 @@ pub fn blocks_right(t: &[u64]) -> bool
     if !heads_right(t, count) {
         return false;
     }
-    if !all_firsts_right(t, count) {
-        return false;
-    }
-    zero_words(t, 1 + layout::BLOCK * count, layout::ROWS_AT)
+    all_firsts_right(t, count)
 }

@@ -15,12 +15,12 @@ use Rattle.layout.proofs.ModelOf.{model-length, comp-at}
 use Rattle.layout.proofs.WellByRanges.{rows-well, rows-in-order}
 use Rattle.layout.proofs.FrontOfModel.{laid-end, laid-image}
 use Rattle.blocks.specs.Blocks.{endBefore}
-use Rattle.blocks.proofs.BlockFacts.{Blocks, blocks-told, blank-word, firsts-above, firsts-climb}
+use Rattle.blocks.proofs.BlockFacts.{Blocks, Blank, blocks-told, blank-word, firsts-above, firsts-climb}
 use Rattle.table.specs.IsImage.{isImage}
 use Rattle.table.proofs.ImageTests.{Parts, image-parts, fits-told}
-use Rattle.table.proofs.RowFacts.{AllRows, rows-told, row-told}
+use Rattle.table.proofs.RowFacts.{AllRows, blank-told, rows-told, row-told}
 
-module _ (t : List ℕ) (p : Parts t) (w : Blocks t) (rs : AllRows t) where
+module _ (t : List ℕ) (p : Parts t) (w : Blocks t) (blank : Blank t) (rs : AllRows t) where
   begins : (i : ℕ) → i < countOf t → firstOf t i 0 ≡ endBefore t i
   begins i h = w .firsts i h .begin
 
@@ -38,7 +38,7 @@ module _ (t : List ℕ) (p : Parts t) (w : Blocks t) (rs : AllRows t) where
     next = λ i h. begins (suc i) h;
     up = λ i s h q. w .firsts i h .order s q;
     above = λ i s h q. firsts-above t i (w .firsts i h) s q;
-    blocks = λ i k q. blank-word t w i k q;
+    blocks = λ i k q. blank-word t blank i k q;
     rows = tail-word;
   }
 
@@ -90,4 +90,4 @@ module _ (t : List ℕ) (p : Parts t) (w : Blocks t) (rs : AllRows t) where
   tests-image = laid-image t laid well
 
 pub recognised-image : (t : List ℕ) → isImage t ≡ true → Image t
-recognised-image t e = let p = image-parts t e in tests-image t p (blocks-told t (p .blocks)) (rows-told t (p .rows))
+recognised-image t e = let p = image-parts t e in tests-image t p (blocks-told t (p .blocks)) (blank-told t (p .rest)) (rows-told t (p .rows) (p .rest))

@@ -15,10 +15,11 @@ use Rattle.sets.specs.Members.{wordBits}
 use Rattle.iosa.specs.Text.{textOf}
 use Rattle.layout.specs.Layout.{imageWords}
 use Rattle.layout.specs.Image.{modelOf, Sane}
-use Rattle.blocks.specs.Blocks.{blocksRight}
-use Rattle.blocks.proofs.BlockFacts.{blocks-told, blocks-sane}
-use Rattle.table.specs.Rows.{rowsRight}
+use Rattle.blocks.specs.Blocks.{blocksRight, Bounded}
+use Rattle.blocks.proofs.BlockFacts.{blocks-told, blocks-bounded, bounded-sane}
+use Rattle.table.specs.Rows.{rowsRight, restZero}
 use Rattle.table.specs.IsImage.{wordsFit, isImage}
+use Rattle.table.proofs.RowFacts.{blank-told}
 
 module _ (t : List ℕ) where
   pub fits-told : wordsFit t ≡ true → (k : ℕ) → k < imageWords → getD t k 0 < 2 ^ wordBits
@@ -34,6 +35,7 @@ module _ (t : List ℕ) where
     pub fit : wordsFit t ≡ true
     pub blocks : blocksRight t ≡ true
     pub rows : rowsRight t ≡ true
+    pub rest : restZero t ≡ true
     pub bytes : length (textOf (modelOf t)) ≤ maxBytes
 
   pub image-parts : isImage t ≡ true → Parts
@@ -43,17 +45,21 @@ module _ (t : List ℕ) where
       let q = both-true (wordsFit t) _ (p .1) in
       let r = both-true (blocksRight t) _ (q .1) in
       let s = both-true (rowsRight t) _ (r .1) in
-      record { long = leb-true imageWords (length t) (p .0); fit = q .0; blocks = r .0; rows = s .0; bytes = leb-true (length (textOf (modelOf t))) maxBytes (s .1) }
+      let z = both-true (restZero t) _ (s .1) in
+      record { long = leb-true imageWords (length t) (p .0); fit = q .0; blocks = r .0; rows = s .0; rest = z .0; bytes = leb-true (length (textOf (modelOf t))) maxBytes (z .1) }
 
   pub parts-image : Parts → isImage t ≡ true
   unfolding isImage
   parts-image p =
       true-both _ _ (le-leb imageWords (length t) (p .long))
-      (true-both _ _ (p .fit) (true-both _ _ (p .blocks) (true-both _ _ (p .rows) (le-leb (length (textOf (modelOf t))) maxBytes (p .bytes)))))
+      (true-both _ _ (p .fit) (true-both _ _ (p .blocks) (true-both _ _ (p .rows) (true-both _ _ (p .rest) (le-leb (length (textOf (modelOf t))) maxBytes (p .bytes))))))
 
-  -- the code below the recogniser may count on an image's ranges
-  pub sane-blocks : imageWords ≤ length t → blocksRight t ≡ true → Sane t
-  sane-blocks long e = blocks-sane t (blocks-told t e) long
+  -- what the tests of rows may count on, and the code below the recogniser
+  pub bounded : imageWords ≤ length t → blocksRight t ≡ true → Bounded t
+  bounded long e = blocks-bounded t (blocks-told t e) long
+
+  pub sane : imageWords ≤ length t → blocksRight t ≡ true → restZero t ≡ true → Sane t
+  sane long e f = bounded-sane t (blank-told t f) (bounded long e)
 
   -- ---- as the code answers
   pub too-short : length t < imageWords → false ≡ isImage t
@@ -72,6 +78,10 @@ module _ (t : List ℕ) where
     unfolding isImage
     rows-wrong e f = sym (rest ∙ both-go _ _ e ∙ both-no _ _ f)
 
-    pub by-length : blocksRight t ≡ true → rowsRight t ≡ true → leb (length (textOf (modelOf t))) maxBytes ≡ isImage t
+    pub rest-wrong : blocksRight t ≡ true → rowsRight t ≡ true → restZero t ≡ false → false ≡ isImage t
     unfolding isImage
-    by-length e f = sym (rest ∙ both-go _ _ e ∙ both-go _ _ f)
+    rest-wrong e f g = sym (rest ∙ both-go _ _ e ∙ both-go _ _ f ∙ both-no _ _ g)
+
+    pub by-length : blocksRight t ≡ true → rowsRight t ≡ true → restZero t ≡ true → leb (length (textOf (modelOf t))) maxBytes ≡ isImage t
+    unfolding isImage
+    by-length e f g = sym (rest ∙ both-go _ _ e ∙ both-go _ _ f ∙ both-go _ _ g)

@@ -13,11 +13,11 @@ use Rattle.laws.proofs.FoldLaws.{all-true, true-all}
 use Rattle.laws.proofs.TestLaws.{both-true, true-both}
 use Rattle.iosa.specs.Model.{acts, guardSet}
 use Rattle.iosa.specs.WellFormed.{before, WellRow}
-use Rattle.layout.specs.Layout.{rowWords, rowsAt, imageWords, countOf, blockWord, firstOf, actionAt, guardAt, resetsAt, targetAt}
+use Rattle.layout.specs.Layout.{blockWords, rowWords, rowsAt, imageWords, countOf, blockWord, firstOf, actionAt, guardAt, resetsAt, targetAt}
 use Rattle.layout.specs.Image.{rowIn, compOf}
 use Rattle.blocks.specs.Blocks.{zeroWords, endBefore}
-use Rattle.blocks.proofs.BlockFacts.{zeros-told, zeros-so}
-use Rattle.table.specs.Rows.{rowRight, climbs, stateClimbs, compRowsRight, rowsRight}
+use Rattle.blocks.proofs.BlockFacts.{zeros-told, zeros-so, Blank}
+use Rattle.table.specs.Rows.{rowRight, climbs, stateClimbs, compRowsRight, rowsRight, restZero}
 
 module _ (t : List ℕ) (i : ℕ) where
   -- a row of component i
@@ -69,17 +69,23 @@ module _ (t : List ℕ) where
     pub comps : (i : ℕ) → i < countOf t → CompRows t i
     pub tail : (k : ℕ) → rowsAt + rowWords * endBefore t (countOf t) ≤ k → k < imageWords → getD t k 0 ≡ 0
 
-  pub rows-told : rowsRight t ≡ true → AllRows
-  unfolding rowsRight
-  rows-told e =
-      let p = both-true (all (compRowsRight t) 0 (countOf t)) (zeroWords t (rowsAt + rowWords * endBefore t (countOf t)) imageWords) e in
+  pub blank-told : restZero t ≡ true → Blank t
+  unfolding restZero
+  blank-told e = zeros-told t (1 + blockWords * countOf t) rowsAt (both-true (zeroWords t (1 + blockWords * countOf t) rowsAt) _ e .0)
+
+  pub rows-told : rowsRight t ≡ true → restZero t ≡ true → AllRows
+  unfolding rowsRight restZero
+  rows-told e f =
       record {
-        comps = λ i h. comp-rows-told t i (all-true (compRowsRight t) 0 (countOf t) (p .0) i (omega arith) h);
-        tail = zeros-told t (rowsAt + rowWords * endBefore t (countOf t)) imageWords (p .1);
+        comps = λ i h. comp-rows-told t i (all-true (compRowsRight t) 0 (countOf t) e i (omega arith) h);
+        tail = zeros-told t (rowsAt + rowWords * endBefore t (countOf t)) imageWords (both-true (zeroWords t (1 + blockWords * countOf t) rowsAt) _ f .1);
       }
 
   pub rows-so : AllRows → rowsRight t ≡ true
   unfolding rowsRight
-  rows-so w =
-      true-both _ _ (true-all (compRowsRight t) 0 (countOf t) (λ i p h. comp-rows-so t i (w .comps i h)))
-      (zeros-so t (rowsAt + rowWords * endBefore t (countOf t)) imageWords (w .tail))
+  rows-so w = true-all (compRowsRight t) 0 (countOf t) (λ i p h. comp-rows-so t i (w .comps i h))
+
+  pub rest-so : Blank t → AllRows → restZero t ≡ true
+  unfolding restZero
+  rest-so blank w =
+      true-both _ _ (zeros-so t (1 + blockWords * countOf t) rowsAt blank) (zeros-so t (rowsAt + rowWords * endBefore t (countOf t)) imageWords (w .tail))

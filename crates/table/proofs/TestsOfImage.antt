@@ -20,10 +20,10 @@ use Rattle.layout.proofs.ImageIsSane.{acts-below, guard-below, image-is-sane}
 use Rattle.layout.proofs.ImageIsLaid.{image-is-laid}
 use Rattle.layout.proofs.FrontByWords.{image-holds, row-of}
 use Rattle.blocks.specs.Blocks.{endBefore, firstPlace}
-use Rattle.blocks.proofs.BlockFacts.{Blocks, Firsts, blocks-so}
+use Rattle.blocks.proofs.BlockFacts.{Blocks, Blank, Firsts, blocks-so}
 use Rattle.table.specs.IsImage.{isImage}
 use Rattle.table.proofs.ImageTests.{parts-image, fits-so}
-use Rattle.table.proofs.RowFacts.{isRow, AllRows, row-so, rows-so}
+use Rattle.table.proofs.RowFacts.{isRow, AllRows, row-so, rows-so, rest-so}
 
 -- the words of a row that its component has
 row-fits : (c : Comp) → WellComp c → (r : Row) → WellRow c r → (v : ℕ) → v < rowWords → getD (wordsOf r) v 0 < 2 ^ wordBits
@@ -106,7 +106,7 @@ module _ (t : List ℕ) (im : Image t) where
   }
 
   blocks : Blocks t
-  unfolding compOf blockWord sane l
+  unfolding compOf sane
   blocks = record {
     some = count-some t im;
     count = sane .count;
@@ -123,11 +123,14 @@ module _ (t : List ℕ) (im : Image t) where
           started = w .started;
         };
     firsts = firsts;
-    blank = λ k p q.
-        let j = k - 1 in
-        let e : k ≡ 1 + blockWords * (j / blockWords) + j % blockWords = omega arith in
-        rw e (l .blocks (j / blockWords) (j % blockWords) (omega arith) (omega arith) (omega arith));
   }
+
+  blank : Blank t
+  unfolding blockWord l
+  blank k p q =
+      let j = k - 1 in
+      let e : k ≡ 1 + blockWords * (j / blockWords) + j % blockWords = omega arith in
+      rw e (l .blocks (j / blockWords) (j % blockWords) (omega arith) (omega arith) (omega arith))
 
   -- ---- the rows
   each-row : (i r : ℕ) → i < countOf t → firstOf t i 0 ≤ r → r < firstOf t i (blockWord t i 0) → isRow t i r ≡ true
@@ -161,4 +164,4 @@ module _ (t : List ℕ) (im : Image t) where
 
   pub image-recognised : isImage t ≡ true
   unfolding sane
-  image-recognised = parts-image t (record { long = sane .long; fit = fits-so t words-fit; blocks = blocks-so t blocks; rows = rows-so t rows; bytes = well-formed t im .bytes })
+  image-recognised = parts-image t (record { long = sane .long; fit = fits-so t words-fit; blocks = blocks-so t blocks; rows = rows-so t rows; rest = rest-so t blank rows; bytes = well-formed t im .bytes })

@@ -12,12 +12,12 @@ use Rattle.iosa.specs.Text.{textOf}
 use Rattle.layout.specs.Layout.{imageWords}
 use Rattle.layout.specs.Image.{modelOf}
 use Rattle.blocks.specs.Blocks.{blocksRight}
-use Rattle.table.specs.Rows.{rowsRight}
+use Rattle.table.specs.Rows.{rowsRight, restZero}
 
 -- "64-bit words": so of every lent buffer, though not of every list of numbers
 unfoldable pub wordsFit : List ℕ → Bool
 wordsFit t = all (λ k. ltb (getD t k 0) (2 ^ wordBits)) 0 imageWords
 
--- long enough, blocks and rows as they should be, and "a text of at most 32,768 bytes"
+-- long enough, blocks and rows as they should be, the rest zero, and "a text of at most 32,768 bytes"
 unfoldable pub isImage : List ℕ → Bool
-isImage t = both (leb imageWords (length t)) (both (wordsFit t) (both (blocksRight t) (both (rowsRight t) (leb (length (textOf (modelOf t))) maxBytes))))
+isImage t = both (leb imageWords (length t)) (both (wordsFit t) (both (blocksRight t) (both (rowsRight t) (both (restZero t) (leb (length (textOf (modelOf t))) maxBytes)))))

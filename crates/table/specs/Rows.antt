@@ -8,7 +8,7 @@ use Rattle.laws.specs.Fold.{all}
 use Rattle.laws.specs.Tests.{both}
 use Rattle.iosa.specs.Model.{acts, guardSet}
 use Rattle.iosa.specs.WellFormed.{before}
-use Rattle.layout.specs.Layout.{rowWords, rowsAt, imageWords, countOf, blockWord, firstOf, actionAt, guardAt, resetsAt, targetAt}
+use Rattle.layout.specs.Layout.{blockWords, rowWords, rowsAt, imageWords, countOf, blockWord, firstOf, actionAt, guardAt, resetsAt, targetAt}
 use Rattle.layout.specs.Image.{rowIn, compOf}
 use Rattle.blocks.specs.Blocks.{zeroWords, endBefore}
 
@@ -31,6 +31,10 @@ compRowsRight t i =
     both (all (rowRight t (acts (compOf t i)) (blockWord t i 6) (blockWord t i 0)) (firstOf t i 0) (firstOf t i (blockWord t i 0)))
     (all (stateClimbs t i) 0 (blockWord t i 0))
 
--- the rows of each component, and "Rows from the last component's first[states] on are zero"
+-- the rows of each component
 unfoldable pub rowsRight : List ℕ → Bool
-rowsRight t = both (all (compRowsRight t) 0 (countOf t)) (zeroWords t (rowsAt + rowWords * endBefore t (countOf t)) imageWords)
+rowsRight t = all (compRowsRight t) 0 (countOf t)
+
+-- "blocks of components that the model does not have are zero throughout"; "Rows from the last component's first[states] on are zero"
+unfoldable pub restZero : List ℕ → Bool
+restZero t = both (zeroWords t (1 + blockWords * countOf t) rowsAt) (zeroWords t (rowsAt + rowWords * endBefore t (countOf t)) imageWords)

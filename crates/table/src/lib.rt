@@ -5,12 +5,12 @@ ghost use Prim.Native.Nat.{ℕ, _+_, _-_, _≤_, _<_};
 ghost use lib.ListN.{length};
 ghost use Rattle.laws.specs.Sets.{within};
 ghost use Rattle.laws.specs.Fold.{all};
-ghost use Rattle.answer.specs.Limits.{maxComponents, maxRows};
+ghost use Rattle.answer.specs.Limits.{maxRows};
 ghost use Rattle.iosa.specs.Model.{acts, guardSet};
-ghost use Rattle.layout.specs.Layout.{imageWords, blockWord};
-ghost use Rattle.layout.specs.Image.{compOf, Sane};
-ghost use Rattle.blocks.specs.Blocks.{endBefore};
-ghost use Rattle.table.specs.Rows.{rowRight, climbs, stateClimbs, compRowsRight, rowsRight};
+ghost use Rattle.layout.specs.Layout.{imageWords, countOf, blockWord};
+ghost use Rattle.layout.specs.Image.{compOf};
+ghost use Rattle.blocks.specs.Blocks.{endBefore, Bounded};
+ghost use Rattle.table.specs.Rows.{rowRight, climbs, stateClimbs, compRowsRight, rowsRight, restZero};
 ghost use Rattle.table.specs.IsImage.{isImage};
 
 // A guard is `-`, or a clock of the set.
@@ -99,7 +99,7 @@ fn range_climbs(t: &[u64], lo: usize, hi: usize) -> bool
 
 // The rows of component i, state by state.
 fn states_climb(t: &[u64], i: usize) -> bool
-    requires { ⌜ Sane (now t) × (i < maxComponents) ⌝ }
+    requires { ⌜ Bounded (now t) × (i < countOf (now t)) ⌝ }
     ensures { λ w. ⌜ w ≡ all (stateClimbs (now (t .entry)) i) 0 (blockWord (now (t .entry)) i 0) ⌝ }
 {
     let states = layout::block_word(t, i, layout::STATES) as usize;
@@ -114,7 +114,7 @@ fn states_climb(t: &[u64], i: usize) -> bool
 }
 
 fn comp_rows_right(t: &[u64], i: usize) -> bool
-    requires { ⌜ Sane (now t) × (i < maxComponents) ⌝ }
+    requires { ⌜ Bounded (now t) × (i < countOf (now t)) ⌝ }
     ensures { λ w. ⌜ w ≡ compRowsRight (now (t .entry)) i ⌝ }
 {
     let states = layout::block_word(t, i, layout::STATES);
@@ -129,10 +129,11 @@ fn comp_rows_right(t: &[u64], i: usize) -> bool
     }
 }
 
-fn comps_rows_right(t: &[u64], count: usize) -> bool
-    requires { ⌜ Sane (now t) × (count ≤ maxComponents) ⌝ }
-    ensures { λ w. ⌜ w ≡ all (compRowsRight (now (t .entry))) 0 count ⌝ }
+fn rows_right(t: &[u64]) -> bool
+    requires { ⌜ Bounded (now t) ⌝ }
+    ensures { λ w. ⌜ w ≡ rowsRight (now (t .entry)) ⌝ }
 {
+    let count = layout::count_of(t) as usize;
     for i in 0..count {
         if !comp_rows_right(t, i) {
             return false;
@@ -143,7 +144,7 @@ fn comps_rows_right(t: &[u64], count: usize) -> bool
 
 // Where the rows of the components below i end.
 fn end_before(t: &[u64], i: usize) -> usize
-    requires { ⌜ Sane (now t) × (i ≤ maxComponents) ⌝ }
+    requires { ⌜ Bounded (now t) × (i ≤ countOf (now t)) ⌝ }
     ensures { λ n. ⌜ n ≡ endBefore (now (t .entry)) i ⌝ }
 {
     if i == 0 {
@@ -154,19 +155,20 @@ fn end_before(t: &[u64], i: usize) -> usize
     }
 }
 
-fn rows_right(t: &[u64]) -> bool
-    requires { ⌜ Sane (now t) ⌝ }
-    ensures { λ w. ⌜ w ≡ rowsRight (now (t .entry)) ⌝ }
+// The blocks and rows that the model does not use.
+fn rest_zero(t: &[u64]) -> bool
+    requires { ⌜ Bounded (now t) ⌝ }
+    ensures { λ w. ⌜ w ≡ restZero (now (t .entry)) ⌝ }
 {
     let count = layout::count_of(t) as usize;
-    if !comps_rows_right(t, count) {
+    if !blocks::zero_words(t, 1 + layout::BLOCK * count, layout::ROWS_AT) {
         return false;
     }
     let end = end_before(t, count);
     blocks::zero_words(t, layout::ROWS_AT + layout::ROW * end, layout::WORDS)
 }
 
-// Whether the front of the table is an image: the first step of every call on a table.
+// Whether the front of the table is an image: the first step of every call on a table. The longest walk, over the words that should be zero, comes late.
 pub fn recognise(table: &[u64]) -> bool
     ensures { λ w. ⌜ w ≡ isImage (now (table .entry)) ⌝ }
 {
@@ -177,6 +179,9 @@ pub fn recognise(table: &[u64]) -> bool
         return false;
     }
     if !rows_right(table) {
+        return false;
+    }
+    if !rest_zero(table) {
         return false;
     }
     measure::text_length(table) <= Model::BYTES

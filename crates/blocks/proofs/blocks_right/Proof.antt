@@ -1,13 +1,12 @@
 -- `blocks::blocks_right`: test by test.
 use mathlib.Core.Path.{sym, _∙_, ap}
-use Prim.Native.Nat.{_+_, _*_}
 use native.Mathlib.Omega.{arith}
 use borrow.Author.Tests.{le-leb, lt-leb, not-false}
 use Rattle.laws.specs.Fold.{all}
 use Rattle.laws.proofs.TestLaws.{both-no, both-go}
 use Rattle.answer.specs.Limits.{maxComponents}
-use Rattle.layout.specs.Layout.{blockWords, rowsAt, countOf}
-use Rattle.blocks.specs.Blocks.{zeroWords, headRight, firstsRight, blocksRight}
+use Rattle.layout.specs.Layout.{countOf}
+use Rattle.blocks.specs.Blocks.{headRight, firstsRight, blocksRight}
 use Rattle.blocks.proofs.BlockFacts.{heads-states}
 use borrow.Author.Needs.{needs}
 use Rattle.blocks.proofs.CodeTests.{passed, failed}
@@ -53,41 +52,15 @@ all-firsts-right-requires c κs =
 returns-4 : tie.Need-returns-4
 unfolding blocksRight
 returns-4 c =
-    let args = c .before .before .before .before .before .before .before .before .args in
-    let count-of = c .before .before .before .before .before .before .count-of in
-    let heads-right = c .before .before .before .heads-right in
-    let if3 = c .before .before .if3 in
-    let all-firsts-right = c .before .all-firsts-right in
+    let args = c .before .before .before .before .before .before .before .args in
+    let count-of = c .before .before .before .before .before .count-of in
+    let heads-right = c .before .before .heads-right in
     let t = args .t .now in
-    sym (both-go _ _ (le-leb 1 (countOf t) (omega arith))
-    ∙ both-go _ _ (le-leb (countOf t) maxComponents (omega arith))
-    ∙ passed (heads-right .result) (heads-right .ensures ∙ ap (all (headRight t) 0) (count-of .ensures)) (if3 .left)
-    ∙ failed (all-firsts-right .result) _ (all-firsts-right .ensures ∙ ap (all (firstsRight t) 0) (count-of .ensures)) (c .if4 .taken))
-
-mul-zero-words : tie.Need-mul-zero-words
-mul-zero-words c = search needs
-
-add-zero-words : tie.Need-add-zero-words
-add-zero-words c = search needs
-
-zero-words-requires : tie.Need-zero-words-requires
-zero-words-requires c κs = search needs
-
-returns-5 : tie.Need-returns-5
-unfolding blocksRight
-returns-5 c =
-    let args = c .before .before .before .before .before .before .before .before .before .args in
-    let count-of = c .before .before .before .before .before .before .before .count-of in
-    let heads-right = c .before .before .before .before .heads-right in
-    let if3 = c .before .before .before .if3 in
-    let all-firsts-right = c .before .before .all-firsts-right in
-    let t = args .t .now in
-    c .zero-words .ensures
-    ∙ ap (λ n. zeroWords t (1 + blockWords * n) rowsAt) (count-of .ensures)
+    c .all-firsts-right .ensures
+    ∙ ap (all (firstsRight t) 0) (count-of .ensures)
     ∙ sym (both-go _ _ (le-leb 1 (countOf t) (omega arith))
     ∙ both-go _ _ (le-leb (countOf t) maxComponents (omega arith))
-    ∙ passed (heads-right .result) (heads-right .ensures ∙ ap (all (headRight t) 0) (count-of .ensures)) (if3 .left)
-    ∙ passed (all-firsts-right .result) (all-firsts-right .ensures ∙ ap (all (firstsRight t) 0) (count-of .ensures)) (c .before .if4 .left))
+    ∙ passed (heads-right .result) (heads-right .ensures ∙ ap (all (headRight t) 0) (count-of .ensures)) (c .before .if3 .left))
 
 pub blocks-right-spec : {M : Type 1} → statement M
 blocks-right-spec =
@@ -99,8 +72,4 @@ blocks-right-spec =
     heads-right-requires
     returns-3
     all-firsts-right-requires
-    returns-4
-    mul-zero-words
-    add-zero-words
-    zero-words-requires
-    returns-5)
+    returns-4)

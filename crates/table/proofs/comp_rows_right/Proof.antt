@@ -18,22 +18,22 @@ rows-are : (t : List ℕ) (i a x n lo hi : ℕ) → a ≡ acts (compOf t i) → 
 rows-are t i a x n lo hi p q r u v = rw (p, q, u, v, r)
 
 block-word-requires : tie.Need-block-word-requires
-block-word-requires c κs = search needs
+block-word-requires c κs = let the-pre = c .before .pre in (the-pre .0 .long, omega (arith, the-pre .1, the-pre .0 .count), omega arith)
 
 block-word-requires-2 : tie.Need-block-word-requires-2
-block-word-requires-2 c κs = search needs
+block-word-requires-2 c κs = let the-pre = c .before .before .pre in (the-pre .0 .long, omega (arith, the-pre .1, the-pre .0 .count), omega arith)
 
 acts-of-requires : tie.Need-acts-of-requires
-acts-of-requires c κs = search needs
+acts-of-requires c κs = let the-pre = c .before .before .before .pre in (the-pre .0 .long, omega (arith, the-pre .1, the-pre .0 .count))
 
 first-of-requires : tie.Need-first-of-requires
-first-of-requires c κs = search needs
+first-of-requires c κs = let the-pre = c .before .before .before .before .pre in (the-pre .0 .long, omega (arith, the-pre .1, the-pre .0 .count), omega arith)
 
 first-of-requires-2 : tie.Need-first-of-requires-2
 first-of-requires-2 c κs =
     let the-pre = c .before .before .before .before .before .pre in
     let args = c .before .before .before .before .before .args in
-    (the-pre .0 .long, the-pre .1, omega (arith, the-pre .0 .states (args .i) (the-pre .1)))
+    (the-pre .0 .long, omega (arith, the-pre .1, the-pre .0 .count), omega (arith, the-pre .0 .states (args .i) (the-pre .1)))
 
 range-right-requires : tie.Need-range-right-requires
 range-right-requires c κs =

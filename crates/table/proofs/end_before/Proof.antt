@@ -18,13 +18,15 @@ sub-block-word : tie.Need-sub-block-word
 sub-block-word c = search needs
 
 block-word-requires : tie.Need-block-word-requires
-block-word-requires c κs = search needs
+block-word-requires c κs = let the-pre = c .before .before .pre in (the-pre .0 .long, omega (arith, the-pre .1, the-pre .0 .count), omega arith)
 
 sub-first-of : tie.Need-sub-first-of
 sub-first-of c = search needs
 
 first-of-requires : tie.Need-first-of-requires
-first-of-requires c κs = (c .before .before .before .pre .0 .long, omega arith, omega (arith, c .before .before .before .pre .0 .states (c .before .before .before .args .i - 1) (omega arith)))
+first-of-requires c κs =
+    let the-pre = c .before .before .before .pre in
+    (the-pre .0 .long, omega (arith, the-pre .1, the-pre .0 .count), omega (arith, the-pre .0 .states (c .before .before .before .args .i - 1) (omega arith)))
 
 returns : tie.Need-returns
 unfolding endBefore

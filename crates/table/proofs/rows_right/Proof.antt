@@ -1,74 +1,73 @@
--- `table::rows_right`: the components' rows, then the rest.
-use mathlib.Core.Path.{sym, _∙_, ap}
-use Prim.Native.Nat.{_+_, _*_}
+-- `table::rows_right`: what is left to test answers for the whole.
+use mathlib.Core.Path.{_≡_, sym, _∙_, ap}
+use Prim.Native.Nat.{_-_}
 use native.Mathlib.Omega.{arith}
-use Rattle.laws.specs.Fold.{all}
-use Rattle.layout.specs.Layout.{rowWords, rowsAt, imageWords, countOf}
-use Rattle.blocks.specs.Blocks.{zeroWords, endBefore}
-use Rattle.blocks.proofs.BlockFacts.{end-few}
-use Rattle.table.specs.Rows.{compRowsRight, rowsRight}
 use borrow.Author.Needs.{needs}
-use Rattle.blocks.proofs.CodeTests.{passed, failed}
+use borrow.Author.Tests.{not-true, not-false}
+use Rattle.laws.specs.Fold.{all}
+use Rattle.laws.proofs.FoldLaws.{all-fails, all-goes-on, all-passed}
+use Rattle.table.specs.Rows.{compRowsRight, rowsRight}
 use Rattle.table.proofs.rows_right.Statement.{statement}
 use Rattle.table.proofs.rows_right.Tie as tie
 
-count-of-requires : tie.Need-count-of-requires
+abbrev Inv-loop : tie.InvT-loop
+Inv-loop t count i₀ i = all (compRowsRight t) i count ≡ rowsRight t
+
+abbrev μ-loop : tie.MeasureT-loop
+μ-loop t count i₀ i = count - i
+
+count-of-requires : tie.Need-count-of-requires Inv-loop μ-loop
 count-of-requires c κs = search needs
 
-comps-rows-right-requires : tie.Need-comps-rows-right-requires
-comps-rows-right-requires c κs = (c .before .before .pre, omega (arith, c .before .before .pre .count))
-
-returns : tie.Need-returns
+loop-holds : tie.Need-loop-holds Inv-loop μ-loop
 unfolding rowsRight
+loop-holds c = ap (all (compRowsRight (c .before .before .args .t .now)) 0) (c .count-of .ensures)
+
+comp-rows-right-requires : tie.Need-comp-rows-right-requires Inv-loop μ-loop
+comp-rows-right-requires c κs = (c .before .before .before .before .pre, omega (arith, c .before .before .count-of .ensures))
+
+returns : tie.Need-returns Inv-loop μ-loop
 returns c =
-    let args = c .before .before .before .before .args in
-    let count-of = c .before .before .count-of in
-    let comps-rows-right = c .before .comps-rows-right in
-    sym (failed (comps-rows-right .result) _ (comps-rows-right .ensures ∙ ap (all (compRowsRight (args .t .now)) 0) (count-of .ensures)) (c .if1 .taken))
-
-end-before-requires : tie.Need-end-before-requires
-end-before-requires c κs = search needs
-
-mul-zero-words : tie.Need-mul-zero-words
-mul-zero-words c =
-    let args = c .before .before .before .before .before .args in
-    let the-pre = c .before .before .before .before .before .pre in
-    let count-of = c .before .before .before .count-of in
-    let t = args .t .now in
-    omega (arith, end-few t (the-pre) (countOf t) (the-pre .count), ap (endBefore t) (count-of .ensures))
-
-add-zero-words : tie.Need-add-zero-words
-add-zero-words c =
-    let args = c .before .before .before .before .before .args in
-    let the-pre = c .before .before .before .before .before .pre in
-    let count-of = c .before .before .before .count-of in
-    let t = args .t .now in
-    omega (arith, end-few t (the-pre) (countOf t) (the-pre .count), ap (endBefore t) (count-of .ensures))
-
-zero-words-requires : tie.Need-zero-words-requires
-zero-words-requires c κs = search needs
-
-returns-2 : tie.Need-returns-2
-unfolding rowsRight
-returns-2 c =
     let args = c .before .before .before .before .before .before .args in
     let count-of = c .before .before .before .before .count-of in
-    let comps-rows-right = c .before .before .before .comps-rows-right in
-    let if1 = c .before .before .if1 in
-    let t = args .t .now in
-    c .zero-words .ensures
-    ∙ ap (λ n. zeroWords t (rowsAt + rowWords * n) imageWords) (c .before .end-before .ensures ∙ ap (endBefore t) (count-of .ensures))
-    ∙ sym (passed (comps-rows-right .result) (comps-rows-right .ensures ∙ ap (all (compRowsRight t) 0) (count-of .ensures)) (if1 .left))
+    let loop = c .before .before .before .loop in
+    let loop-test = c .before .before .loop-test in
+    let comp-rows-right = c .before .comp-rows-right in
+    all-fails (compRowsRight (args .t .now)) (loop .i) (count-of .result) (loop .inv) (loop-test .taken) (sym (comp-rows-right .ensures) ∙ not-true (comp-rows-right .result) (c .if1 .taken))
+
+add-i : tie.Need-add-i Inv-loop μ-loop
+add-i c = omega arith
+
+loop-less : tie.Need-loop-less Inv-loop μ-loop
+loop-less c = omega arith
+
+loop-again : tie.Need-loop-again Inv-loop μ-loop
+loop-again c =
+    let args = c .before .before .before .before .before .before .args in
+    let count-of = c .before .before .before .before .count-of in
+    let loop = c .before .before .before .loop in
+    let loop-test = c .before .before .loop-test in
+    let comp-rows-right = c .before .comp-rows-right in
+    all-goes-on (compRowsRight (args .t .now)) (loop .i) (count-of .result) (loop .inv) (loop-test .taken) (sym (comp-rows-right .ensures) ∙ not-false (comp-rows-right .result) (c .if1 .left))
+
+returns-2 : tie.Need-returns-2 Inv-loop μ-loop
+returns-2 c =
+    let args = c .before .before .before .before .args in
+    let count-of = c .before .before .count-of in
+    let loop = c .before .loop in
+    all-passed (compRowsRight (args .t .now)) (loop .i) (count-of .result) (loop .inv) (c .loop-test .left)
 
 pub rows-right-spec : {M : Type 1} → statement M
 rows-right-spec =
     tie.close
     (tie.spec
+    Inv-loop
+    μ-loop
     count-of-requires
-    comps-rows-right-requires
+    loop-holds
+    comp-rows-right-requires
     returns
-    end-before-requires
-    mul-zero-words
-    add-zero-words
-    zero-words-requires
+    add-i
+    loop-less
+    loop-again
     returns-2)

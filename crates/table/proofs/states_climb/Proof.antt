@@ -23,7 +23,7 @@ abbrev μ-loop : tie.MeasureT-loop
 μ-loop t i states s₀ s = states - s
 
 block-word-requires : tie.Need-block-word-requires Inv-loop μ-loop
-block-word-requires c κs = (c .before .pre .0 .long, c .before .pre .1, omega arith)
+block-word-requires c κs = (c .before .pre .0 .long, omega (arith, c .before .pre .1, c .before .pre .0 .count), omega arith)
 
 loop-holds : tie.Need-loop-holds Inv-loop μ-loop
 loop-holds c = ap (all (stateClimbs (c .before .before .args .t .now) (c .before .before .args .i)) 0) (c .block-word .ensures)
@@ -32,7 +32,7 @@ first-of-requires : tie.Need-first-of-requires Inv-loop μ-loop
 first-of-requires c κs =
     let the-pre = c .before .before .before .before .pre in
     let args = c .before .before .before .before .args in
-    (the-pre .0 .long, the-pre .1, omega (arith, the-pre .0 .states (args .i) (the-pre .1)))
+    (the-pre .0 .long, omega (arith, the-pre .1, the-pre .0 .count), omega (arith, the-pre .0 .states (args .i) (the-pre .1)))
 
 add-first-of : tie.Need-add-first-of Inv-loop μ-loop
 add-first-of c = omega arith
@@ -41,7 +41,7 @@ first-of-requires-2 : tie.Need-first-of-requires-2 Inv-loop μ-loop
 first-of-requires-2 c κs =
     let the-pre = c .before .before .before .before .before .pre in
     let args = c .before .before .before .before .before .args in
-    (the-pre .0 .long, the-pre .1, omega (arith, the-pre .0 .states (args .i) (the-pre .1)))
+    (the-pre .0 .long, omega (arith, the-pre .1, the-pre .0 .count), omega (arith, the-pre .0 .states (args .i) (the-pre .1)))
 
 range-climbs-requires : tie.Need-range-climbs-requires Inv-loop μ-loop
 range-climbs-requires c κs =
