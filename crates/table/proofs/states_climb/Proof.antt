@@ -1,5 +1,6 @@
 -- `table::states_climb`: what is left to test answers for the whole.
 use mathlib.Core.Path.{_≡_, sym, _∙_, ap}
+use mathlib.Core.Bool.{Bool}
 use mathlib.Core.List.{List}
 use Prim.Native.Nat.{ℕ, _+_, _-_}
 use native.Mathlib.Numerals.{add-one}
@@ -52,19 +53,26 @@ range-climbs-requires c κs =
     let s = loop .s in
     (the-pre .0 .long, omega (arith, the-pre .0 .firsts i s (the-pre .1) (omega (arith, the-pre .0 .states i (the-pre .1)))), omega (arith, the-pre .0 .firsts i (s + 1) (the-pre .1) (omega (arith, the-pre .0 .states i (the-pre .1)))))
 
+-- a state is tested: what the loop knew before it, and the test
+module _ (c : tie.After-range-climbs Inv-loop μ-loop) where
+  abbrev climbing : ℕ → Bool
+  climbing = stateClimbs (c .before .before .before .before .before .before .before .args .t .now) (c .before .before .before .before .before .before .before .args .i)
+
+  abbrev state : ℕ
+  state = c .before .before .before .before .loop .s
+
+  tested : c .range-climbs .result ≡ climbing state
+  tested =
+      let args = c .before .before .before .before .before .before .before .args in
+      let lo = c .before .before .first-of in
+      let hi = c .before .first-of2 in
+      c .range-climbs .ensures state ∙ sym (climb-is (args .t .now) (args .i) state (lo .result) (hi .result) (lo .ensures) (hi .ensures))
+
 returns : tie.Need-returns Inv-loop μ-loop
 returns c =
-    let args = c .before .before .before .before .before .before .before .before .args in
-    let block-word = c .before .before .before .before .before .before .block-word in
-    let loop = c .before .before .before .before .before .loop in
-    let loop-test = c .before .before .before .before .loop-test in
-    let first-of = c .before .before .before .first-of in
-    let first-of2 = c .before .before .first-of2 in
-    let range-climbs = c .before .range-climbs in
-    let i = args .i in
-    let t = args .t .now in
-    let s = loop .s in
-    all-fails (stateClimbs t i) s (block-word .result) (loop .inv) (loop-test .taken) (climb-is t i s (first-of .result) (first-of2 .result) (first-of .ensures) (first-of2 .ensures) ∙ sym (range-climbs .ensures s) ∙ not-true (range-climbs .result) (c .if1 .taken))
+    let u = c .before in
+    let loop = u .before .before .before .before .loop in
+    all-fails (climbing u) (state u) _ (loop .inv) (u .before .before .before .loop-test .taken) (sym (tested u) ∙ not-true (u .range-climbs .result) (c .if1 .taken))
 
 add-s : tie.Need-add-s Inv-loop μ-loop
 add-s c = omega arith
@@ -74,17 +82,9 @@ loop-less c = omega arith
 
 loop-again : tie.Need-loop-again Inv-loop μ-loop
 loop-again c =
-    let args = c .before .before .before .before .before .before .before .before .args in
-    let block-word = c .before .before .before .before .before .before .block-word in
-    let loop = c .before .before .before .before .before .loop in
-    let loop-test = c .before .before .before .before .loop-test in
-    let first-of = c .before .before .before .first-of in
-    let first-of2 = c .before .before .first-of2 in
-    let range-climbs = c .before .range-climbs in
-    let i = args .i in
-    let t = args .t .now in
-    let s = loop .s in
-    all-goes-on (stateClimbs t i) s (block-word .result) (loop .inv) (loop-test .taken) (climb-is t i s (first-of .result) (first-of2 .result) (first-of .ensures) (first-of2 .ensures) ∙ sym (range-climbs .ensures s) ∙ not-false (range-climbs .result) (c .if1 .left))
+    let u = c .before in
+    let loop = u .before .before .before .before .loop in
+    all-goes-on (climbing u) (state u) _ (loop .inv) (u .before .before .before .loop-test .taken) (sym (tested u) ∙ not-false (u .range-climbs .result) (c .if1 .left))
 
 returns-2 : tie.Need-returns-2 Inv-loop μ-loop
 returns-2 c =
