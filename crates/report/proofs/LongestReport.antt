@@ -3,15 +3,15 @@ use mathlib.Core.Path.{_≡_, refl, _∙_, ap}
 use mathlib.Core.Bool.{false}
 use mathlib.Core.Option.{none, some}
 use mathlib.Core.List.{List, [], _∷_, _++_}
-use Prim.Native.Nat.{ℕ, zero, suc, _+_, _*_, _-_, _^_}
+use Prim.Native.Nat.{ℕ, zero, suc, _+_, _*_}
 use native.Mathlib.Omega.{arith}
 use lib.Bits.{or-self, or-zero-r}
 use lib.ListN.{length, replicate, length-append}
-use Rattle.laws.specs.Sets.{_∪_, only}
+use Rattle.laws.specs.Sets.{_∪_}
 use Rattle.laws.specs.Fold as Fold
-use Rattle.answer.specs.Limits.{maxComponents, maxClocks, maxBudget}
+use Rattle.answer.specs.Limits.{maxBudget}
 use Rattle.answer.specs.Told.{answered}
-use Rattle.iosa.specs.Model.{Comp, Model}
+use Rattle.iosa.specs.Model.{Model}
 use Rattle.iosa.specs.Text.{tab, decimal, textOf}
 use Rattle.iosa.specs.Checks.{confluentOf}
 use Rattle.iosa.specs.Reading.{got, readOf}
@@ -23,40 +23,8 @@ use Rattle.iosa.proofs.Settling.Rule.{lowest-some}
 use Rattle.tell.specs.Tell.{tailOf}
 use Rattle.tell.proofs.TellLaws.{step-parts}
 use Rattle.steplines.specs.Run.{mostBytes}
+use Rattle.report.specs.Longest.{allClocks, loud, still, longestModel, tens, longestRequest, longestInput}
 use Rattle.report.proofs.ReportLaws.{report-model}
-
--- ---- the input: sixteen components in state 10, where action 10 resets all 64 clocks and leads back, and the largest budget
-abbrev allClocks : ℕ
-allClocks = 2 ^ maxClocks - 1
-
-unfoldable pub loud : Comp
-loud =
-    record {
-      states = 11;
-      start = 0;
-      ins = 0;
-      outs = 0;
-      uins = 0;
-      uouts = only 10;
-      clocks = allClocks;
-      started = 0;
-      rows = record { from = 10; guard = 0; action = 10; resets = allClocks; target = 10 } ∷ [];
-    }
-
-unfoldable pub still : Comp
-still = record { states = 11; start = 0; ins = 0; outs = 0; uins = 0; uouts = 0; clocks = 0; started = 0; rows = [] }
-
-unfoldable pub longestModel : Model
-longestModel = loud ∷ replicate (maxComponents - 1) still
-
-abbrev pub tens : List ℕ
-tens = replicate maxComponents 10
-
-abbrev pub longestRequest : Request
-longestRequest = record { state = tens; budget = maxBudget }
-
-unfoldable pub longestInput : List ℕ
-longestInput = requestText longestRequest ++ textOf longestModel
 
 -- ---- of any model: a step that leads back, taken again and again
 -- the bytes of the numbers k, k + 1, .., of n places
