@@ -1,4 +1,5 @@
 pub mod Determined
 pub mod Exactly
 pub mod EachInTurn
+pub mod Recognised
 pub mod AfterAccept

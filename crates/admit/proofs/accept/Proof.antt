@@ -1,17 +1,7 @@
--- `admit::accept` meets its contract: 20, or what the checks say of the table's model.
-use mathlib.Core.Path.{_≡_, refl, sym, ap, ap₂, _∙_}
-use Prim.Native.Nat.{ℕ, zero, suc, _+_, _-_, _≤_, _<_}
-use native.Mathlib.Omega.{arith}
-use native.Mathlib.Numerals.{add-one}
-use lib.ListN.{length, getD, set}
+-- `admit::accept` meets its contract: 20, or what the check says of the table's model.
 use denote.Ref.{now}
-use mathlib.Core.Option.{some}
-use borrow.Author.Tests.{not-true, not-false}
-use Rattle.answer.specs.Told.{told, saysChecked}
 use Rattle.iosa.specs.Checks.{acceptOf}
-use Rattle.iosa.specs.Step.{unless}
-use Rattle.table.proofs.OnTableLaws.{on-image, on-no-image}
-use Rattle.table.proofs.ImageExactly.{image-exactly}
+use Rattle.admit.proofs.Recognised.{is-image, says-20, says-of-model}
 use borrow.Author.Needs.{needs}
 use Rattle.admit.proofs.accept.Statement.{statement}
 use Rattle.admit.proofs.accept.Tie as tie
@@ -19,21 +9,23 @@ use Rattle.admit.proofs.accept.Tie as tie
 recognise-requires : tie.Need-recognise-requires
 recognise-requires c κs = search needs
 
+refused-requires : tie.Need-refused-requires
+refused-requires c κs = search needs
+
 returns : tie.Need-returns
-unfolding saysChecked told
-returns c = let s0 = c .before .before .before in ap some (sym (on-no-image (now (s0 .args .table)) (λ m. unless (acceptOf m) tt) (sym (c .before .recognise .ensures) ∙ not-true _ (c .if1 .taken))))
+returns c =
+    let w = c .before .before .recognise in
+    let args = c .before .before .before .before .args in
+    says-20 (now (args .table)) (w .result) (w .ensures) acceptOf _ (c .before .if1 .taken) (c .refused .ensures)
 
 check-model-requires : tie.Need-check-model-requires
-check-model-requires c κs = image-exactly _ .0 (sym (c .before .recognise .ensures) ∙ not-false _ (c .if1 .left))
+check-model-requires c κs = is-image _ (c .before .recognise .result) (c .before .recognise .ensures) (c .if1 .left)
 
 returns-2 : tie.Need-returns-2
-returns-2 c = let s0 = c .before .before .before .before in c .check-model .ensures ∙ ap some (sym (on-image (now (s0 .args .table)) (λ m. unless (acceptOf m) tt) (sym (c .before .before .recognise .ensures) ∙ not-false _ (c .before .if1 .left))))
+returns-2 c =
+    let w = c .before .before .recognise in
+    let args = c .before .before .before .before .args in
+    says-of-model (now (args .table)) (w .result) (w .ensures) acceptOf _ (c .before .if1 .left) (c .check-model .ensures)
 
 pub accept-spec : {M : Type 1} → statement M
-accept-spec =
-    tie.close
-    (tie.spec
-    recognise-requires
-    returns
-    check-model-requires
-    returns-2)
+accept-spec = tie.close (tie.spec recognise-requires refused-requires returns check-model-requires returns-2)

@@ -49,7 +49,7 @@ from-seek f i n (c ∷ cs) own =
 
     go : (o : Option Told) → o ≡ faultAt i n c → faultFrom (suc i) (n + length (c .rows)) cs ≡ firstFrom f (length cs) (suc i)
         → _≡_ {A = Option Told} (elim (faultAt i n c) as (λ p. Option Told) [ none ↦ faultFrom (suc i) (n + length (c .rows)) cs | some t ↦ some t ])
-            (elim o as (λ p. Option Told) [ none ↦ firstFrom f (length cs) (suc i) | some t ↦ some t ])
+        (elim o as (λ p. Option Told) [ none ↦ firstFrom f (length cs) (suc i) | some t ↦ some t ])
     go none e ih = rw (← e) ih
     go (some t) e ih = rw (← e)
 
