@@ -3,3 +3,4 @@ pub mod Exactly
 pub mod EachInTurn
 pub mod Recognised
 pub mod AfterAccept
+pub mod Together

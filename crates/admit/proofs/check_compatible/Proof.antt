@@ -33,7 +33,7 @@ past-15 c r s =
     asked m r (fine-next _ r (sharedFault Outputs m) (later m) (c .before .before .check-shared .ensures) (c .enum-told .given .1) s)
 
 -- and 16
-past-16 : (c : tie.After-enum-told3) (r : Checked) → Says r (sharedFault Urgency (shared (c .before .before .before))) → Says r (compatibleOf (shared (c .before .before .before)))
+past-16 : (c : tie.After-enum-told3) (r : Checked) → let m = shared (c .before .before .before) in Says r (sharedFault Urgency m) → Says r (compatibleOf m)
 past-16 c r s =
     let p = c .before .before .before in
     let m = shared p in
@@ -66,7 +66,8 @@ returns-2 : tie.Need-returns-2
 returns-2 c =
     let p = c .before .before .before in
     let m = shared p in
-    past-15 p _ (refused-first _ (sharedFault Clocks m) (sharedFault Urgency m) (c .before .before .check-shared2 .ensures) (not-fine _ _ (c .enum-told4 .given .1)))
+    let clocks = c .before .before .check-shared2 in
+    past-15 p _ (refused-first _ (sharedFault Clocks m) (sharedFault Urgency m) (clocks .ensures) (not-fine _ _ (c .enum-told4 .given .1)))
 
 check-shared-requires-3 : tie.Need-check-shared-requires-3
 check-shared-requires-3 c κs = search needs

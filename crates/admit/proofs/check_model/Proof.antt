@@ -1,7 +1,5 @@
 -- `admit::check_model` meets its contract: 10 to 14 of each component in turn, then 15 to 17.
-use mathlib.Core.Option.{Option}
 use denote.Ref.{now}
-use Rattle.answer.specs.Told.{Told}
 use Rattle.iosa.specs.Checks.{faultFrom, compatibleOf}
 use Rattle.layout.specs.Image.{modelOf}
 use Rattle.parts.proofs.Saying.{says-as, refused-first, fine-next, not-fine}
@@ -32,7 +30,8 @@ returns-2 : tie.Need-returns-2
 returns-2 c =
     let m = modelOf (now (c .before .before .before .before .before .args .t)) in
     let each = c .before .before .before .check-components in
-    says-as _ _ _ (accept-turn m) (fine-next _ _ (faultFrom 0 0 m) (compatibleOf m) (each .ensures) (c .before .enum-told .given .1) (c .check-compatible .ensures))
+    let fine = c .before .enum-told .given .1 in
+    says-as _ _ _ (accept-turn m) (fine-next _ _ (faultFrom 0 0 m) (compatibleOf m) (each .ensures) fine (c .check-compatible .ensures))
 
 pub check-model-spec : {M : Type 1} → statement M
 check-model-spec =

@@ -1,5 +1,5 @@
 -- `admit::check_own` meets its contract: 25 where no component has the index, and else what the check of that component says.
-use mathlib.Core.Path.{_≡_, sym, _∙_, ap}
+use mathlib.Core.Path.{sym, _∙_, ap}
 use mathlib.Core.Option.{some}
 use Prim.Native.Nat.{_≤_, _<_}
 use native.Mathlib.Omega.{arith}

@@ -1,4 +1,4 @@
--- "Together they answer what the old call did" (02, 10/13): 10 to 17 are the first refusal of the components by themselves, in turn, and then of their compatibility.
+-- 10 to 17 in two halves (02, 10/13): the first refusal of the components by themselves, in turn, and then of their compatibility.
 use mathlib.Core.Path.{_≡_, refl, ap}
 use mathlib.Core.Bool.{not}
 use mathlib.Core.Option.{Option, none, some}

@@ -1,4 +1,5 @@
--- Refused exactly: 10 to 17 are answered with their place exactly if the condition is broken there and no fault comes before it in 01's order; and so by each half.
+-- Refused exactly: 10 to 17 are answered with their place exactly if the condition is broken there and no fault comes before it in 01's order.
+-- And so by each half: one component by itself, and the compatibility of all.
 use mathlib.Core.Path.{_≡_, refl}
 use mathlib.Core.Logic.{_↔_, _⊎_, inl, inr, ⊎-elim}
 use mathlib.Core.Bool.{Bool, true}
@@ -15,10 +16,12 @@ use Rattle.iosa.specs.Model.{Comp, Model, compAt, rowCount}
 use Rattle.iosa.specs.WellFormed.{WellComp, WellFormed}
 use Rattle.iosa.specs.Automaton.{Automaton, autoOf}
 use Rattle.iosa.specs.Checks.{check15, check16, check17, clashFor, shareOutput, shareClock, differUrgent, componentOf, compatibleOf, acceptOf}
-use Rattle.iosa.specs.Faults.{Broken15, Broken16, Broken17, OnlyThere, Between, FaultAt, Fault, inside, output-shared, clock-shared, urgency-differs, InTurnOf, First}
+use Rattle.iosa.specs.Faults.{Broken15, Broken16, Broken17, OnlyThere, Between, FaultAt, InTurnOf, First}
+use Rattle.iosa.specs.Faults.{Fault, inside, output-shared, clock-shared, urgency-differs}
 use Rattle.iosa.proofs.Acceptance.Rows.{output-below, urgent-below}
 use Rattle.iosa.proofs.Acceptance.Pairs as Pairs
-use Rattle.iosa.proofs.Acceptance.Ranks.{Decides, decided-exactly, decided-none, decides-as, decides-under, decides-else, decides-seek, decides-map, lower-head, Under, Among}
+use Rattle.iosa.proofs.Acceptance.Ranks.{Decides, decided-exactly, decided-none, decides-as, decides-under, Under, decides-else, decides-seek, Among}
+use Rattle.iosa.proofs.Acceptance.Ranks.{decides-map, lower-head}
 use Rattle.iosa.proofs.Acceptance.Places.{AtThree, decides-three, decides-next, heads-next, Numbered, headed, heads}
 use Rattle.iosa.proofs.Acceptance.FaultsAt.{decides-at}
 use Rattle.iosa.proofs.Acceptance.InHalves.{there-own, accept-in-turn}
