@@ -93,6 +93,18 @@ second::Answer lend_recognise(const Table& table) {
   return answer;
 }
 
+second::Answer lend_component(const Table& table, std::uint64_t i) {
+  const auto answer = second::component(lent(table), lent(i));
+  count(answer.refusal, "component");
+  return answer;
+}
+
+second::Answer lend_compatible(const Table& table) {
+  const auto answer = second::compatible(lent(table));
+  count(answer.refusal, "compatible");
+  return answer;
+}
+
 second::Answer lend_accept(const Table& table) {
   const auto answer = second::accept(lent(table));
   count(answer.refusal, "accepted");
