@@ -12,7 +12,14 @@ ghost use Rattle.answer.specs.declared.Place.the-variants as Place;
 ghost use Rattle.iosa.specs.Checks.{faultFrom, componentOf, compatibleOf, acceptOf, clashAmong};
 ghost use Rattle.layout.specs.Image.{Image, modelOf};
 ghost use Rattle.parts.specs.Faults.{Says};
-ghost use Rattle.admit.specs.Admit.{ByItself, Compatibly, Accepted, Confluently};
+ghost use Rattle.admit.specs.Admit.{Answers, ByItself, Compatibly, Accepted, Confluently};
+
+// What a check looks at: one component by itself, the components in pairs, or the whole model.
+pub enum Scope {
+    Component(usize),
+    Pairs,
+    Whole,
+}
 
 fn refused(number: u8) -> Checked
     ensures { λ r. ⌜ r ≡ Checked.Refused (record { number = number; place = Place.Whole }) ⌝ }
@@ -93,34 +100,39 @@ fn check_meeting(t: &[u64]) -> Checked
     Checked::Fine
 }
 
-// Whether the table holds a model whose component i meets the conditions.
-pub fn component(table: &[u64], i: usize) -> Checked
-    ensures { λ r. ⌜ ByItself (now (table .entry)) i r ⌝ }
+// 20, then what the check says of the table's model.
+fn check_table(table: &[u64], scope: Scope) -> Checked
+    ensures { λ r. ⌜ Answers (now (table .entry)) scope r ⌝ }
 {
     if !table::recognise(table) {
         return refused(20);
     }
-    check_own(table, i)
+    match scope {
+        Scope::Component(i) => check_own(table, i),
+        Scope::Pairs => check_compatible(table),
+        Scope::Whole => check_model(table),
+    }
+}
+
+// Whether the table holds a model whose component i meets the conditions.
+pub fn component(table: &[u64], i: usize) -> Checked
+    ensures { λ r. ⌜ ByItself (now (table .entry)) i r ⌝ }
+{
+    check_table(table, Scope::Component(i))
 }
 
 // Whether it holds one whose components are compatible, whatever conditions they meet.
 pub fn compatible(table: &[u64]) -> Checked
     ensures { λ r. ⌜ Compatibly (now (table .entry)) r ⌝ }
 {
-    if !table::recognise(table) {
-        return refused(20);
-    }
-    check_compatible(table)
+    check_table(table, Scope::Pairs)
 }
 
 // Whether it holds one whose components all meet the conditions and are compatible: both checks, once.
 pub fn accept(table: &[u64]) -> Checked
     ensures { λ r. ⌜ Accepted (now (table .entry)) r ⌝ }
 {
-    if !table::recognise(table) {
-        return refused(20);
-    }
-    check_model(table)
+    check_table(table, Scope::Whole)
 }
 
 // And whether each component is confluent.

@@ -5,7 +5,7 @@ use mathlib.Core.Logic.{_↔_, _⊎_, inl, inr, ⊎-elim}
 use mathlib.Core.Bool.{Bool, true}
 use mathlib.Core.Option.{none, some}
 use mathlib.Core.List.{List, [], _∷_}
-use Prim.Native.Nat.{ℕ, _<_}
+use Prim.Native.Nat.{ℕ, _≤_, _<_}
 use native.Mathlib.Omega.{arith}
 use lib.ListN.{length, take}
 use Rattle.laws.specs.Sets.{_∈_}
@@ -16,7 +16,8 @@ use Rattle.iosa.specs.Model.{Comp, Model, compAt, rowCount}
 use Rattle.iosa.specs.WellFormed.{WellComp, WellFormed}
 use Rattle.iosa.specs.Automaton.{Automaton, autoOf}
 use Rattle.iosa.specs.Checks.{check15, check16, check17, clashFor, shareOutput, shareClock, differUrgent, componentOf, compatibleOf, acceptOf}
-use Rattle.iosa.specs.Faults.{Broken15, Broken16, Broken17, OnlyThere, Between, FaultAt, InTurnOf, First}
+use Rattle.iosa.specs.Faults.{Broken15, Broken16, Broken17, OnlyThere, Between, InTurnOf, First}
+use Rattle.iosa.specs.Faults.{FaultAt, guarded, repeated, lacking, doubled, inactive}
 use Rattle.iosa.specs.Faults.{Fault, inside, output-shared, clock-shared, urgency-differs}
 use Rattle.iosa.proofs.Acceptance.Rows.{output-below, urgent-below}
 use Rattle.iosa.proofs.Acceptance.Pairs as Pairs
@@ -24,7 +25,7 @@ use Rattle.iosa.proofs.Acceptance.Ranks.{Decides, decided-exactly, deci
 use Rattle.iosa.proofs.Acceptance.Ranks.{decides-map, lower-head}
 use Rattle.iosa.proofs.Acceptance.Places.{AtThree, decides-three, decides-next, heads-next, Numbered, headed, heads}
 use Rattle.iosa.proofs.Acceptance.FaultsAt.{decides-at}
-use Rattle.iosa.proofs.Acceptance.InHalves.{there-own, accept-in-turn}
+use Rattle.iosa.proofs.Acceptance.InHalves.{there-own, nowhere-25, accept-in-turn}
 
 three : {P : ℕ → ℕ → ℕ → Type 0} (n x i j : ℕ) → P x i j → Numbered n (tell n) (AtThree P) (n ∷ x ∷ i ∷ j ∷ []) (tell n (x ∷ i ∷ j ∷ []))
 three n x i j b = record {
@@ -32,6 +33,14 @@ three n x i j b = record {
   split = refl;
   there = record { value = x ∷ i ∷ j ∷ []; told = refl; there = record { one = x; two = i; three = j; rank = refl; told = refl; holds = b } };
 }
+
+-- no fault of a component is told as 25
+never-25 : (c : Comp) (i n : ℕ) (q : List ℕ) (t : Told) → FaultAt c i n q t → t .number ≡ 25 → ⊥
+never-25 c i n q t (guarded b) e = omega arith
+never-25 c i n q t (repeated b) e = omega arith
+never-25 c i n q t (lacking b) e = omega arith
+never-25 c i n q t (doubled b) e = omega arith
+never-25 c i n q t (inactive b) e = omega arith
 
 module _ (m : Model) (w : WellFormed m) where
   -- ---- 15 to 17
@@ -134,3 +143,12 @@ module _ (m : Model) (w : WellFormed m) where
 
   pub compatible-refused-exactly : (t : Told) → (compatibleOf m ≡ some t) ↔ First (InTurnOf m (length m)) t
   compatible-refused-exactly t = decided-exactly decides-compatible t
+
+  -- 25 is told exactly of an index that no component has
+  pub absent-exactly : (i : ℕ) → (componentOf m i ≡ some (tell 25 (0 ∷ []))) ↔ length m ≤ i
+  absent-exactly i = (λ e. elim (native.Mathlib.Decide.decLt i (length m)) [ yes h ↦ absurd (there h e) | no h ↦ omega arith ], nowhere-25 m i)
+    where
+      there : i < length m → componentOf m i ≡ some (tell 25 (0 ∷ [])) → ⊥
+      there h e =
+          let f = component-refused-exactly i h (tell 25 (0 ∷ [])) .0 e in
+          never-25 (compAt m i) i (rowCount (take i m)) (f .rank) (tell 25 (0 ∷ [])) (own-turn i h (f .rank) (tell 25 (0 ∷ [])) (f .here)) refl
