@@ -4,9 +4,7 @@ use answer::Place;
 use answer::Refusal;
 use pairs::Shared;
 ghost use mathlib.Core.Path.{_≡_};
-ghost use mathlib.Core.Bool.{Bool, true, false};
 ghost use mathlib.Core.Option.{none};
-ghost use Prim.Native.Nat.{ℕ, _+_, _≤_, _<_};
 ghost use Rattle.answer.specs.declared.Checked.the-variants as Checked;
 ghost use Rattle.answer.specs.declared.Place.the-variants as Place;
 ghost use Rattle.iosa.specs.Checks.{faultFrom, componentOf, compatibleOf, acceptOf, clashAmong};
@@ -15,7 +13,7 @@ ghost use Rattle.parts.specs.Faults.{Says};
 ghost use Rattle.admit.specs.Admit.{Answers, ByItself, Compatibly, Accepted, Confluently};
 
 // What a check looks at: one component by itself, the components in pairs, or the whole model.
-pub enum Scope {
+enum Scope {
     Component(usize),
     Pairs,
     Whole,
