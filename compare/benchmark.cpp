@@ -75,6 +75,15 @@ Pair write(const Subject& s) {
   return {"write", [&] { floodneedle_write(words(s), s.table.size(), lent_out.out.data(), lent_out.out.size(), &lent_out.answer); },
           [&] { second::write(lent(s.table), {lent_out.out.data(), lent_out.out.size()}); }};
 }
+// The last component, the one with the most rows before it.
+Pair component(const Subject& s) {
+  const std::uint64_t last = s.model.components.size() - 1;
+  return {"component", [&s, last] { floodneedle_component(words(s), s.table.size(), last, &lent_out.answer); },
+          [&s, last] { second::component(lent(s.table), last); }};
+}
+Pair compatible(const Subject& s) {
+  return {"compatible", [&] { floodneedle_compatible(words(s), s.table.size(), &lent_out.answer); }, [&] { second::compatible(lent(s.table)); }};
+}
 Pair accept(const Subject& s) {
   return {"accept", [&] { floodneedle_accept(words(s), s.table.size(), &lent_out.answer); }, [&] { second::accept(lent(s.table)); }};
 }
@@ -202,6 +211,8 @@ int main(int count, char** arguments) {
                                       one_component(64, 16), one_component(16, 64), many_components(16),   slow_sets()};
   head("The checks: small; from 128 to 1,024 rows in one component; 1,024 rows with few states, in 16 components, and with sets that shrink slowly");
   lines(sizes, recognise);
+  lines(sizes, component);
+  lines(sizes, compatible);
   lines(sizes, accept);
   lines(sizes, confluent);
 

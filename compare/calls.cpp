@@ -73,6 +73,18 @@ Said engine_write(Lent& l) {
 }
 Said second_write(Lent& l) { return said(second::write(table(l), out(l))); }
 
+Said engine_component(Lent& l) {
+  floodneedle_component(l.table.front(), l.table.size(), l.number, l.answer.place());
+  return answered(l);
+}
+Said second_component(Lent& l) { return said(second::component(table(l), l.number)); }
+
+Said engine_compatible(Lent& l) {
+  floodneedle_compatible(l.table.front(), l.table.size(), l.answer.place());
+  return answered(l);
+}
+Said second_compatible(Lent& l) { return said(second::compatible(table(l))); }
+
 Said engine_accept(Lent& l) {
   floodneedle_accept(l.table.front(), l.table.size(), l.answer.place());
   return answered(l);
@@ -157,6 +169,8 @@ const Call recognise = {"recognise", engine_recognise, second_recognise, numbers
 const Call check_text = {"check_text", engine_check_text, second_check_text, numbers({{1, 8}}, {"done"}), answered_kind};
 const Call read = {"read", engine_read, second_read, numbers({{1, 8}, {24, 24}}, {"done"}), answered_kind};
 const Call write = {"write", engine_write, second_write, numbers({{20, 20}, {24, 24}}, {"done"}), answered_kind};
+const Call component = {"component", engine_component, second_component, numbers({{10, 14}, {20, 20}, {25, 25}}, {"done"}), answered_kind};
+const Call compatible = {"compatible", engine_compatible, second_compatible, numbers({{15, 17}, {20, 20}}, {"done"}), answered_kind};
 const Call accept = {"accept", engine_accept, second_accept, numbers({{10, 17}, {20, 20}}, {"done"}), answered_kind};
 const Call confluent = {"confluent", engine_confluent, second_confluent, numbers({{10, 18}, {20, 20}}, {"done"}), answered_kind};
 const Call step = {"step", engine_step, second_step, numbers({{10, 17}, {20, 21}}, {"moved", "stable"}), answered_kind};
@@ -170,8 +184,8 @@ const Call merge = {"merge", engine_merge, second_merge, numbers({{10, 17}, {20,
 const Call report = {"report", engine_report, second_report, numbers({{1, 18}, {21, 22}, {24, 24}}, {"stable", "unsettled"}), printed_kind};
 const Call advance = {"advance", engine_advance, second_advance, numbers({{10, 17}, {20, 21}}, {"moved", "stable"}), answered_kind};
 
-const Call* const all[14] = {&recognise, &check_text, &read,        &write,      &accept, &confluent, &step,
-                             &step_by,   &settle,     &settle_list, &timed_step, &merge,  &report,    &advance};
+const Call* const all[16] = {&recognise, &check_text, &read,    &write,  &component,   &compatible, &accept, &confluent,
+                             &step,      &step_by,    &settle,  &settle_list, &timed_step, &merge,  &report, &advance};
 
 }  // namespace calls
 

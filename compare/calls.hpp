@@ -17,10 +17,10 @@ struct Call {
 
 namespace calls {
 
-extern const Call recognise, check_text, read, write, accept, confluent, step, step_by, settle, settle_list, timed_step, merge, report, advance;
+extern const Call recognise, check_text, read, write, component, compatible, accept, confluent, step, step_by, settle, settle_list, timed_step, merge, report, advance;
 
 // In the order of the header.
-extern const Call* const all[14];
+extern const Call* const all[16];
 
 }  // namespace calls
 

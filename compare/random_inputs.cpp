@@ -97,7 +97,7 @@ void try_texts(Random& random, const std::string& text) {
 void try_calls(Random& random, const Table& table, const Model& model, const std::string& text) {
   Loan loan;
   loan.table = table;
-  for (const Call* call : {&calls::recognise, &calls::accept, &calls::confluent}) try_call(*call, loan);
+  for (const Call* call : {&calls::recognise, &calls::compatible, &calls::accept, &calls::confluent}) try_call(*call, loan);
 
   const unsigned length = random.below(4);
   const std::size_t bytes = length == 0 ? second::max_text : length == 1 ? text.size() : length == 2 ? text.size() + random.below(40) : text.size() - 1;
@@ -119,6 +119,7 @@ void try_calls(Random& random, const Table& table, const Model& model, const std
   try_call(calls::timed_step, loan);
 
   loan.number = second::generate_index(random, model);
+  try_call(calls::component, loan);
   loan.into = room(random);
   try_call(calls::merge, loan);
 }

@@ -1,4 +1,5 @@
-/* A panel board with the engine built in: it reads a model, settles it, and walks timed steps. All buffers are its own; nothing is allocated.
+/* A panel board with the engine built in: it reads a model, checks it part by part, settles it, and walks timed steps. All buffers are its
+ * own; nothing is allocated.
  * A board has the model in its flash and takes its samples from distributions; here the model is standard input and the samples are made up.
  * usage: tail -n +2 examples/greenhouse.in | panel */
 #include <stdio.h>
@@ -52,6 +53,19 @@ static int refused(const struct floodneedle_answer *answer) {
   return 1;
 }
 
+/* Each component by itself, so that a refusal names the part to mend, and then whether they go together. */
+static int check(void) {
+  struct floodneedle_answer answer;
+  for (size_t c = 0; c < parts; ++c) {
+    floodneedle_component(table, FLOODNEEDLE_TABLE, c, &answer);
+    if (refused(&answer)) return 0;
+  }
+  floodneedle_compatible(table, FLOODNEEDLE_TABLE, &answer);
+  if (refused(&answer)) return 0;
+  printf("checked\t%zu components\n", parts);
+  return 1;
+}
+
 static void take(const struct floodneedle_answer *answer) {
   memcpy(state, after, parts);
   store_samples(answer->resets);
@@ -83,6 +97,7 @@ int main(void) {
   floodneedle_read(text, read_text(), table, FLOODNEEDLE_TABLE, &answer);
   if (refused(&answer)) return 1;
   begin();
+  if (!check()) return 1;
   for (unsigned turn = 0; turn < turns; ++turn)
     if (!settle() || !timed_step()) return 1;
   return settle() ? 0 : 1;

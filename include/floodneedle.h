@@ -66,7 +66,17 @@ void floodneedle_read(const uint8_t *text, size_t text_bytes, uint64_t *table, s
  * Refuses: 20, 24 (bytes needed). */
 void floodneedle_write(const uint64_t *table, size_t table_words, uint8_t *text, size_t text_bytes, struct floodneedle_answer *answer);
 
-/* Done exactly where every component meets (a) to (f) and the house rule, and the components are compatible.
+/* Done exactly where component i, counted from 0, meets (a) to (f) and the house rule by itself, whatever the other components are. Places
+ * are those that accept tells: rows count over the whole model.
+ * Refuses: 20, 25 (i is no component), 10 to 14 of component i. */
+void floodneedle_component(const uint64_t *table, size_t table_words, uint64_t i, struct floodneedle_answer *answer);
+
+/* Done exactly where every two components are compatible, whatever conditions each of them meets; so also where there is only one.
+ * Refuses: 20, 15, 16, 17. */
+void floodneedle_compatible(const uint64_t *table, size_t table_words, struct floodneedle_answer *answer);
+
+/* Done exactly where every component meets (a) to (f) and the house rule, and the components are compatible: the first refusal of
+ * component for 0, 1, .. in turn, and then what compatible answers.
  * Refuses: 20; 10 to 14 for each component in turn; 15, 16, 17. */
 void floodneedle_accept(const uint64_t *table, size_t table_words, struct floodneedle_answer *answer);
 

@@ -70,7 +70,24 @@ void expect_model(const std::string& why, const Text& text, const Said& confluen
   expect_checks("20 before " + why, no_image, refused(20, {0}), refused(20, {0}));
 }
 
+// Component c by itself, and the compatibility of all, whatever `accept` answers of the model.
+void expect_component(const std::string& why, const Text& text, std::uint64_t c, const Said& own) {
+  Loan loan = lent_table(image(tabbed(text)));
+  loan.number = c;
+  expect(why + ": component " + std::to_string(c), calls::component, loan, own);
+}
+void expect_compatible(const std::string& why, const Text& text, const Said& all) {
+  expect(why + ": compatible", calls::compatible, lent_table(image(tabbed(text))), all);
+}
+
 std::string name(unsigned number) { return std::to_string(number); }
+
+std::uint64_t rows_of(const Lines& lines) {
+  std::uint64_t rows = 0;
+  const Text text = component(lines);
+  for (std::size_t at = text.find("row"); at != Text::npos; at = text.find("row", at + 1)) ++rows;
+  return rows;
+}
 
 // 10 to 14 in one component: the lower number first, though the fault stands behind the other.
 void one_component() {
@@ -79,6 +96,11 @@ void one_component() {
   for (unsigned a = 0; a < 5; ++a) {
     expect_model(name(10 + a), component(faults_of_one[a]), place_of_one(10 + a, 0, 0));
     expect_model(name(10 + a) + " in component 1", before + component(faults_of_one[a]), place_of_one(10 + a, 1, 3));
+    expect_component(name(10 + a), component(faults_of_one[a]), 0, place_of_one(10 + a, 0, 0));
+    expect_compatible(name(10 + a), component(faults_of_one[a]), done());
+    expect_component(name(10 + a) + " in component 1", before + component(faults_of_one[a]), 0, done());
+    expect_component(name(10 + a) + " in component 1", before + component(faults_of_one[a]), 1, place_of_one(10 + a, 1, 3));
+    expect_compatible(name(10 + a) + " in component 1", before + component(faults_of_one[a]), done());
     for (unsigned b = a + 1; b < 5; ++b)
       expect_model(name(10 + a) + " and " + name(10 + b) + " in one component", component(faults_of_one[a] + faults_of_one[b]),
                    place_of_one(10 + a, 0, 0));
@@ -88,9 +110,14 @@ void one_component() {
 // 10 to 14 for each component in turn: whatever component 0 has comes before all that component 1 has.
 void components_in_turn() {
   for (unsigned a = 0; a < 5; ++a)
-    for (unsigned b = 0; b < 5; ++b)
-      expect_model(name(10 + a) + " of component 0 and " + name(10 + b) + " of component 1",
-                   component(faults_of_one[a]) + component(faults_of_one[b]), place_of_one(10 + a, 0, 0));
+    for (unsigned b = 0; b < 5; ++b) {
+      const std::string why = name(10 + a) + " of component 0 and " + name(10 + b) + " of component 1";
+      const Text both = component(faults_of_one[a]) + component(faults_of_one[b]);
+      expect_model(why, both, place_of_one(10 + a, 0, 0));
+      expect_component(why, both, 0, place_of_one(10 + a, 0, 0));
+      expect_component(why, both, 1, place_of_one(10 + b, 1, rows_of(faults_of_one[a])));
+      expect_component(why, both, 2, refused(25, {0}));
+    }
 }
 
 // 15, 16, 17 and 18, one by one, in pairs, and behind 10 to 14 of either component.
@@ -98,19 +125,30 @@ void two_components() {
   for (unsigned a = 0; a < 4; ++a) {
     const Fault& fault = faults_of_two[a];
     const Said place = place_of_two(fault.number);
+    // 18 is nothing to the compatibility, and 15 to 17 are nothing to a component by itself.
+    const Said between = fault.number == 18 ? done() : place;
     expect_model(name(fault.number), component(fault.first) + component(fault.second), place);
+    expect_compatible(name(fault.number), component(fault.first) + component(fault.second), between);
+    for (std::uint64_t c : {0, 1}) expect_component(name(fault.number), component(fault.first) + component(fault.second), c, done());
     for (unsigned b = a + 1; b < 4; ++b) {
       const Fault& later = faults_of_two[b];
       expect_model(name(fault.number) + " and " + name(later.number),
                    component(fault.first + later.first) + component(fault.second + later.second), place);
+      expect_compatible(name(fault.number) + " and " + name(later.number),
+                        component(fault.first + later.first) + component(fault.second + later.second), between);
     }
     for (unsigned one = 0; one < 5; ++one) {
       const std::string why = name(10 + one) + " and " + name(fault.number);
       expect_model(why, component(faults_of_one[one] + fault.first) + component(fault.second), place_of_one(10 + one, 0, 0));
+      expect_component(why, component(faults_of_one[one] + fault.first) + component(fault.second), 0, place_of_one(10 + one, 0, 0));
+      expect_compatible(why, component(faults_of_one[one] + fault.first) + component(fault.second), between);
       // Component 0 has the rows of its part of the fault before those of component 1.
       const std::uint64_t rows_before = fault.number == 17 ? 2 : 0;
       expect_model(why + " in component 1", component(fault.first) + component(faults_of_one[one] + fault.second),
                    place_of_one(10 + one, 1, rows_before));
+      expect_component(why + " in component 1", component(fault.first) + component(faults_of_one[one] + fault.second), 1,
+                       place_of_one(10 + one, 1, rows_before));
+      expect_compatible(why + " in component 1", component(fault.first) + component(faults_of_one[one] + fault.second), between);
     }
   }
 }

@@ -21,6 +21,7 @@ void try_stated() {
   stated_texts();
   stated_tables();
   stated_models();
+  stated_components();
   stated_runs();
   stated_clocks();
   stated_merges();
@@ -103,6 +104,9 @@ void expect_checks(const std::string& why, const Table& table, const Said& accep
   loan.number = largest;
   expect(why, calls::accept, loan, accepted);
   expect(why, calls::confluent, loan, confluent);
+  // 20 comes before all else, 25 too; of 10 to 17 each call has its own.
+  if (accepted.answer.number == 20)
+    for (const Call* call : {&calls::component, &calls::compatible}) expect(why, *call, loan, accepted);
   if (accepted.answer.kind == FLOODNEEDLE_REFUSED)
     for (const Call* call : {&calls::step, &calls::step_by, &calls::timed_step, &calls::merge, &calls::advance})
       expect(why, *call, loan, accepted);

@@ -13,6 +13,7 @@ void stated_paper();
 void stated_texts();
 void stated_tables();
 void stated_models();
+void stated_components();
 void stated_runs();
 void stated_clocks();
 void stated_merges();

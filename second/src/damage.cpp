@@ -161,6 +161,12 @@ std::string damaged_request(Random& random, std::string request) {
   return request;
 }
 
+std::vector<std::uint64_t> lengthened_table(Random& random, std::vector<std::uint64_t> table) {
+  for (unsigned count = random.pick(std::vector<unsigned>{1, 1, 2, 3, 5, 7, 63, 1001}); count > 0; --count)
+    table.push_back(random.chance(20) ? 0 : random.next());
+  return table;
+}
+
 std::vector<std::uint64_t> damaged_table(Random& random, std::vector<std::uint64_t> table) {
   if (random.chance(10)) {
     table.resize(random.chance(60) ? table.size() - 1 : random.below(table.size() + 9));

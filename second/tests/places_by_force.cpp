@@ -60,6 +60,29 @@ void system_violations(const Model& model, std::vector<Violation>& found) {
       }
 }
 
+second::Refusal least_of(const std::vector<Violation>& found) {
+  if (found.empty()) return {};
+  const Violation least = *std::min_element(found.begin(), found.end());
+  const std::uint64_t number = least[1];
+  if (number == 10 || number == 11 || number == 14) return second::refuse(number, {least[2]});
+  return second::refuse(number, {least[2], least[3], least[4]});
+}
+
+// Those of one component, and of the system, are asked for apart too.
+void check_parts(const Model& model) {
+  const Table table = second::image_of_model(model);
+  std::uint64_t base = 0;
+  for (std::uint64_t c = 0; c < model.components.size(); ++c) {
+    std::vector<Violation> found;
+    component_violations(model.components[c], c, base, found);
+    base += model.components[c].rows.size();
+    check(lend_component(table, c).refusal == least_of(found), "the least violation of a component");
+  }
+  std::vector<Violation> found;
+  system_violations(model, found);
+  check(lend_compatible(table).refusal == least_of(found), "the least violation of the system");
+}
+
 second::Refusal least_violation(const Model& model) {
   std::vector<Violation> found;
   std::uint64_t base = 0;
@@ -68,11 +91,7 @@ second::Refusal least_violation(const Model& model) {
     base += model.components[c].rows.size();
   }
   system_violations(model, found);
-  if (found.empty()) return {};
-  const Violation least = *std::min_element(found.begin(), found.end());
-  const std::uint64_t number = least[1];
-  if (number == 10 || number == 11 || number == 14) return second::refuse(number, {least[2]});
-  return second::refuse(number, {least[2], least[3], least[4]});
+  return least_of(found);
 }
 
 }  // namespace
@@ -87,6 +106,7 @@ void test_places_by_force() {
     const second::Refusal expected = least_violation(model);
     const second::Refusal accepted = lend_accept(second::image_of_model(model)).refusal;
     check(accepted == expected, "the least violation is " + shown(expected) + ", not " + shown(accepted));
+    check_parts(model);
     ++met[expected.number];
   }
   for (unsigned number = 10; number <= 17; ++number)

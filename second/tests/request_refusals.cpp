@@ -36,7 +36,7 @@ void test_request_refusals() {
   }
   check(lend_report(Text(300, 'x') + "\n" + m) == "refused\t9\t0\n", "no LF among the first 256");
 
-  // 1 counts the text alone, lines are counted from the model's first (H5).
+  // 1 counts the text alone, lines are counted from the model's first (DECISIONS, The program).
   const Text request = tabbed("from 9,9 9999\n");
   check(lend_report(request + Text(32769, 'x')) == "refused\t1\t0\n", "1");
   check(lend_report(request + Text(32768, 'x')) == "refused\t2\t1\n", "2 at 1");

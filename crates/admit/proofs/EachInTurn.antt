@@ -1,45 +1,38 @@
--- The loops over components: what is left from component i on, by one component more.
+-- The checks of one component and of all in turn, of a table and of its model.
 use mathlib.Core.Path.{_≡_, refl, sym, _∙_, ap, ap₂}
 use mathlib.Core.Option.{Option, none, some}
-use mathlib.Core.List.{List, [], _∷_}
-use Prim.Native.Nat.{ℕ, zero, suc, _+_, _≤_, _<_}
+use mathlib.Core.List.{List, _∷_}
+use Prim.Native.Nat.{ℕ, suc, _+_, _≤_, _<_}
 use native.Mathlib.Omega.{arith}
 use native.Mathlib.Numerals.{add-one}
-use lib.ListN.{length, getD, take, drop, drop-of-length-le}
+use lib.ListN.{length, drop, drop-of-length-le}
 use lib.Seq.{drop-cons}
-use Rattle.laws.specs.Search.{orElse, mapSome}
+use Rattle.laws.specs.Search.{seek, orElse, mapSome}
 use Rattle.answer.specs.Told.{Told, tell}
-use Rattle.iosa.specs.Model.{Comp, Model, noComp, compAt, rowCount}
-use Rattle.iosa.specs.Checks.{check13, check18, faultAt, faultFrom, clashAmong, acceptOf}
+use Rattle.iosa.specs.Model.{Model, noComp}
+use Rattle.iosa.specs.Checks.{check13, check18, faultAt, faultFrom, clashAmong, componentOf, compatibleOf, acceptOf}
 use Rattle.iosa.proofs.Acceptance.Check13.{check13-exactly}
 use Rattle.iosa.proofs.Acceptance.ConfluentExactly.{accepted-single}
+use Rattle.iosa.proofs.Acceptance.InHalves.{there-own, faults-in-turn}
 use Rattle.layout.specs.Layout.{countOf, firstOf}
 use Rattle.layout.specs.Image.{Image, compOf, modelOf}
 use Rattle.layout.proofs.ModelOf.{model-length, comp-at}
-use Rattle.layout.proofs.ReadBack.{rows-next}
 use Rattle.layout.proofs.RowsOfRange.{well-formed, well-comp, first-start}
 use Rattle.meets.specs.Meets.{fault18}
 use Rattle.pairs.specs.declared.Shared.the-variants.{Outputs, Clocks, Urgency}
 use Rattle.pairs.specs.Clashes.{sharedFault}
 
--- 10 to 14 and 18 of the components from i on
-unfoldable pub faultsLeft : List ℕ → ℕ → Option Told
-faultsLeft t i = faultFrom i (rowCount (take i (modelOf t))) (drop i (modelOf t))
+-- 10 to 14 of the components below n, the table's count
+pub all-in-turn : (t : List ℕ) (n : ℕ) → n ≡ countOf t → seek (componentOf (modelOf t)) 0 n ≡ faultFrom 0 0 (modelOf t)
+all-in-turn t n e = ap (seek (componentOf (modelOf t)) 0) (e ∙ sym (model-length t)) ∙ sym (faults-in-turn (modelOf t))
 
+-- 18 of the components from i on
 unfoldable pub clashesLeft : List ℕ → ℕ → Option Told
 clashesLeft t i = clashAmong i (drop i (modelOf t))
-
-pub all-left : (t : List ℕ) → faultsLeft t 0 ≡ faultFrom 0 0 (modelOf t)
-unfolding faultsLeft rowCount
-all-left t = refl
 
 pub all-clashes : (t : List ℕ) → clashesLeft t 0 ≡ clashAmong 0 (modelOf t)
 unfolding clashesLeft
 all-clashes t = refl
-
-pub none-left : (t : List ℕ) (i : ℕ) → countOf t ≤ i → faultsLeft t i ≡ none
-unfolding faultsLeft faultFrom
-none-left t i h = ap (faultFrom i (rowCount (take i (modelOf t)))) (drop-of-length-le (modelOf t) {i = i} (omega (arith, model-length t)))
 
 pub no-clash-left : (t : List ℕ) (i : ℕ) → countOf t ≤ i → clashesLeft t i ≡ none
 unfolding clashesLeft clashAmong
@@ -53,22 +46,12 @@ module _ (t : List ℕ) (im : Image t) where
     inside : i < length m
     inside = omega (arith, model-length t)
 
+    -- what the check of component i says is said of it by itself
+    pub own-fault : faultAt i (firstOf t i 0) (compOf t i) ≡ componentOf m i
+    own-fault = ap₂ (faultAt i) (first-start t im i h) (sym (comp-at t i h)) ∙ sym (there-own m i inside)
+
     next : drop i m ≡ compOf t i ∷ drop (i + 1) m
     next = drop-cons m i noComp inside ∙ ap₂ (λ c k. c ∷ drop k m) (comp-at t i h) (sym (add-one i))
-
-    count-next : rowCount (take i m) + length (compOf t i .rows) ≡ rowCount (take (i + 1) m)
-    count-next = ap (λ c. rowCount (take i m) + length (c .rows)) (sym (comp-at t i h)) ∙ sym (rows-next m i inside) ∙ ap (λ k. rowCount (take k m)) (sym (add-one i))
-
-    pub fault-next : faultsLeft t i ≡ orElse (faultAt i (firstOf t i 0) (compOf t i)) (faultsLeft t (i + 1))
-    unfolding faultsLeft faultFrom
-    fault-next =
-        ap (faultFrom i (rowCount (take i m))) next
-        ∙ go (faultAt i (rowCount (take i m)) (compOf t i)) (ap (λ n. faultAt i n (compOf t i)) (sym (first-start t im i h)))
-      where
-        go : (o : Option Told) → o ≡ faultAt i (firstOf t i 0) (compOf t i)
-            → _≡_ {A = Option Told} (elim o as (λ p. Option Told) [ none ↦ faultFrom (suc i) (rowCount (take i m) + length (compOf t i .rows)) (drop (i + 1) m) | some u ↦ some u ]) (orElse (faultAt i (firstOf t i 0) (compOf t i)) (faultFrom (i + 1) (rowCount (take (i + 1) m)) (drop (i + 1) m)))
-        go none e = rw (← e) (ap₂ (λ k n. faultFrom k n (drop (i + 1) m)) (sym (add-one i)) count-next)
-        go (some u) e = rw (← e)
 
     pub clash-next : clashesLeft t i ≡ orElse (fault18 i (compOf t i)) (clashesLeft t (i + 1))
     unfolding clashesLeft clashAmong fault18
@@ -82,7 +65,11 @@ module _ (t : List ℕ) (im : Image t) where
     pub single-rows : acceptOf m ≡ none → check13 (compOf t i) ≡ none
     single-rows e = check13-exactly (compOf t i) (well-comp t im i h) .1 (rw (comp-at t i h) at (accepted-single m (well-formed t im) e i inside .condE))
 
--- 10 to 17 in turn
-pub accept-turn : (m : Model) → orElse (faultFrom 0 0 m) (orElse (sharedFault Outputs m) (orElse (sharedFault Clocks m) (sharedFault Urgency m))) ≡ acceptOf m
-unfolding acceptOf sharedFault
+-- 15 to 17 in turn, and after 10 to 14
+pub compatible-turn : (m : Model) → orElse (sharedFault Outputs m) (orElse (sharedFault Clocks m) (sharedFault Urgency m)) ≡ compatibleOf m
+unfolding sharedFault
+compatible-turn m = refl
+
+pub accept-turn : (m : Model) → orElse (faultFrom 0 0 m) (compatibleOf m) ≡ acceptOf m
+unfolding acceptOf
 accept-turn m = refl

@@ -1,4 +1,6 @@
 pub mod Determined
 pub mod Exactly
 pub mod EachInTurn
+pub mod Recognised
 pub mod AfterAccept
+pub mod Together

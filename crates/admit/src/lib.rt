@@ -1,16 +1,44 @@
-// The checks of a table: 20; 10 to 14 for each component in turn; 15 to 17; and 18 where confluence is asked for.
+// The checks of a table: 20; 10 to 14 of one component, or of each in turn; 15 to 17; and 18 where confluence is asked for.
 use answer::Checked;
 use answer::Place;
 use answer::Refusal;
 use pairs::Shared;
 ghost use mathlib.Core.Path.{_≡_};
-ghost use mathlib.Core.Bool.{Bool, true, false};
 ghost use mathlib.Core.Option.{none};
-ghost use Prim.Native.Nat.{ℕ, _+_, _≤_, _<_};
-ghost use Rattle.iosa.specs.Checks.{faultFrom, acceptOf, clashAmong};
+ghost use Rattle.answer.specs.declared.Checked.the-variants as Checked;
+ghost use Rattle.answer.specs.declared.Place.the-variants as Place;
+ghost use Rattle.iosa.specs.Checks.{faultFrom, componentOf, compatibleOf, acceptOf, clashAmong};
 ghost use Rattle.layout.specs.Image.{Image, modelOf};
 ghost use Rattle.parts.specs.Faults.{Says};
-ghost use Rattle.admit.specs.Admit.{Accepted, Confluently};
+ghost use Rattle.admit.specs.Admit.{Answers, ByItself, Compatibly, Accepted, Confluently};
+
+// What a check looks at: one component by itself, the components in pairs, or the whole model.
+enum Scope {
+    Component(usize),
+    Pairs,
+    Whole,
+}
+
+fn refused(number: u8) -> Checked
+    ensures { λ r. ⌜ r ≡ Checked.Refused (record { number = number; place = Place.Whole }) ⌝ }
+{
+    Checked::Refused(Refusal {
+        number,
+        place: Place::Whole,
+    })
+}
+
+// 25, then 10 to 14 of component i.
+fn check_own(t: &[u64], i: usize) -> Checked
+    requires { ⌜ Image (now t) ⌝ }
+    ensures { λ r. ⌜ Says r (componentOf (modelOf (now (t .entry))) i) ⌝ }
+{
+    let n = layout::count_of(t) as usize;
+    if n <= i {
+        return refused(25);
+    }
+    parts::check_component(t, i)
+}
 
 // 10 to 14 for each component in turn.
 fn check_components(t: &[u64]) -> Checked
@@ -27,15 +55,11 @@ fn check_components(t: &[u64]) -> Checked
     Checked::Fine
 }
 
-// 10 to 17.
-fn check_model(t: &[u64]) -> Checked
+// 15 to 17.
+fn check_compatible(t: &[u64]) -> Checked
     requires { ⌜ Image (now t) ⌝ }
-    ensures { λ r. ⌜ Says r (acceptOf (modelOf (now (t .entry)))) ⌝ }
+    ensures { λ r. ⌜ Says r (compatibleOf (modelOf (now (t .entry)))) ⌝ }
 {
-    let each = check_components(t);
-    let Checked::Fine = each else {
-        return each;
-    };
     let outputs = pairs::check_shared(t, Shared::Outputs);
     let Checked::Fine = outputs else {
         return outputs;
@@ -45,6 +69,18 @@ fn check_model(t: &[u64]) -> Checked
         return clocks;
     };
     pairs::check_shared(t, Shared::Urgency)
+}
+
+// 10 to 17.
+fn check_model(t: &[u64]) -> Checked
+    requires { ⌜ Image (now t) ⌝ }
+    ensures { λ r. ⌜ Says r (acceptOf (modelOf (now (t .entry)))) ⌝ }
+{
+    let each = check_components(t);
+    let Checked::Fine = each else {
+        return each;
+    };
+    check_compatible(t)
 }
 
 // 18 for each component in turn.
@@ -62,17 +98,39 @@ fn check_meeting(t: &[u64]) -> Checked
     Checked::Fine
 }
 
-// Whether the table holds a model whose components meet the conditions and are compatible.
+// 20, then what the check says of the table's model.
+fn check_table(table: &[u64], scope: Scope) -> Checked
+    ensures { λ r. ⌜ Answers (now (table .entry)) scope r ⌝ }
+{
+    if !table::recognise(table) {
+        return refused(20);
+    }
+    match scope {
+        Scope::Component(i) => check_own(table, i),
+        Scope::Pairs => check_compatible(table),
+        Scope::Whole => check_model(table),
+    }
+}
+
+// Whether the table holds a model whose component i meets the conditions.
+pub fn component(table: &[u64], i: usize) -> Checked
+    ensures { λ r. ⌜ ByItself (now (table .entry)) i r ⌝ }
+{
+    check_table(table, Scope::Component(i))
+}
+
+// Whether it holds one whose components are compatible, whatever conditions they meet.
+pub fn compatible(table: &[u64]) -> Checked
+    ensures { λ r. ⌜ Compatibly (now (table .entry)) r ⌝ }
+{
+    check_table(table, Scope::Pairs)
+}
+
+// Whether it holds one whose components all meet the conditions and are compatible: both checks, once.
 pub fn accept(table: &[u64]) -> Checked
     ensures { λ r. ⌜ Accepted (now (table .entry)) r ⌝ }
 {
-    if !table::recognise(table) {
-        return Checked::Refused(Refusal {
-            number: 20,
-            place: Place::Whole,
-        });
-    }
-    check_model(table)
+    check_table(table, Scope::Whole)
 }
 
 // And whether each component is confluent.

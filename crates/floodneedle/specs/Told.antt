@@ -7,13 +7,20 @@ use lib.IntN.{ℤ}
 use Rattle.answer.specs.State.{partsOf, withParts}
 use Rattle.answer.specs.Told.{Answer, answered, refused, Step, moved, stable, Shot}
 use Rattle.answer.specs.declared.State.{State}
-use Rattle.iosa.specs.Checks.{acceptOf, confluentOf}
+use Rattle.iosa.specs.Checks.{componentOf, compatibleOf, acceptOf, confluentOf}
 use Rattle.iosa.specs.Step.{Stepping}
 use Rattle.iosa.specs.Settle.{Settling}
 use Rattle.iosa.specs.Timed.{Timing, timedOf}
 use Rattle.panel.specs.Advance.{outcomeOf}
 use Rattle.table.specs.OnTable.{onTable, checkOn}
 use Rattle.words.specs.Words.{steppedWords, settledWords, firedWords}
+
+-- "one call for a component's own conditions, another for the compatibility of several" (02, 10/13)
+abbrev pub componentOn : List ℕ → ℕ → Answer (Unit {0})
+componentOn t i = checkOn t (λ m. componentOf m i)
+
+abbrev pub compatibleOn : List ℕ → Answer (Unit {0})
+compatibleOn t = checkOn t compatibleOf
 
 -- "Tables: 20; then 10 to 14 for each component in turn; then 15 to 17; then 18 where .. the confluence check is called"
 abbrev pub acceptOn : List ℕ → Answer (Unit {0})

@@ -13,7 +13,7 @@ ghost use Rattle.report.specs.Reported.{lengthTold, reportIn};
 ghost use Rattle.iosa.specs.Reading.{readOf};
 ghost use Rattle.table.specs.IsImage.{isImage};
 ghost use Rattle.words.specs.Bytes.{stateOf};
-ghost use Rattle.floodneedle.specs.Told.{acceptOn, confluentOn, timedOn, TimingTold, StepTold, AdvanceTold, SettlingTold};
+ghost use Rattle.floodneedle.specs.Told.{componentOn, compatibleOn, acceptOn, confluentOn, timedOn, TimingTold, StepTold, AdvanceTold, SettlingTold};
 ghost use Rattle.run.specs.Calls.{stepOn, stepByOn, settleOn, settleListOn, traceAfter};
 
 // Whether the buffer's front is the image of a model.
@@ -55,6 +55,24 @@ pub extern "C" fn floodneedle_write(
 {
     let written = text::write(table, text);
     *answer = words::written_words(written);
+}
+
+// Whether component i of the table's model meets (a) to (f) and the house rule.
+#[no_mangle]
+pub extern "C" fn floodneedle_component(table: &[u64], i: usize, answer: &mut [u64; Words::COUNT])
+    ensures { λ _. ⌜ now (answer .exit) ≡ checkedWords (componentOn (now (table .entry)) i) ⌝ }
+{
+    let checked = admit::component(table, i);
+    *answer = words::checked_words(checked);
+}
+
+// Whether its components are compatible.
+#[no_mangle]
+pub extern "C" fn floodneedle_compatible(table: &[u64], answer: &mut [u64; Words::COUNT])
+    ensures { λ _. ⌜ now (answer .exit) ≡ checkedWords (compatibleOn (now (table .entry))) ⌝ }
+{
+    let checked = admit::compatible(table);
+    *answer = words::checked_words(checked);
 }
 
 // Whether the table's model meets (a) to (f), the house rule and compatibility.

@@ -10,6 +10,7 @@ pub mod Enabled
 pub mod GreatestSets
 pub mod Check14
 pub mod Pairs
+pub mod InHalves
 pub mod Accepted
 pub mod Check18
 pub mod ConfluentExactly

@@ -3,14 +3,14 @@ use mathlib.Core.Option.{Option, none, some}
 use mathlib.Core.Bool.{Bool, true, false, _&&_, _||_, not, cond}
 use mathlib.Core.List.{List, [], _∷_}
 use Prim.Native.Nat.{ℕ, zero, suc, _+_, _<_}
-use lib.ListN.{length, getD, set}
-use lib.Dec.{eqb}
+use lib.ListN.{length, getD, set, take}
+use lib.Dec.{eqb, ltb}
 use Rattle.laws.specs.Sets.{has, _∪_, _∩_, _∖_, within}
 use Rattle.laws.specs.Search.{seek, when, isSome, orElse, mapSome, least, any, least2}
 use Rattle.laws.specs.Fold.{tab, sum}
 use Rattle.answer.specs.Limits.{maxActions, maxClocks}
 use Rattle.answer.specs.Told.{Told, tell}
-use Rattle.iosa.specs.Model.{Row, Comp, Model, rowAt, compAt, inputs, outputs, urgents, acts, guardSet}
+use Rattle.iosa.specs.Model.{Row, Comp, Model, rowAt, compAt, inputs, outputs, urgents, acts, guardSet, rowCount}
 
 -- row r leaves s by action a
 abbrev pub leaves : Row → ℕ → ℕ → Bool
@@ -170,13 +170,24 @@ unfoldable pub clashAmong : ℕ → Model → Option Told
 clashAmong i [] = none
 clashAmong i (c ∷ cs) = elim (check18 c) [ none ↦ clashAmong (suc i) cs | some p ↦ some (tell 18 (i ∷ p)) ]
 
--- ---- "then 10 to 14 for each component in turn; then 15 to 17"
-unfoldable pub acceptOf : Model → Option Told
-acceptOf m =
+-- ---- one component by itself (02, 10/13): "takes an index and gives 25 if there is none", place 0; then its 10 to 14, rows counted over the system
+unfoldable pub indexFault : Model → ℕ → Option Told
+indexFault m i = when (not (ltb i (length m))) (tell 25 (0 ∷ []))
+
+unfoldable pub componentOf : Model → ℕ → Option Told
+componentOf m i = let b = faultAt i (rowCount (take i m)) (compAt m i) in orElse (indexFault m i) b
+
+-- "another for the compatibility of several": 15 to 17
+abbrev pub compatibleOf : Model → Option Told
+compatibleOf m =
     let b = mapSome (tell 15) (check15 m) in
     let d = mapSome (tell 16) (check16 m) in
     let e = mapSome (tell 17) (check17 m) in
-    orElse (faultFrom 0 0 m) (orElse b (orElse d e))
+    orElse b (orElse d e)
+
+-- ---- "then 10 to 14 for each component in turn; then 15 to 17"
+unfoldable pub acceptOf : Model → Option Told
+acceptOf m = let b = compatibleOf m in orElse (faultFrom 0 0 m) b
 
 -- "then 18 where settling, by rule or list, or the confluence check is called"
 unfoldable pub confluentOf : Model → Option Told

@@ -1,4 +1,4 @@
--- The examples of paper 01 ("Examples on either side", "The program and its example"): the model as its text, the call, the answer.
+-- The examples of paper 01 ("Examples on either side", "The program and its example"), and of 02, 10/13: the model as its text, the call, the answer.
 use mathlib.Core.Path.{_≡_}
 use mathlib.Core.Option.{Option, none, some}
 use mathlib.Core.Bool.{Bool, true, false}
@@ -18,7 +18,7 @@ use Rattle.iosa.specs.Timed.{Timing, timedOf, enablingAll, unstableFault
 use Rattle.iosa.specs.Merge.{mergeOf, rowsBy, eachWith, pairRows, productRows, merged, mergedAt, neighbourFault, sizeFault}
 use Rattle.laws.specs.Search.{seek}
 use Rattle.iosa.specs.WellFormed.{lower, before}
-use Rattle.iosa.specs.Checks.{rowFor, badGuard, check10, repeats, check11, lacksRow, check12, twice, check13, enablingOf, unstable, allowed, narrow, greatest, check14, faultAt, faultFrom, clashFor, check15, check16, check17, clashes, check18, clashAmong, acceptOf, confluentOf}
+use Rattle.iosa.specs.Checks.{rowFor, badGuard, check10, repeats, check11, lacksRow, check12, twice, check13, enablingOf, unstable, allowed, narrow, greatest, check14, faultAt, faultFrom, clashFor, check15, check16, check17, clashes, check18, clashAmong, indexFault, componentOf, compatibleOf, acceptOf, confluentOf}
 use Rattle.iosa.specs.Step.{move, moveAll, isUout, urgentStep, lowest, isStable, inRange, stateFault}
 use Rattle.iosa.specs.Report.{requestLine, requestOf, refusedLine, stepLine, stepLines, lastLine, answerLines, runLines, reportOf}
 
@@ -35,12 +35,17 @@ pub data Ask : Type 0 where
   lists : String → List ℕ → List ℕ → Ask
   -- merging at i, and the text of what comes of it
   merges : String → ℕ → Ask
+  -- checking component i by itself, the compatibility alone, and both
+  component : String → ℕ → Ask
+  compatible : String → Ask
+  accepts : String → Ask
   -- what the program prints for a request line and a model
   prints : String → String → Ask
   -- the timed step with these values of the first clocks, all others at 0
   times : String → List ℕ → List ℤ → ℕ → Ask
 
 pub data Reply : Type 0 where
+  fine : Reply
   text : List ℕ → Reply
   -- stable?, steps, clocks reset, state
   ends : Bool → ℕ → ℕ → List ℕ → Reply
@@ -61,6 +66,10 @@ abbrev pub replyModel : Answer Model → Reply
 replyModel (answered m) = text (textOf m)
 replyModel (refused t) = refusesTold t
 
+abbrev pub replyCheck : Option Told → Reply
+replyCheck none = fine
+replyCheck (some t) = refusesTold t
+
 abbrev pub replySettling : Answer (Settling (List ℕ)) → Reply
 replySettling (answered d) = ends (d .stable) (d .steps) (d .resets) (d .state)
 replySettling (refused t) = refusesTold t
@@ -75,11 +84,14 @@ replyTiming (refused t) = refusesTold t
 
 -- what antt opens to compute a reply stands on the line below
 unfoldable pub reply : Ask → Reply
-unfolding declared rowCount digitsOf decimal joined members guardField setField fieldsAfter compLine actLine clkLine rowLine kindOf actPart clkPart rowLines compText textOf lower before exactly moreDigits number moreNumbers numbers guardOrDash numbersOrDash kind compEntry actEntry clkEntry rowEntry entry outOfTurn allBelow outOfRange allIn lacks ascending setOf follows outOfOrder tooMany faultOf takeIn linesFrom readOf seek rowFor badGuard check10 repeats check11 lacksRow check12 twice check13 enablingOf unstable allowed narrow greatest check14 faultAt faultFrom clashFor check15 check16 check17 clashes check18 clashAmong acceptOf confluentOf move moveAll isUout urgentStep lowest isStable inRange stateFault settle budgetFault traceFault settleOf play settleListOf enablingAll unstableFault outOfTicks valuesFault belowZero check29 isLeast shares check30 clockRow clockRowOf fireOne fireAll fallen agedFrom fire timedFrom timedOf rowsBy eachWith pairRows productRows merged mergedAt neighbourFault sizeFault mergeOf requestLine requestOf refusedLine stepLine stepLines lastLine answerLines runLines reportOf
+unfolding declared rowCount digitsOf decimal joined members guardField setField fieldsAfter compLine actLine clkLine rowLine kindOf actPart clkPart rowLines compText textOf lower before exactly moreDigits number moreNumbers numbers guardOrDash numbersOrDash kind compEntry actEntry clkEntry rowEntry entry outOfTurn allBelow outOfRange allIn lacks ascending setOf follows outOfOrder tooMany faultOf takeIn linesFrom readOf seek rowFor badGuard check10 repeats check11 lacksRow check12 twice check13 enablingOf unstable allowed narrow greatest check14 faultAt faultFrom clashFor check15 check16 check17 clashes check18 clashAmong indexFault componentOf acceptOf confluentOf move moveAll isUout urgentStep lowest isStable inRange stateFault settle budgetFault traceFault settleOf play settleListOf enablingAll unstableFault outOfTicks valuesFault belowZero check29 isLeast shares check30 clockRow clockRowOf fireOne fireAll fallen agedFrom fire timedFrom timedOf rowsBy eachWith pairRows productRows merged mergedAt neighbourFault sizeFault mergeOf requestLine requestOf refusedLine stepLine stepLines lastLine answerLines runLines reportOf
 reply (reads m) = replyModel (readOf (bytesOf m))
 reply (settles m s n) = onModel (λ x. replySettling (settleOf x s n n)) (readOf (bytesOf m))
 reply (lists m s l) = onModel (λ x. replySettling (settleListOf x s l)) (readOf (bytesOf m))
 reply (merges m i) = onModel (λ x. replyModel (mergeOf x i none)) (readOf (bytesOf m))
+reply (component m i) = onModel (λ x. replyCheck (componentOf x i)) (readOf (bytesOf m))
+reply (compatible m) = onModel (λ x. replyCheck (compatibleOf x)) (readOf (bytesOf m))
+reply (accepts m) = onModel (λ x. replyCheck (acceptOf x)) (readOf (bytesOf m))
 reply (prints r m) = text (reportOf (bytesOf r ++ bytesOf m))
 reply (times m s vs n) = onModel (λ x. replyTiming (timedOf x s (vs ++ replicate n (pos 0)))) (readOf (bytesOf m))
 
@@ -110,6 +122,14 @@ M11 = "comp\t6\t0\nact\t0\tout\nact\t1\tuout\nact\t2\tuout\nclk\t0\t1\nrow\t0\t0
 -- "One state, one `uout` loop"
 abbrev pub loop : String
 loop = "comp\t1\t0\nact\t0\tuout\nrow\t0\t-\t0\t-\t0\n"
+
+-- component 0 waits for a clock that is not set, and both have output 3
+abbrev pub shared : String
+shared = "comp\t1\t0\nact\t3\tout\nclk\t0\t0\nrow\t0\t0\t3\t-\t0\ncomp\t1\t0\nact\t3\tout\n"
+
+-- a component with one row, then one whose second row repeats a clock
+abbrev pub repeating : String
+repeating = "comp\t1\t0\nact\t0\tin\nrow\t0\t-\t0\t-\t0\ncomp\t1\t0\nact\t1\tout\nact\t2\tout\nclk\t0\t1\nrow\t0\t0\t1\t0\t0\nrow\t0\t0\t2\t0\t0\n"
 
 -- ---- the table
 pub record Case : Type 0 where
@@ -146,6 +166,28 @@ furtherCases =
     ∷ P (reads "comp\t64\t0\n") (text (bytesOf "comp\t64\t0\n"))
     ∷ P (reads "comp\t65\t0\n") (refuses 4 (1 ∷ []))
     ∷ P (reads M) (text (bytesOf M))
+    ∷ []
+
+-- 02, 10/13: components 0, 1 and 2 by themselves, their compatibility, and both together, of M, of P8's model and of two that share an output;
+-- then a row of component 1, which is told by its number in the system
+unfoldable pub componentCases : List Case
+componentCases =
+    P (component M 0) fine
+    ∷ P (component M 1) fine
+    ∷ P (component M 2) (refuses 25 (0 ∷ []))
+    ∷ P (compatible M) fine
+    ∷ P (accepts M) fine
+    ∷ P (component M8 0) fine
+    ∷ P (component M8 1) (refuses 12 (1 ∷ 2 ∷ 1 ∷ []))
+    ∷ P (component M8 2) (refuses 25 (0 ∷ []))
+    ∷ P (compatible M8) fine
+    ∷ P (accepts M8) (refuses 12 (1 ∷ 2 ∷ 1 ∷ []))
+    ∷ P (component shared 0) (refuses 14 (0 ∷ []))
+    ∷ P (component shared 1) fine
+    ∷ P (component shared 2) (refuses 25 (0 ∷ []))
+    ∷ P (compatible shared) (refuses 15 (3 ∷ 0 ∷ 1 ∷ []))
+    ∷ P (accepts shared) (refuses 14 (0 ∷ []))
+    ∷ P (component repeating 1) (refuses 11 (2 ∷ []))
     ∷ []
 
 -- the program's example: "For the state 1,0, budget 100 and model M"

@@ -107,6 +107,10 @@ pub data Fault (m : Model) : List ℕ → Told → Type 0 where
   clock-shared : {x i j : ℕ} → Broken16 m x i j → Fault m (length m ∷ 16 ∷ x ∷ i ∷ j ∷ []) (tell 16 (x ∷ i ∷ j ∷ []))
   urgency-differs : {a i j : ℕ} → Broken17 m a i j → Fault m (length m ∷ 17 ∷ a ∷ i ∷ j ∷ []) (tell 17 (a ∷ i ∷ j ∷ []))
 
+-- the faults of turn i: those of component i by itself, and 15 to 17 in the turn after the last component
+abbrev pub InTurnOf : Model → ℕ → List ℕ → Told → Type 0
+InTurnOf m i q t = Fault m (i ∷ q) t
+
 -- 18, by its place alone: "component, state, lower and higher action"
 pub data Clash (m : Model) : List ℕ → Told → Type 0 where
   clash : {i s a b : ℕ} → i < length m → Broken18 (compAt m i) s a b → Clash m (i ∷ s ∷ a ∷ b ∷ []) (tell 18 (i ∷ s ∷ a ∷ b ∷ []))

@@ -1,36 +1,52 @@
--- `admit::check_components` meets its contract: the components passed have no fault, and what is left is the whole.
-use mathlib.Core.Path.{_≡_, refl, sym, ap, ap₂, _∙_}
-use Prim.Native.Nat.{ℕ, zero, suc, _+_, _-_, _≤_, _<_}
+-- `admit::check_components` meets its contract: the components passed have no fault, and what is left to search is the whole search.
+use mathlib.Core.Path.{_≡_, refl, sym, _∙_, ap}
+use mathlib.Core.Option.{Option}
+use mathlib.Core.List.{List}
+use Prim.Native.Nat.{ℕ, _-_, _<_}
 use native.Mathlib.Omega.{arith}
-use native.Mathlib.Numerals.{add-one}
-use lib.ListN.{length, getD, set}
 use denote.Ref.{now}
-use Rattle.laws.specs.Search.{orElse}
-use Rattle.iosa.specs.Checks.{faultAt}
-use Rattle.layout.specs.Layout.{countOf, firstOf}
-use Rattle.layout.specs.Image.{compOf}
+use Rattle.laws.specs.Search.{seek}
+use Rattle.laws.proofs.SearchLaws.{seek-here, seek-next, seek-end}
+use Rattle.answer.specs.Told.{Told, saysChecked}
+use Rattle.iosa.specs.Checks.{componentOf}
+use Rattle.layout.specs.Layout.{countOf}
+use Rattle.layout.specs.Image.{modelOf}
 use Rattle.layout.proofs.ImageIsSane.{image-long}
-use Rattle.parts.proofs.Saying.{says-fine, says-as, fine-none, refused-first, not-fine}
-use Rattle.admit.proofs.EachInTurn.{faultsLeft, all-left, none-left, fault-next}
+use Rattle.parts.specs.Faults.{Says}
+use Rattle.parts.proofs.Saying.{says-fine, says-as, fine-none, refused-some, not-fine}
+use Rattle.admit.proofs.EachInTurn.{all-in-turn, own-fault}
 use borrow.Author.Needs.{needs}
 use Rattle.admit.proofs.check_components.Statement.{statement}
 use Rattle.admit.proofs.check_components.Tie as tie
-use Rattle.admit.proofs.check_components.Reads as reads
-use Rattle.admit.proofs.check_components.Lts as lts
-use Rattle.layout.proofs.count_of.Reads as count-of-reads
-use Rattle.parts.proofs.check_component.Reads as check-component-reads
+
+-- components by themselves
+abbrev own : List ℕ → ℕ → Option Told
+own t i = componentOf (modelOf t) i
 
 abbrev Inv-loop : tie.InvT-loop
-Inv-loop t n i₀ i = (i ≤ n) × (faultsLeft t i ≡ faultsLeft t 0)
+Inv-loop t n i₀ i = seek (own t) i n ≡ seek (own t) 0 n
 
 abbrev μ-loop : tie.MeasureT-loop
 μ-loop t n i₀ i = n - i
+
+-- component i was asked
+module _ (c : tie.After-check-component Inv-loop μ-loop) where
+  abbrev turn : tie.At-loop Inv-loop μ-loop
+  turn = c .before .before
+
+  abbrev lent : List ℕ
+  lent = now (turn .before .before .before .args .t)
+
+  said : Says (c .check-component .result) (own lent (turn .loop .i))
+  said =
+      let h : turn .loop .i < countOf lent = omega (arith, turn .before .count-of .ensures) in
+      says-as _ _ _ (own-fault lent (turn .before .before .before .pre) (turn .loop .i) h) (c .check-component .ensures)
 
 count-of-requires : tie.Need-count-of-requires Inv-loop μ-loop
 count-of-requires c κs = image-long _ (c .before .pre)
 
 loop-holds : tie.Need-loop-holds Inv-loop μ-loop
-loop-holds c = (search needs, refl)
+loop-holds c = refl
 
 check-component-requires : tie.Need-check-component-requires Inv-loop μ-loop
 check-component-requires c κs = (c .before .before .before .before .pre, omega (arith, c .before .before .count-of .ensures))
@@ -43,12 +59,12 @@ enum-told-2 c = search needs
 
 returns : tie.Need-returns Inv-loop μ-loop
 returns c =
-    let s0 = c .before .before .before .before .before .before .before in
-    let l = c .before .before .before .before .loop in
-    let t = now (s0 .args .t) in
-    let h : l .i < countOf t = omega (arith, c .before .before .before .before .before .count-of .ensures) in
-    let r = c .before .before .check-component in
-    says-as _ _ _ (sym (fault-next t (s0 .pre) (l .i) h) ∙ l .inv .1 ∙ all-left t) (refused-first (r .result) (faultAt (l .i) (firstOf t (l .i) 0) (compOf t (l .i))) (faultsLeft t (l .i + 1)) (r .ensures) (not-fine (r .result) _ (c .enum-told2 .given .1)))
+    let p = c .before .before in
+    let l = turn p in
+    let t = lent p in
+    let u = refused-some (p .check-component .result) (own t (l .loop .i)) (said p) (not-fine _ _ (c .enum-told2 .given .1)) in
+    let found = sym (seek-here (own t) (l .loop .i) _ (search needs) (u .1)) ∙ l .loop .inv ∙ all-in-turn t _ (l .before .count-of .ensures) in
+    says-as _ _ _ (u .1 ∙ found) (said p)
 
 add-i : tie.Need-add-i Inv-loop μ-loop
 add-i c = search needs
@@ -58,20 +74,17 @@ loop-less c = search needs
 
 loop-again : tie.Need-loop-again Inv-loop μ-loop
 loop-again c =
-    let s0 = c .before .before .before .before .before .before .before in
-    let l = c .before .before .before .before .loop in
-    let t = now (s0 .args .t) in
-    let h : l .i < countOf t = omega (arith, c .before .before .before .before .before .count-of .ensures) in
-    let r = c .before .before .check-component in
-    let none = fine-none (faultAt (l .i) (firstOf t (l .i) 0) (compOf t (l .i))) (rw (c .enum-told .given .1) at (r .ensures)) in
-    (search needs, sym (fault-next t (s0 .pre) (l .i) h ∙ ap (λ o. orElse o (faultsLeft t (l .i + 1))) none) ∙ l .inv .1)
+    let p = c .before .before in
+    let l = turn p in
+    let t = lent p in
+    let none = fine-none (own t (l .loop .i)) (sym (ap saysChecked (c .enum-told .given .1)) ∙ said p) in
+    sym (seek-next (own t) (l .loop .i) _ (search needs) none) ∙ l .loop .inv
 
 returns-2 : tie.Need-returns-2 Inv-loop μ-loop
 returns-2 c =
-    let s0 = c .before .before .before .before in
-    let l = c .before .loop in
-    let t = now (s0 .args .t) in
-    says-fine _ (sym (all-left t) ∙ sym (l .inv .1) ∙ none-left t (l .i) (omega (arith, c .before .before .count-of .ensures)))
+    let l = c .before in
+    let t = now (l .before .before .before .args .t) in
+    says-fine _ (sym (all-in-turn t _ (l .before .count-of .ensures)) ∙ sym (l .loop .inv) ∙ seek-end (own t) (l .loop .i) _ (search needs))
 
 pub check-components-spec : {M : Type 1} → statement M
 check-components-spec =

@@ -1,15 +1,7 @@
--- `admit::check_model` meets its contract: each check in its turn, after those before it were fine.
-use mathlib.Core.Path.{_≡_, refl, sym, ap, ap₂, _∙_}
-use Prim.Native.Nat.{ℕ, zero, suc, _+_, _-_, _≤_, _<_}
-use native.Mathlib.Omega.{arith}
-use native.Mathlib.Numerals.{add-one}
-use lib.ListN.{length, getD, set}
+-- `admit::check_model` meets its contract: 10 to 14 of each component in turn, then 15 to 17.
 use denote.Ref.{now}
-use Rattle.laws.specs.Search.{orElse}
-use Rattle.iosa.specs.Checks.{faultFrom}
+use Rattle.iosa.specs.Checks.{faultFrom, compatibleOf}
 use Rattle.layout.specs.Image.{modelOf}
-use Rattle.pairs.specs.declared.Shared.the-variants.{Outputs, Clocks, Urgency}
-use Rattle.pairs.specs.Clashes.{sharedFault}
 use Rattle.parts.proofs.Saying.{says-as, refused-first, fine-next, not-fine}
 use Rattle.admit.proofs.EachInTurn.{accept-turn}
 use borrow.Author.Needs.{needs}
@@ -27,64 +19,19 @@ enum-told-2 c = search needs
 
 returns : tie.Need-returns
 returns c =
-    let s0 = c .before .before .before .before in
-    let m = modelOf (now (s0 .args .t)) in
-    let o1 = faultFrom 0 0 m in
-    let o2 = sharedFault Outputs m in
-    let o3 = sharedFault Clocks m in
-    let o4 = sharedFault Urgency m in
-    says-as _ _ _ (accept-turn m) (refused-first _ o1 (orElse o2 (orElse o3 o4)) (c .before .before .check-components .ensures) (not-fine _ _ (c .enum-told2 .given .1)))
+    let m = modelOf (now (c .before .before .before .before .args .t)) in
+    let each = c .before .before .check-components in
+    says-as _ _ _ (accept-turn m) (refused-first _ (faultFrom 0 0 m) (compatibleOf m) (each .ensures) (not-fine _ _ (c .enum-told2 .given .1)))
 
-check-shared-requires : tie.Need-check-shared-requires
-check-shared-requires c κs = search needs
-
-enum-told-3 : tie.Need-enum-told-3
-enum-told-3 c = search needs
-
-enum-told-4 : tie.Need-enum-told-4
-enum-told-4 c = search needs
+check-compatible-requires : tie.Need-check-compatible-requires
+check-compatible-requires c κs = search needs
 
 returns-2 : tie.Need-returns-2
 returns-2 c =
-    let s0 = c .before .before .before .before .before .before .before in
-    let m = modelOf (now (s0 .args .t)) in
-    let o1 = faultFrom 0 0 m in
-    let o2 = sharedFault Outputs m in
-    let o3 = sharedFault Clocks m in
-    let o4 = sharedFault Urgency m in
-    says-as _ _ _ (accept-turn m) (fine-next _ _ o1 (orElse o2 (orElse o3 o4)) (c .before .before .before .before .before .check-components .ensures) (c .before .before .before .enum-told .given .1) (refused-first _ o2 (orElse o3 o4) (c .before .before .check-shared .ensures) (not-fine _ _ (c .enum-told4 .given .1))))
-
-check-shared-requires-2 : tie.Need-check-shared-requires-2
-check-shared-requires-2 c κs = search needs
-
-enum-told-5 : tie.Need-enum-told-5
-enum-told-5 c = search needs
-
-enum-told-6 : tie.Need-enum-told-6
-enum-told-6 c = search needs
-
-returns-3 : tie.Need-returns-3
-returns-3 c =
-    let s0 = c .before .before .before .before .before .before .before .before .before .before in
-    let m = modelOf (now (s0 .args .t)) in
-    let o1 = faultFrom 0 0 m in
-    let o2 = sharedFault Outputs m in
-    let o3 = sharedFault Clocks m in
-    let o4 = sharedFault Urgency m in
-    says-as _ _ _ (accept-turn m) (fine-next _ _ o1 (orElse o2 (orElse o3 o4)) (c .before .before .before .before .before .before .before .before .check-components .ensures) (c .before .before .before .before .before .before .enum-told .given .1) (fine-next _ _ o2 (orElse o3 o4) (c .before .before .before .before .before .check-shared .ensures) (c .before .before .before .enum-told3 .given .1) (refused-first _ o3 o4 (c .before .before .check-shared2 .ensures) (not-fine _ _ (c .enum-told6 .given .1)))))
-
-check-shared-requires-3 : tie.Need-check-shared-requires-3
-check-shared-requires-3 c κs = search needs
-
-returns-4 : tie.Need-returns-4
-returns-4 c =
-    let s0 = c .before .before .before .before .before .before .before .before .before .before .before in
-    let m = modelOf (now (s0 .args .t)) in
-    let o1 = faultFrom 0 0 m in
-    let o2 = sharedFault Outputs m in
-    let o3 = sharedFault Clocks m in
-    let o4 = sharedFault Urgency m in
-    says-as _ _ _ (accept-turn m) (fine-next _ _ o1 (orElse o2 (orElse o3 o4)) (c .before .before .before .before .before .before .before .before .before .check-components .ensures) (c .before .before .before .before .before .before .before .enum-told .given .1) (fine-next _ _ o2 (orElse o3 o4) (c .before .before .before .before .before .before .check-shared .ensures) (c .before .before .before .before .enum-told3 .given .1) (fine-next _ _ o3 o4 (c .before .before .before .check-shared2 .ensures) (c .before .enum-told5 .given .1) (c .check-shared3 .ensures))))
+    let m = modelOf (now (c .before .before .before .before .before .args .t)) in
+    let each = c .before .before .before .check-components in
+    let fine = c .before .enum-told .given .1 in
+    says-as _ _ _ (accept-turn m) (fine-next _ _ (faultFrom 0 0 m) (compatibleOf m) (each .ensures) fine (c .check-compatible .ensures))
 
 pub check-model-spec : {M : Type 1} → statement M
 check-model-spec =
@@ -94,13 +41,5 @@ check-model-spec =
     enum-told
     enum-told-2
     returns
-    check-shared-requires
-    enum-told-3
-    enum-told-4
-    returns-2
-    check-shared-requires-2
-    enum-told-5
-    enum-told-6
-    returns-3
-    check-shared-requires-3
-    returns-4)
+    check-compatible-requires
+    returns-2)

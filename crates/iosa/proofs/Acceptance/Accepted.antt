@@ -1,24 +1,25 @@
--- Accepted exactly: no refusal of 10 to 17 exactly if each component meets (a) to (f) and the system is compatible.
-use mathlib.Core.Path.{_≡_, refl}
+-- Accepted exactly: no refusal of 10 to 17 exactly if each component meets (a) to (f) and the system is compatible; and each half by itself.
+use mathlib.Core.Path.{_≡_, sym, _∙_}
 use mathlib.Core.Logic.{_↔_}
-use mathlib.Core.Option.{Option, none, some}
+use mathlib.Core.Option.{none}
 use mathlib.Core.List.{[], _∷_}
-use Prim.Native.Nat.{ℕ, zero, suc, _+_, _<_}
+use Prim.Native.Nat.{ℕ, _+_, _<_}
 use native.Mathlib.Omega.{arith}
-use lib.ListN.{length}
-use Rattle.laws.specs.Search.{mapSome}
-use Rattle.laws.proofs.SearchLaws.{no-some, when-none, or-else-none, map-none}
-use Rattle.answer.specs.Told.{Told, tell}
-use Rattle.iosa.specs.Model.{Comp, Model, compAt}
+use lib.ListN.{length, take}
+use Rattle.laws.specs.Search.{seek, mapSome}
+use Rattle.laws.proofs.SearchLaws.{seek-none, none-seek, when-none, or-else-none, map-none}
+use Rattle.answer.specs.Told.{tell}
+use Rattle.iosa.specs.Model.{Comp, Model, compAt, rowCount}
 use Rattle.iosa.specs.WellFormed.{WellComp, WellFormed}
 use Rattle.iosa.specs.Automaton.{autoOf, Conditions, Conforming, Joinable}
-use Rattle.iosa.specs.Checks.{check10, check11, check12, check13, check14, check15, check16, check17, faultAt, faultFrom, acceptOf}
+use Rattle.iosa.specs.Checks.{check10, check11, check12, check13, check14, check15, check16, check17, faultAt, componentOf, compatibleOf, acceptOf}
 use Rattle.iosa.proofs.Acceptance.Check10.{check10-exactly}
 use Rattle.iosa.proofs.Acceptance.Check11.{check11-exactly}
 use Rattle.iosa.proofs.Acceptance.Check12.{check12-exactly}
 use Rattle.iosa.proofs.Acceptance.Check13.{check13-exactly}
 use Rattle.iosa.proofs.Acceptance.Check14.{check14-exactly}
 use Rattle.iosa.proofs.Acceptance.Pairs.{pairs-compatible, compatible-15, compatible-16, compatible-17}
+use Rattle.iosa.proofs.Acceptance.InHalves.{there-own, faultless-there, accept-in-turn}
 
 -- ---- 10 to 14 of a component
 pub faultless-conforms : (c : Comp) → WellComp c → (i n : ℕ) → faultAt i n c ≡ none → Conditions (autoOf c)
@@ -48,38 +49,34 @@ conforms-faultless c w i n k = simp (
   check14-exactly c w .1 (k .condF),
 )
 
--- ---- "10 to 14 for each component in turn"
-from-none : (i n : ℕ) (m : Model) → faultFrom i n m ≡ none → (j : ℕ) → j < length m → (k l : ℕ) × (faultAt k l (compAt m j) ≡ none)
-unfolding faultFrom
-from-none i n [] e j h = absurd (omega arith)
-from-none i n (c ∷ cs) e j h = go (from-none (suc i) (n + length (c .rows)) cs) (faultAt i n c) refl e j h
-  where
-    go : (faultFrom (suc i) (n + length (c .rows)) cs ≡ none → (j : ℕ) → j < length cs → (k l : ℕ) × (faultAt k l (compAt cs j) ≡ none)) → (o : Option Told) → faultAt i n c ≡ o
-        → _≡_ {A = Option Told} (elim o as (λ p. Option Told) [ none ↦ faultFrom (suc i) (n + length (c .rows)) cs | some t ↦ some t ]) none
-        → (j : ℕ) → j < suc (length cs) → (k l : ℕ) × (faultAt k l (compAt (c ∷ cs) j) ≡ none)
-    go ih none f e zero h = (i, n, f)
-    go ih none f e (suc j) h = ih e j (omega arith)
-    go ih (some t) f e j h = absurd (no-some e refl)
+-- ---- one component by itself: it is there and meets the conditions
+pub conditions-exactly : (m : Model) → WellFormed m → (i : ℕ) → (componentOf m i ≡ none) ↔ (i < length m) × Conditions (autoOf (compAt m i))
+conditions-exactly m w i = (
+  λ e.
+      let h = faultless-there m i e in
+      (h, faultless-conforms (compAt m i) (w .each i h) i (rowCount (take i m)) (sym (there-own m i h) ∙ e)),
+  λ p. there-own m i (p .0) ∙ conforms-faultless (compAt m i) (w .each i (p .0)) i (rowCount (take i m)) (p .1),
+)
 
-none-from : (i n : ℕ) (m : Model) → ((j : ℕ) → j < length m → (k l : ℕ) → faultAt k l (compAt m j) ≡ none) → faultFrom i n m ≡ none
-unfolding faultFrom
-none-from i n [] h = refl
-none-from i n (c ∷ cs) h = rw (h 0 (omega arith) i n, faultFrom) (none-from (suc i) (n + length (c .rows)) cs (λ j k. h (suc j) (omega arith)))
+-- ---- 15 to 17 by themselves
+pub joinable-exactly : (m : Model) → WellFormed m → (compatibleOf m ≡ none) ↔ Joinable m
+joinable-exactly m w = (
+  λ e.
+      let p = or-else-none (mapSome (tell 15) (check15 m)) _ e in
+      let q = or-else-none (mapSome (tell 16) (check16 m)) _ (p .1) in
+      pairs-compatible m w (map-none (tell 15) (check15 m) (p .0)) (map-none (tell 16) (check16 m) (q .0)) (map-none (tell 17) (check17 m) (q .1)),
+  λ j. simp (compatible-15 m w j, compatible-16 m w j, compatible-17 m w j),
+)
 
+-- ---- both
 pub accepted-exactly : (m : Model) → WellFormed m → (acceptOf m ≡ none) ↔ Conforming m × Joinable m
-unfolding acceptOf
 accepted-exactly m w = (
   λ e.
-      let p = or-else-none (faultFrom 0 0 m) _ e in
-      let q = or-else-none (mapSome (tell 15) (check15 m)) _ (p .1) in
-      let r = or-else-none (mapSome (tell 16) (check16 m)) _ (q .1) in (
-        record { each = λ i h. let f = from-none 0 0 m (p .0) i h in faultless-conforms (compAt m i) (w .each i h) (f .0) (f .1) (f .2) },
-        pairs-compatible m w (map-none (tell 15) (check15 m) (q .0)) (map-none (tell 16) (check16 m) (r .0)) (map-none (tell 17) (check17 m) (r .1)),
+      let p = or-else-none (seek (componentOf m) 0 (length m)) (compatibleOf m) (sym (accept-in-turn m) ∙ e) in (
+        record { each = λ i h. conditions-exactly m w i .0 (seek-none (componentOf m) 0 (length m) (p .0) i (omega arith) h) .1 },
+        joinable-exactly m w .0 (p .1),
       ),
-  λ p. simp (
-    none-from 0 0 m (λ i h k l. conforms-faultless (compAt m i) (w .each i h) k l (p .0 .each i h)),
-    compatible-15 m w (p .1),
-    compatible-16 m w (p .1),
-    compatible-17 m w (p .1),
-  ),
+  λ p.
+      let each = none-seek (componentOf m) 0 (length m) (λ i _ h. conditions-exactly m w i .1 (h, p .0 .each i h)) in
+      accept-in-turn m ∙ rw each (joinable-exactly m w .1 (p .1)),
 )
