@@ -12,11 +12,6 @@ ghost use Rattle.layout.specs.Layout.{countOf, blockWord};
 ghost use Rattle.layout.specs.Image.{Image, compOf};
 ghost use Rattle.active.specs.Narrowing.{narrowState, pass, FirstSets, Fell};
 
-// A set of clocks for each state.
-pub struct Sets {
-    pub sets: [u64; Model::STATES],
-}
-
 // The guard of a row as a set: none, or one clock.
 pub fn guard_set(g: u64) -> u64
     requires { ⌜ g ≤ maxClocks ⌝ }
@@ -114,15 +109,11 @@ fn pass_once(t: &[u64], i: usize, act: &mut [u64; Model::STATES]) -> bool
     less
 }
 
-// The greatest sets that the rows allow.
-pub fn solve(t: &[u64], i: usize) -> Sets
-    requires { ⌜ Image (now t) × (i < countOf (now t)) ⌝ }
-    ensures { λ r. ⌜ Greatest (compOf (now (t .entry)) i) (λ s. getD (r .sets) s 0) ⌝ }
+// The greatest sets that the rows allow, worked out in the places that the caller lends.
+pub fn solve(t: &[u64], i: usize, act: &mut [u64; Model::STATES])
+    requires { ⌜ Image (now t) × (i < countOf (now t)) × (length (now act) ≡ maxStates) ⌝ }
+    ensures { λ _. ⌜ Greatest (compOf (now (t .entry)) i) (λ s. getD (now (act .exit)) s 0) ⌝ }
 {
-    let mut all = Sets {
-        sets: [0; Model::STATES],
-    };
-    first_sets(t, i, &mut all.sets);
-    while pass_once(t, i, &mut all.sets) {}
-    all
+    first_sets(t, i, act);
+    while pass_once(t, i, act) {}
 }

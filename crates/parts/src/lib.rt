@@ -1,5 +1,6 @@
 // One component's conditions, by its index: 10 to 14 in turn, each at the least place.
 use answer::Checked;
+use answer::Model;
 use answer::Place;
 use answer::Refusal;
 ghost use mathlib.Core.Path.{_≡_};
@@ -188,9 +189,10 @@ pub fn check_active(t: &[u64], i: usize) -> Checked
     ensures { λ r. ⌜ Says r (fault14 i (compOf (now (t .entry)) i)) ⌝ }
 {
     let states = layout::block_word(t, i, layout::STATES) as usize;
-    let greatest = active::solve(t, i);
+    let mut greatest = [0u64; Model::STATES];
+    active::solve(t, i, &mut greatest);
     for s in 0..states {
-        if !sets::lies_in(active::enabling(t, i, s), greatest.sets[s]) {
+        if !sets::lies_in(active::enabling(t, i, s), greatest[s]) {
             return Checked::Refused(Refusal {
                 number: 14,
                 place: Place::Component(i),

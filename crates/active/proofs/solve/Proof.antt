@@ -7,10 +7,10 @@ use Rattle.active.proofs.solve.Statement.{statement}
 use Rattle.active.proofs.solve.Tie as tie
 
 abbrev Inv-loop : tie.InvT-loop
-Inv-loop t i all₀ all = Between t i (all .sets)
+Inv-loop t i act₀ act = Between t i act
 
 abbrev μ-loop : tie.MeasureT-loop
-μ-loop t i all₀ all = sum (all .sets)
+μ-loop t i act₀ act = sum act
 
 first-sets-requires : tie.Need-first-sets-requires Inv-loop μ-loop
 first-sets-requires c κs = search needs
