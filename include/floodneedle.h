@@ -98,7 +98,7 @@ void floodneedle_step(const uint64_t *table, size_t table_words, const uint8_t *
                       uint8_t after[FLOODNEEDLE_STATE], struct floodneedle_answer *answer);
 
 /* The same step on a state that is lent, and advanced there: where it moved, the bytes are the state after it; where it is stable or
- * refused they are as they were.
+ * refused nothing is stored, so that they may lie in memory that can only be read.
  * Refuses: as step. */
 void floodneedle_advance(const uint64_t *table, size_t table_words, uint8_t *state, size_t parts, struct floodneedle_answer *answer);
 

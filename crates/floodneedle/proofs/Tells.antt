@@ -1,5 +1,5 @@
 -- What a call's contract says of its answer is what the caller in C is told.
-use mathlib.Core.Path.{_≡_, refl, _∙_, ap, ap₂}
+use mathlib.Core.Path.{_≡_, refl, sym, _∙_, ap, ap₂}
 use mathlib.Core.Option.{some}
 use mathlib.Core.Bool.{Bool}
 use mathlib.Core.List.{List}
@@ -8,6 +8,7 @@ use lib.IntN.{ℤ}
 use lib.ListN.{length}
 use Rattle.answer.specs.Told.{Answer, answered, refused, Step, moved, stable, Shot, saysOutcome, saysVerdict, saysFiring}
 use Rattle.answer.specs.declared.Outcome.{Outcome}
+use Rattle.answer.specs.declared.Outcome.the-variants.{Moved, Stable, Refused}
 use Rattle.answer.specs.declared.State.{State}
 use Rattle.answer.specs.declared.Stepped.{Stepped}
 use Rattle.answer.specs.declared.Settled.{Settled}
@@ -18,9 +19,10 @@ use Rattle.iosa.specs.Timed.{Timing}
 use Rattle.firing.specs.Shots.{TimingAnswers}
 use Rattle.settling.specs.Gives.{StepAnswers, SettleAnswers}
 use Rattle.panel.specs.Advance.{AdvanceCall, outcomeOf, movedTo, stateAfter}
+use Rattle.panel.proofs.AsStep.{state-stays-where-stable, state-stays-where-refused}
 use Rattle.panel.proofs.Lengths.{step-keeps-length}
 use Rattle.run.specs.Calls.{stepOn}
-use Rattle.words.specs.Bytes.{stateOf, laidOver}
+use Rattle.words.specs.Bytes.{stateOf, laidOver, movedOver}
 use Rattle.words.proofs.Laid.{laid-own, laid-with}
 use Rattle.words.specs.Words.{steppedWords, settledWords, firedWords}
 use Rattle.floodneedle.specs.Told.{StepTold, AdvanceTold, bytesMoved, bytesAfter, SettlingTold, TimingTold}
@@ -40,12 +42,20 @@ unfolding stateOf
 after-bytes t old (answered v) e = laid old (v .step) (v .state) (step-keeps-length t (stateOf old) v e)
 after-bytes t old (refused f) e = laid-own old
 
-pub advance-told : (t old : List ℕ) (y : State) (o : Outcome) (new w : List ℕ) → AdvanceCall t (stateOf old) y o → new ≡ laidOver (y .parts) old
+-- where nothing moves, the state that the call leaves is the one that the bytes made: storing it would change nothing
+stored-over : (t old : List ℕ) (y : State) (o : Outcome) → AdvanceCall t (stateOf old) y o → movedOver o (y .parts) old ≡ laidOver (y .parts) old
+stored-over t old y (Moved a r) g = refl
+stored-over t old y Stable g =
+    sym (ap (λ (s : State). laidOver (s .parts) old) (state-stays-where-stable t (stateOf old) y Stable g refl) ∙ laid-own old)
+stored-over t old y (Refused f) g =
+    sym (ap (λ (s : State). laidOver (s .parts) old) (state-stays-where-refused t (stateOf old) y (Refused f) g f refl) ∙ laid-own old)
+
+pub advance-told : (t old : List ℕ) (y : State) (o : Outcome) (new w : List ℕ) → AdvanceCall t (stateOf old) y o → new ≡ movedOver o (y .parts) old
     → ((a : Answer Step) → saysOutcome o ≡ some a → w ≡ steppedWords a) → AdvanceTold (stepOn t (stateOf old)) old new w
 advance-told t old y o new w g e h =
     record {
       words = h (outcomeOf (stepOn t (stateOf old))) (g .outcome);
-      state = e ∙ ap (λ (s : State). laidOver (s .parts) old) (g .state) ∙ after-bytes t old (stepOn t (stateOf old)) refl;
+      state = e ∙ stored-over t old y o g ∙ ap (λ (s : State). laidOver (s .parts) old) (g .state) ∙ after-bytes t old (stepOn t (stateOf old)) refl;
     }
 
 pub settling-told : (v : Answer (Settling (List ℕ))) (x : State) (r : Settled) (w : List ℕ) → SettleAnswers v x r

@@ -152,7 +152,7 @@ pub extern "C" fn floodneedle_step(
     *answer = words::stepped_words(outcome);
 }
 
-// The same on a state that is lent, and advanced there.
+// The same on a state that is lent, and advanced there; where nothing moves, nothing is stored.
 #[no_mangle]
 pub extern "C" fn floodneedle_advance(
     table: &[u64],
@@ -165,7 +165,7 @@ pub extern "C" fn floodneedle_advance(
     let r = panel::advanced(table, given);
     let next = r.state;
     let outcome = r.outcome;
-    words::put_state(state, next);
+    words::put_moved(state, outcome, next);
     *answer = words::stepped_words(outcome);
 }
 

@@ -1,5 +1,5 @@
--- The machine values of a composed state, an outcome and an answer, and a state that lies in a local: what the walks of `advance` and `advanced` share.
--- The laws of the three types come from the modules that `rattle check` makes of them.
+-- The machine values of a composed state, an outcome, a step taken and an answer, and a state that lies in a local: what the walks of `advance` and `advanced` share.
+-- The laws of the types come from the modules that `rattle check` makes of them.
 use mathlib.Core.Path.{subst}
 use Prim.Native.Nat.{ℕ}
 use mathlib.Core.List.{[], _∷_, List}
@@ -19,12 +19,15 @@ use denote.Enum.Laws as EL
 use Rattle.answer.specs.declared.Outcome.{Outcome}
 use Rattle.answer.specs.declared.State.{State}
 use Rattle.answer.specs.declared.Stepped.{Stepped}
+use Rattle.panel.specs.declared.Taken.{Taken}
 use Rattle.answer.proofs.Outcome as O
 use Rattle.answer.proofs.Outcome.Laws as O′
 use Rattle.answer.proofs.State as T
 use Rattle.answer.proofs.State.Laws as T′
 use Rattle.answer.proofs.Stepped as S
 use Rattle.answer.proofs.Stepped.Laws as S′
+use Rattle.panel.proofs.Taken as K
+use Rattle.panel.proofs.Taken.Laws as K′
 
 abbrev pub state-val : State → Val
 state-val = LL.val T.the-type T′.the-laws
@@ -35,13 +38,17 @@ outcome-val = EL.val O.the-type O′.the-laws
 abbrev pub answer-val : Stepped → Val
 answer-val = LL.val S.the-type S′.the-laws
 
--- what whoever holds an answer knows of its outcome and of its state, and the other way round
-pub outcome-is : (r : Stepped) (vs : List Val) → Is S.the-row r vs → Is O.the-row (r .outcome) (outcome-val (r .outcome) ∷ [])
-outcome-is r vs is = LL.owed S.the-type S′.the-laws r vs is .0
+abbrev pub taken-val : Taken → Val
+taken-val = LL.val K.the-type K′.the-laws
 
-pub state-is : (r : Stepped) (vs : List Val) → Is S.the-row r vs → Is T.the-row (r .state) (state-val (r .state) ∷ [])
-state-is r vs is = LL.owed S.the-type S′.the-laws r vs is .1 .0
+-- what whoever holds a step that was taken knows of its outcome and of its state
+pub outcome-is : (r : Taken) (vs : List Val) → Is K.the-row r vs → Is O.the-row (r .outcome) (outcome-val (r .outcome) ∷ [])
+outcome-is r vs is = LL.owed K.the-type K′.the-laws r vs is .1 .0
 
+pub state-is : (r : Taken) (vs : List Val) → Is K.the-row r vs → Is T.the-row (r .state) (state-val (r .state) ∷ [])
+state-is r vs is = LL.owed K.the-type K′.the-laws r vs is .1 .1 .0
+
+-- what whoever holds an outcome and a state knows of the answer made of them
 pub answer-is : (r : Stepped) (vs : List Val) → Is O.the-row (r .outcome) vs → Is T.the-row (r .state) (state-val (r .state) ∷ []) → Is S.the-row r (answer-val r ∷ [])
 answer-is r vs g h = LL.owes S.the-type S′.the-laws r (subst (Is O.the-row (r .outcome)) (EL.tells O.the-type O′.the-laws (r .outcome) vs g) g, (h, tt))
 

@@ -2,32 +2,45 @@
 use answer::Outcome;
 use answer::State;
 use answer::Stepped;
-ghost use Rattle.panel.specs.Advance.{AdvanceCall};
+ghost use Rattle.panel.specs.Advance.{AdvanceCall, TakenCall};
 
-// The step by value, with the state as given where nothing moves.
-fn kept_step(table: &[u64], given: State) -> Stepped
-    ensures { λ r. ⌜ AdvanceCall (now (table .entry)) given (r .state) (r .outcome) ⌝ }
+// A step by value, of a state that is lent: whether it moved, beside what it answers.
+struct Taken {
+    moved: bool,
+    outcome: Outcome,
+    state: State,
+}
+
+// The step by value. Where it moved, its state is to be stored; else nothing is.
+fn take_step(table: &[u64], given: State) -> Taken
+    ensures { λ r. ⌜ TakenCall (now (table .entry)) given r ⌝ }
 {
     let stepped = run::step(table, given);
     let outcome = stepped.outcome;
-    let next = stepped.state;
-    let state = match outcome {
-        Outcome::Moved { .. } => next,
-        Outcome::Stable => given,
-        Outcome::Refused(_) => given,
+    let state = stepped.state;
+    let moved = match outcome {
+        Outcome::Moved { .. } => true,
+        Outcome::Stable => false,
+        Outcome::Refused(_) => false,
     };
-    Stepped { outcome, state }
+    Taken {
+        moved,
+        outcome,
+        state,
+    }
 }
 
-// One urgent step by our rule, of a state that is lent: on stable and on refusal it is as it was.
+// One urgent step by our rule, of a state that is lent: on stable and on refusal nothing is stored.
 pub fn advance(table: &[u64], state: &mut State) -> Outcome
     ensures { λ r. ⌜ AdvanceCall (now (table .entry)) (now (state .entry)) (now (state .exit)) r ⌝ }
 {
     let given = *state;
-    let stepped = kept_step(table, given);
-    let next = stepped.state;
-    *state = next;
-    stepped.outcome
+    let taken = take_step(table, given);
+    if taken.moved {
+        let next = taken.state;
+        *state = next;
+    }
+    taken.outcome
 }
 
 // The same of a state that the caller holds by value: it is lent to `advance` here.

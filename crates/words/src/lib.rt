@@ -14,7 +14,7 @@ ghost use lib.ListN.{getD};
 ghost use mathlib.Core.Bool.{Bool};
 ghost use Rattle.answer.specs.Told.{Answer, Step, Shot, saysChecked, saysWritten, saysOutcome, saysVerdict, saysFiring};
 ghost use Rattle.words.specs.Words.{wordsOf, refusalWords, checkedWords, writtenWords, steppedWords, settledWords, firedWords};
-ghost use Rattle.words.specs.Bytes.{stateOf, laidOver};
+ghost use Rattle.words.specs.Bytes.{stateOf, laidOver, movedOver};
 
 // The layout of an answer: how many words, and what the first of them says.
 pub struct Words {}
@@ -182,7 +182,7 @@ fn part(bytes: &[u8], i: usize) -> u8
 }
 
 // A state's places laid over the bytes that a caller lent, as many as there are bytes.
-pub fn put_state(bytes: &mut [u8], x: State)
+fn put_state(bytes: &mut [u8], x: State)
     ensures { λ _. ⌜ now (bytes .exit) ≡ laidOver (x .parts) (now (bytes .entry)) ⌝ }
 {
     let parts = x.parts;
@@ -190,5 +190,16 @@ pub fn put_state(bytes: &mut [u8], x: State)
     while i < State::PARTS && i < bytes.len() {
         bytes[i] = parts[i];
         i += 1;
+    }
+}
+
+// The same where a step moved; where it did not, nothing is stored.
+pub fn put_moved(bytes: &mut [u8], outcome: Outcome, x: State)
+    ensures { λ _. ⌜ now (bytes .exit) ≡ movedOver outcome (x .parts) (now (bytes .entry)) ⌝ }
+{
+    match outcome {
+        Outcome::Moved { .. } => put_state(bytes, x),
+        Outcome::Stable => {}
+        Outcome::Refused(_) => {}
     }
 }

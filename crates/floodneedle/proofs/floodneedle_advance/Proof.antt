@@ -13,8 +13,8 @@ state-of-requires c κs = search needs
 advanced-requires : tie.Need-advanced-requires
 advanced-requires c κs = search needs
 
-put-state-requires : tie.Need-put-state-requires
-put-state-requires c κs = search needs
+put-moved-requires : tie.Need-put-moved-requires
+put-moved-requires c κs = search needs
 
 stepped-words-requires : tie.Need-stepped-words-requires
 stepped-words-requires c κs = search needs
@@ -27,9 +27,9 @@ returns c =
     let args = c .before .before .before .before .before .before .before .before .before .before .before .args in
     let made = c .before .before .before .before .before .before .before .state-of in
     let call = c .before .before .before .before .before .before .advanced in
-    let put = c .before .before .before .put-state in
+    let put = c .before .before .before .put-moved in
     let known = subst (λ (y : State). AdvanceCall (args .table .now) y (call .result .state) (call .result .outcome)) (made .ensures) (call .ensures) in
     advance-told (args .table .now) (args .state .now) (call .result .state) (call .result .outcome) (put .last .0) (c .stepped-words .result) known (put .ensures) (c .stepped-words .ensures)
 
 pub floodneedle-advance-spec : {M : Type 1} → statement M
-floodneedle-advance-spec = tie.close (tie.spec state-of-requires advanced-requires put-state-requires stepped-words-requires same-length returns)
+floodneedle-advance-spec = tie.close (tie.spec state-of-requires advanced-requires put-moved-requires stepped-words-requires same-length returns)

@@ -67,13 +67,6 @@ add-n c =
     let t = now (c .before .before .before .before .before .before .before .before .before .before .before .before .args .text) in
     omega (arith, l .inv .1 .count, c .before .before .before .before .before .before .before .before .loop-test .taken, length-drop (l .at) t, c .before .before .before .before .before .before .before .before .before .before .before .before .good)
 
-loop-less : tie.Need-loop-less Inv-loop μ-loop
-loop-less c =
-    let t = now (c .before .before .before .before .before .before .before .before .before .before .before .before .args .text) in
-    let l = c .before .before .before .before .before .before .before .before .before .loop in
-    let v = c .before .before .before .before .before .line .given .0 in
-    read-on (read-line t (l .at) (v .0) (v .1 .0 .at) (sym (c .before .before .before .before .before .before .before .line-at .ensures) ∙ ap (gotLine t) (c .before .before .before .before .before .line .given .1)))
-
 loop-again : tie.Need-loop-again Inv-loop μ-loop
 loop-again c =
     let t = now (c .before .before .before .before .before .before .before .before .before .before .before .before .args .text) in
@@ -81,6 +74,13 @@ loop-again c =
     let v = c .before .before .before .before .before .line .given .0 in
     let r = read-line t (l .at) (v .0) (v .1 .0 .at) (sym (c .before .before .before .before .before .before .before .line-at .ensures) ∙ ap (gotLine t) (c .before .before .before .before .before .line .given .1)) in
     (_, line-taken (l .inv .1) (v .0) (v .1 .0 .at) r (c .before .q .given .0 .0) (sym (c .before .before .before .step .ensures) ∙ c .before .q .given .1))
+
+loop-less : tie.Need-loop-less Inv-loop μ-loop
+loop-less c =
+    let t = now (c .before .before .before .before .before .before .before .before .before .before .before .before .args .text) in
+    let l = c .before .before .before .before .before .before .before .before .before .loop in
+    let v = c .before .before .before .before .before .line .given .0 in
+    read-on (read-line t (l .at) (v .0) (v .1 .0 .at) (sym (c .before .before .before .before .before .before .before .line-at .ensures) ∙ ap (gotLine t) (c .before .before .before .before .before .line .given .1)))
 
 returns-3 : tie.Need-returns-3 Inv-loop μ-loop
 returns-3 c =
