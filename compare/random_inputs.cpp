@@ -13,7 +13,7 @@ using second::Random;
 
 std::string where;  // the input that is tried, for a difference to be found again
 
-Comparison try_call(const Call& call, const Loan& loan) { return compare(call, loan, where); }
+Comparison try_call(const Call& call, const Loan& loan) { return compare(Input::generated, call, loan, where); }
 
 // ---- loans. Draws stand in statements of their own, so that a seed gives the same inputs with every compiler.
 

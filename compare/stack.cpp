@@ -18,7 +18,7 @@ alignas(64) unsigned char area[room];
 
 ucontext_t outside, inside;
 const Call* made = nullptr;
-Lent* lent_to = nullptr;
+const Lent* lent_to = nullptr;
 Said said_on_stack;
 std::uint64_t tried = 0;
 std::map<const Call*, std::size_t> deepest;
@@ -26,7 +26,7 @@ std::map<const Call*, std::size_t> deepest;
 void make() { said_on_stack = made->engine(*lent_to); }
 
 // How far down the call wrote.
-std::size_t depth(const Call& call, Lent& lent) {
+std::size_t depth(const Call& call, const Lent& lent) {
   std::fill(area, area + room, paint);
   made = &call;
   lent_to = &lent;
@@ -40,28 +40,28 @@ std::size_t depth(const Call& call, Lent& lent) {
   return static_cast<std::size_t>(area + room - lowest);
 }
 
-Said nothing(Lent&) { return {}; }
+Said nothing(const Lent&) { return {}; }
 const Call no_call = {"nothing", nothing, nothing, {}, nullptr};
 
 }  // namespace
 
-Comparison compare(const Call& call, const Loan& loan, const std::string&) {
-  Lent mine(loan);
+Comparison compare(Input, const Call& call, const Loan& loan, const std::string&) {
+  Kept mine(loan);
   ++tried;
   std::size_t& most = deepest[&call];
-  most = std::max(most, depth(call, mine));
-  Comparison result{said_on_stack, {}, true, Lent(loan)};
-  result.second = call.second(result.left);
+  most = std::max(most, depth(call, mine.lent()));
+  Comparison result{said_on_stack, {}, {}, true, false, Kept(loan)};
+  result.second = call.second(result.left.lent());
   return result;
 }
 
-void expect(const std::string& why, const Call& call, const Loan& loan, const Said&) { compare(call, loan, why); }
+void expect(const std::string& why, const Call& call, const Loan& loan, const Said&) { compare(Input::stated, call, loan, why); }
 void expect(const std::string& why, const Call& call, const Loan& loan, const Said& expected, const Loan&) { expect(why, call, loan, expected); }
 
 int main(int count, char** words) {
   const std::uint64_t models = count > 1 ? std::strtoull(words[1], nullptr, 10) : 1000;
-  Lent none{Loan{}};
-  const std::size_t of_nothing = depth(no_call, none);
+  Kept none{Loan{}};
+  const std::size_t of_nothing = depth(no_call, none.lent());
   try_stated();
   for (std::uint64_t index = 0; index < models; ++index) try_input(1, index);
   std::printf("Deepest stack over %llu inputs\n\n| Call | Bytes |\n|---|---|\n", (unsigned long long)tried);
