@@ -31,8 +31,7 @@ std::uint8_t* mapped(int file, std::size_t room, int protection) {
 sigjmp_buf before_the_call;
 volatile std::sig_atomic_t in_the_engine = 0;
 void* volatile touched_at = nullptr;
-const char* call_tried = "no call";
-const char* input_tried = "";
+char tried[400] = "before the first call";
 
 void tell(const char* words) { need(write(2, words, std::strlen(words)) >= 0, "write"); }
 
@@ -41,7 +40,9 @@ void met_fault(int number, siginfo_t* info, void*) {
     touched_at = info->si_addr;
     siglongjmp(before_the_call, 1);
   }
-  for (const char* words : {"stopped outside the engine by a fault, at ", call_tried, ", ", input_tried, "\n"}) tell(words);
+  tell("a fault outside the engine: ");
+  tell(tried);
+  tell("\n");
   std::signal(number, SIG_DFL);
   std::raise(number);
 }
@@ -76,11 +77,14 @@ Said reads(const Lent& lent) {
 
 }  // namespace
 
+void Pages::give_back() {
+  if (room == 0) return;
+  munmap(open, room + page);
+  munmap(shut, room + page);
+}
+
 void Pages::make(std::size_t least) {
-  if (room > 0) {
-    munmap(open, room + page);
-    munmap(shut, room + page);
-  }
+  give_back();
   room = (2 * least + page - 1) / page * page;
   const int file = memfd_create("loan", 0);
   need(file >= 0 && ftruncate(file, static_cast<off_t>(room)) == 0, "memfd_create");
@@ -181,7 +185,4 @@ bool faults_are_caught() {
   return reads_on && no_store && no_more;
 }
 
-void trying(const char* call, const std::string& where) {
-  call_tried = call;
-  input_tried = where.c_str();
-}
+void trying(const char* call, const std::string& where) { std::snprintf(tried, sizeof tried, "%s, %s", call, where.c_str()); }

@@ -8,6 +8,11 @@
 // touch. What they hold lies at their end, with a guard before it.
 class Pages {
  public:
+  Pages() = default;
+  Pages(const Pages&) = delete;
+  Pages& operator=(const Pages&) = delete;
+  ~Pages() { give_back(); }
+
   void hold(const void* content, std::size_t bytes);
   std::uint8_t* front(bool read_only) const { return (read_only ? shut : open) + room - held; }
   std::size_t bytes() const { return held; }
@@ -17,6 +22,7 @@ class Pages {
 
  private:
   void make(std::size_t least);
+  void give_back();
   std::uint8_t* open = nullptr;
   std::uint8_t* shut = nullptr;
   std::size_t room = 0;
@@ -61,5 +67,5 @@ bool ran(Said (*call)(const Lent&), const Lent& lent, Said& said, const void*& t
 // Whether such a fault is caught on this machine. Without that the comparison would see nothing.
 bool faults_are_caught();
 
-// What is tried from now on: a fault outside the engine ends the program, and is told with it. Both must stay where they are.
+// What is tried from now on: a fault outside the engine ends the program, and is told with it.
 void trying(const char* call, const std::string& where);
