@@ -117,13 +117,7 @@ std::uint64_t budget(Random& random) { return random.chance(60) ? second::genera
 
 Bytes trace(Random& random, std::uint64_t budget) {
   const std::size_t exact = budget <= second::max_budget ? budget : 0;
-  const std::size_t more = random.below(3);
-  return noise_bytes(random, exact + more);
-}
-
-Bytes odd_trace(Random& random, std::uint64_t budget) {
-  if (budget > second::max_budget || random.chance(80)) return trace(random, budget);
-  const std::size_t bytes = random.below(budget + 1);
+  const std::size_t bytes = random.chance(80) ? exact + random.below(3) : random.below(exact + 1);
   return noise_bytes(random, bytes);
 }
 

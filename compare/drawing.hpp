@@ -42,9 +42,8 @@ Bytes odd_list(Random& random, const Drawn& drawn, const Bytes& state);
 std::uint64_t action(Random& random, const Bytes& list);
 
 std::uint64_t budget(Random& random);
-// As long as the budget or a little longer; the odd one may be shorter.
+// As long as the budget or a little longer; at times shorter.
 Bytes trace(Random& random, std::uint64_t budget);
-Bytes odd_trace(Random& random, std::uint64_t budget);
 
 // Values that a timed step takes in a stable state: the clocks that wait are at zero or above and one of them is the least, and many of the others
 // lie so near the floor that they reach it. In the odd ones something is wrong: a tie, a value below zero or out of range, or their number.

@@ -54,7 +54,7 @@ void try_calls(Random& random, const Table& table, const Drawn& drawn) {
   for (const Call* call : {&calls::step, &calls::step_by, &calls::settle_list, &calls::advance}) try_call(*call, loan);
 
   loan.number = drawing::budget(random);
-  loan.out = drawing::odd_trace(random, loan.number);
+  loan.out = drawing::trace(random, loan.number);
   try_call(calls::settle, loan);
 
   // Half of the states above are not stable, which a timed step refuses first of all.
