@@ -7,8 +7,8 @@
  *
  * `answer` and, where a call has it, `after` are the answer: both are always written, all of their bytes. Where the kind is
  * FLOODNEEDLE_REFUSED, `number` and the first `places` of `place` tell why and where (paper 01's table of refusal numbers), every other
- * field is 0, `after` is zeros, and no other lent byte has changed. Where nothing is refused, `number`, `places` and `place` are 0, and so
- * is every field that the answer does not use.
+ * field is 0, `after` is zeros, and nothing is stored to any other lent buffer. Where nothing is refused, `number`, `places` and `place` are
+ * 0, and so is every field that the answer does not use.
  *
  * In a model that `confluent` accepts, urgent steps that come to an end come to the same one in whatever order they are taken. settle and
  * settle_list ask for that each time. step, step_by, advance and timed_step do not: in a model that `confluent` refuses with 18, what a loop
