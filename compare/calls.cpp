@@ -1,27 +1,18 @@
 #include "calls.hpp"
 
-#include <cstdio>
-
 namespace {
 
 // An answer as the engine wrote it, with the state beside it where the call has one.
-Said answered(Lent& lent) {
+Said answered(const Lent& lent) {
   Said said;
-  said.answer = *lent.answer.place();
+  said.answer = *lent.answer;
   return said;
 }
-Said answered_with_state(Lent& lent) {
+Said answered_with_state(const Lent& lent) {
   Said said = answered(lent);
-  said.after = *lent.after.place();
+  said.after = *lent.after;
   return said;
 }
-
-second::Words table(Lent& lent) { return {lent.table.front(), lent.table.size()}; }
-second::Bytes state(Lent& lent) { return {lent.state.front(), lent.parts()}; }
-second::Bytes bytes(Lent& lent) { return {lent.bytes.front(), lent.bytes.size()}; }
-second::WordsToWrite into(Lent& lent) { return {lent.into.front(), lent.into.size()}; }
-second::BytesToWrite out(Lent& lent) { return {lent.out.front(), lent.out.size()}; }
-second::Ticks clocks(Lent& lent) { return {lent.clocks.front(), lent.clocks.size()}; }
 
 std::set<std::string> numbers(std::initializer_list<std::pair<unsigned, unsigned>> ranges, std::set<std::string> more) {
   for (const auto& [low, high] : ranges)
@@ -39,124 +30,122 @@ std::string answered_kind(const Said& said, const Lent&) {
 // Of a report: the number or the verdict that its last line begins with.
 std::string printed_kind(const Said& said, const Lent& lent) {
   if (said.answer.kind == FLOODNEEDLE_REFUSED) return answered_kind(said, lent);
-  const Bytes out = lent.out.content();
-  const std::string report(out.begin(), out.begin() + static_cast<long>(said.answer.count));
+  const std::string report(lent.out.front, lent.out.front + said.answer.count);
   const std::string last = report.substr(report.rfind('\n', report.size() - 2) + 1);
   const std::size_t from = last.compare(0, 8, "refused\t") == 0 ? 8 : 0;
   return last.substr(from, last.find('\t', from) - from);
 }
 
-Said engine_recognise(Lent& l) {
-  const bool is_image = floodneedle_recognise(l.table.front(), l.table.size());
+Said engine_recognise(const Lent& l) {
+  const bool is_image = floodneedle_recognise(l.table.front, l.table.length);
   return said(second::Answer{is_image ? second::Refusal{} : second::refuse(20, {0})});
 }
-Said second_recognise(Lent& l) { return said(second::recognise(table(l))); }
+Said second_recognise(const Lent& l) { return said(second::recognise(l.table)); }
 
-Said engine_check_text(Lent& l) {
-  floodneedle_check_text(l.bytes.front(), l.bytes.size(), l.answer.place());
+Said engine_check_text(const Lent& l) {
+  floodneedle_check_text(l.bytes.front, l.bytes.length, l.answer);
   return answered(l);
 }
-Said second_check_text(Lent& l) {
+Said second_check_text(const Lent& l) {
   Table room(second::image_words);
-  return said(second::read(bytes(l), {room.data(), room.size()}));
+  return said(second::read(l.bytes, {room.data(), room.size()}));
 }
 
-Said engine_read(Lent& l) {
-  floodneedle_read(l.bytes.front(), l.bytes.size(), l.into.front(), l.into.size(), l.answer.place());
+Said engine_read(const Lent& l) {
+  floodneedle_read(l.bytes.front, l.bytes.length, l.into.front, l.into.length, l.answer);
   return answered(l);
 }
-Said second_read(Lent& l) { return said(second::read(bytes(l), into(l))); }
+Said second_read(const Lent& l) { return said(second::read(l.bytes, l.into)); }
 
-Said engine_write(Lent& l) {
-  floodneedle_write(l.table.front(), l.table.size(), l.out.front(), l.out.size(), l.answer.place());
+Said engine_write(const Lent& l) {
+  floodneedle_write(l.table.front, l.table.length, l.out.front, l.out.length, l.answer);
   return answered(l);
 }
-Said second_write(Lent& l) { return said(second::write(table(l), out(l))); }
+Said second_write(const Lent& l) { return said(second::write(l.table, l.out)); }
 
-Said engine_component(Lent& l) {
-  floodneedle_component(l.table.front(), l.table.size(), l.number, l.answer.place());
+Said engine_component(const Lent& l) {
+  floodneedle_component(l.table.front, l.table.length, l.number, l.answer);
   return answered(l);
 }
-Said second_component(Lent& l) { return said(second::component(table(l), l.number)); }
+Said second_component(const Lent& l) { return said(second::component(l.table, l.number)); }
 
-Said engine_compatible(Lent& l) {
-  floodneedle_compatible(l.table.front(), l.table.size(), l.answer.place());
+Said engine_compatible(const Lent& l) {
+  floodneedle_compatible(l.table.front, l.table.length, l.answer);
   return answered(l);
 }
-Said second_compatible(Lent& l) { return said(second::compatible(table(l))); }
+Said second_compatible(const Lent& l) { return said(second::compatible(l.table)); }
 
-Said engine_accept(Lent& l) {
-  floodneedle_accept(l.table.front(), l.table.size(), l.answer.place());
+Said engine_accept(const Lent& l) {
+  floodneedle_accept(l.table.front, l.table.length, l.answer);
   return answered(l);
 }
-Said second_accept(Lent& l) { return said(second::accept(table(l))); }
+Said second_accept(const Lent& l) { return said(second::accept(l.table)); }
 
-Said engine_confluent(Lent& l) {
-  floodneedle_confluent(l.table.front(), l.table.size(), l.answer.place());
+Said engine_confluent(const Lent& l) {
+  floodneedle_confluent(l.table.front, l.table.length, l.answer);
   return answered(l);
 }
-Said second_confluent(Lent& l) { return said(second::confluent(table(l))); }
+Said second_confluent(const Lent& l) { return said(second::confluent(l.table)); }
 
-Said engine_step(Lent& l) {
-  floodneedle_step(l.table.front(), l.table.size(), l.state.front(), l.parts(), l.after.place()->data(), l.answer.place());
+Said engine_step(const Lent& l) {
+  floodneedle_step(l.table.front, l.table.length, l.state.front, l.state.length, l.after->data(), l.answer);
   return answered_with_state(l);
 }
-Said second_step(Lent& l) { return said(second::step(table(l), state(l))); }
+Said second_step(const Lent& l) { return said(second::step(l.table, l.state)); }
 
-Said engine_step_by(Lent& l) {
-  floodneedle_step_by(l.table.front(), l.table.size(), l.state.front(), l.parts(), l.number, l.after.place()->data(),
-                      l.answer.place());
+Said engine_step_by(const Lent& l) {
+  floodneedle_step_by(l.table.front, l.table.length, l.state.front, l.state.length, l.number, l.after->data(), l.answer);
   return answered_with_state(l);
 }
-Said second_step_by(Lent& l) { return said(second::step_by(table(l), state(l), l.number)); }
+Said second_step_by(const Lent& l) { return said(second::step_by(l.table, l.state, l.number)); }
 
-Said engine_settle(Lent& l) {
-  floodneedle_settle(l.table.front(), l.table.size(), l.state.front(), l.parts(), l.number, l.out.front(), l.out.size(),
-                     l.after.place()->data(), l.answer.place());
+Said engine_settle(const Lent& l) {
+  floodneedle_settle(l.table.front, l.table.length, l.state.front, l.state.length, l.number, l.out.front, l.out.length,
+                     l.after->data(), l.answer);
   return answered_with_state(l);
 }
-Said second_settle(Lent& l) { return said(second::settle(table(l), state(l), l.number, out(l))); }
+Said second_settle(const Lent& l) { return said(second::settle(l.table, l.state, l.number, l.out)); }
 
-Said engine_settle_list(Lent& l) {
-  floodneedle_settle_list(l.table.front(), l.table.size(), l.state.front(), l.parts(), l.bytes.front(), l.bytes.size(),
-                          l.after.place()->data(), l.answer.place());
+Said engine_settle_list(const Lent& l) {
+  floodneedle_settle_list(l.table.front, l.table.length, l.state.front, l.state.length, l.bytes.front, l.bytes.length,
+                          l.after->data(), l.answer);
   return answered_with_state(l);
 }
-Said second_settle_list(Lent& l) { return said(second::settle_list(table(l), state(l), bytes(l))); }
+Said second_settle_list(const Lent& l) { return said(second::settle_list(l.table, l.state, l.bytes)); }
 
-Said engine_timed_step(Lent& l) {
-  floodneedle_timed_step(l.table.front(), l.table.size(), l.state.front(), l.parts(), l.clocks.front(), l.clocks.size(),
-                         l.after.place()->data(), l.answer.place());
+Said engine_timed_step(const Lent& l) {
+  floodneedle_timed_step(l.table.front, l.table.length, l.state.front, l.state.length, l.clocks.front, l.clocks.length,
+                         l.after->data(), l.answer);
   return answered_with_state(l);
 }
-Said second_timed_step(Lent& l) { return said(second::timed_step(table(l), state(l), clocks(l))); }
+Said second_timed_step(const Lent& l) { return said(second::timed_step(l.table, l.state, l.clocks)); }
 
-Said engine_merge(Lent& l) {
-  floodneedle_merge(l.table.front(), l.table.size(), l.number, l.into.front(), l.into.size(), l.answer.place());
+Said engine_merge(const Lent& l) {
+  floodneedle_merge(l.table.front, l.table.length, l.number, l.into.front, l.into.length, l.answer);
   return answered(l);
 }
-Said second_merge(Lent& l) { return said(second::merge(table(l), l.number, into(l))); }
+Said second_merge(const Lent& l) { return said(second::merge(l.table, l.number, l.into)); }
 
-Said engine_report(Lent& l) {
-  floodneedle_report(l.bytes.front(), l.bytes.size(), l.out.front(), l.out.size(), l.answer.place());
+Said engine_report(const Lent& l) {
+  floodneedle_report(l.bytes.front, l.bytes.length, l.out.front, l.out.length, l.answer);
   return answered(l);
 }
 // The second program answers with a string, so its part in the loan is played here.
-Said second_report(Lent& l) {
-  if (l.out.size() < FLOODNEEDLE_REPORT) return said(second::WriteAnswer{second::refuse(24, {FLOODNEEDLE_REPORT}), 0});
-  const std::string report = second::report(bytes(l));
-  std::copy(report.begin(), report.end(), l.out.front());
+Said second_report(const Lent& l) {
+  if (l.out.length < FLOODNEEDLE_REPORT) return said(second::WriteAnswer{second::refuse(24, {FLOODNEEDLE_REPORT}), 0});
+  const std::string report = second::report(l.bytes);
+  std::copy(report.begin(), report.end(), l.out.front);
   return said(second::WriteAnswer{{}, report.size()});
 }
 
-Said engine_advance(Lent& l) {
-  floodneedle_advance(l.table.front(), l.table.size(), l.state.front(), l.parts(), l.answer.place());
+Said engine_advance(const Lent& l) {
+  floodneedle_advance(l.table.front, l.table.length, l.advanced.front, l.advanced.length, l.answer);
   return answered(l);
 }
 // A step whose state goes where it came from.
-Said second_advance(Lent& l) {
+Said second_advance(const Lent& l) {
   Said stepped = second_step(l);
-  if (stepped.answer.kind != FLOODNEEDLE_REFUSED) std::copy_n(stepped.after.begin(), l.state.size(), l.state.front());
+  if (stepped.answer.kind != FLOODNEEDLE_REFUSED) std::copy_n(stepped.after.begin(), l.advanced.length, l.advanced.front);
   stepped.after = After{};
   return stepped;
 }
@@ -188,22 +177,3 @@ const Call* const all[16] = {&recognise, &check_text, &read,    &write,  &compon
                              &step,      &step_by,    &settle,  &settle_list, &timed_step, &merge,  &report, &advance};
 
 }  // namespace calls
-
-Comparison made_by_both(const Call& call, const Loan& loan) {
-  Lent mine(loan);
-  Comparison made{{}, {}, false, Lent(loan)};
-  made.engine = call.engine(mine);
-  made.second = call.second(made.left);
-  made.buffers_agree = mine.holds(made.left) && made.left.holds(mine);
-  return made;
-}
-
-void print(const char* whose, const Said& s) {
-  const floodneedle_answer& a = s.answer;
-  std::printf("  %s: kind %llu number %llu place", whose, (unsigned long long)a.kind, (unsigned long long)a.number);
-  for (std::uint64_t p = 0; p < a.places && p < 4; ++p) std::printf(" %llu", (unsigned long long)a.place[p]);
-  std::printf(" count %llu action %llu resets %llx ticks %llu after", (unsigned long long)a.count,
-              (unsigned long long)a.action, (unsigned long long)a.resets, (unsigned long long)a.ticks);
-  for (std::uint8_t part : s.after) std::printf(" %u", part);
-  std::printf("\n");
-}

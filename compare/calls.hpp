@@ -8,8 +8,8 @@
 
 struct Call {
   const char* name;
-  Said (*engine)(Lent&);
-  Said (*second)(Lent&);
+  Said (*engine)(const Lent&);
+  Said (*second)(const Lent&);
   std::set<std::string> outcomes;  // every one that there is
   // The outcome in a word: the refusal's number, or the answer's kind.
   std::string (*outcome)(const Said&, const Lent&);
@@ -23,15 +23,3 @@ extern const Call recognise, check_text, read, write, component, compatible, acc
 extern const Call* const all[16];
 
 }  // namespace calls
-
-struct Comparison {
-  Said engine;
-  Said second;
-  bool buffers_agree;  // every lent byte and every guard
-  Lent left;           // as the second program left it
-};
-
-// The call made by both.
-Comparison made_by_both(const Call& call, const Loan& loan);
-
-void print(const char* whose, const Said& said);

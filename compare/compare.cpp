@@ -1,18 +1,19 @@
 // The proved engine against the second program: first tests whose answers are stated, then the same generated inputs to both, every answer
-// and every lent buffer compared, byte for byte, with the guards round it.
-// usage: compare seconds N [SEED]    for so long, and long enough to meet every outcome of every call
+// and every lent buffer compared, byte for byte, with the guards round it. What the engine may only read lies in pages that it cannot write.
+// usage: compare seconds N [SEED]    for so long, and long enough for generated inputs to meet every outcome of every call
 //        compare inputs N [SEED]     until so many inputs were compared
 //        compare models FIRST COUNT [SEED]    what was reported of these models, again; no stated tests, no outcome asked for
 #include <chrono>
 #include <cstdio>
 #include <cstdlib>
 
+#include "pages.hpp"
 #include "random_inputs.hpp"
 #include "stated/stated.hpp"
 
 namespace {
 
-constexpr std::uint64_t least = 800;  // models enough to meet every outcome of every call
+constexpr std::uint64_t least = 300;  // models: the aims go round five times, and every outcome of every call is met
 
 std::uint64_t number(const char* word) { return std::strtoull(word, nullptr, 10); }
 
@@ -34,6 +35,10 @@ int main(int count, char** words) {
   if ((what != "seconds" && what != "inputs" && !by_model) || count < needed || count > needed + 1) {
     std::fprintf(stderr, "usage: compare seconds N [SEED], compare inputs N [SEED], or compare models FIRST COUNT [SEED]\n");
     return 2;
+  }
+  if (!faults_are_caught()) {
+    std::printf("a store to a page that may only be read is not caught here\n0 passed, 1 failed\n");
+    return 1;
   }
   const std::uint64_t seed = count > needed ? number(words[needed]) : 1;
   if (by_model) {

@@ -1,4 +1,4 @@
-// What a call is lent, with guards round every buffer, so that a byte written too far shows.
+// What a call is lent, how the call gets it, and a loan kept between guards, so that a byte written too far shows.
 #pragma once
 
 #include <algorithm>
@@ -8,7 +8,7 @@
 // All that some call takes; each call uses its own part and must leave the others as they are.
 struct Loan {
   Table table;
-  Bytes state;
+  Bytes state;                // read; `advance` writes it too
   std::uint64_t missing = 0;  // parts that the state is said to have beyond its bytes
   Bytes bytes;                // read: a text, a list, or the program's input
   std::uint64_t number = 0;   // a budget, a named action, or an index
@@ -17,33 +17,52 @@ struct Loan {
   Clocks clocks;              // read and written
 };
 
+// The same as a call gets it: fronts and lengths, and where its answer goes.
+struct Lent {
+  second::Words table;
+  second::Bytes state;
+  second::BytesToWrite advanced;  // the state again, for `advance`
+  second::Bytes bytes;
+  std::uint64_t number;
+  second::WordsToWrite into;
+  second::BytesToWrite out;
+  second::Ticks clocks;
+  floodneedle_answer* answer;
+  After* after;
+};
+
+// Bytes of noise before and behind a buffer.
+constexpr std::size_t guard_bytes = 64;
+constexpr std::uint8_t guard_byte = 0xa5;
+
+inline bool is_guard(const void* front) {
+  const auto* bytes = static_cast<const std::uint8_t*>(front);
+  return std::all_of(bytes, bytes + guard_bytes, [](std::uint8_t byte) { return byte == guard_byte; });
+}
+
+inline bool same(const void* a, const void* b, std::size_t bytes) { return bytes == 0 || std::memcmp(a, b, bytes) == 0; }
+
+// A buffer between guards.
 template <class T>
 class Guarded {
  public:
-  explicit Guarded(const std::vector<T>& lent) : store(lent.size() + 2 * guard) {
-    std::fill_n(store.begin(), guard, noise());
-    std::copy(lent.begin(), lent.end(), store.begin() + guard);
-    std::fill_n(store.end() - guard, guard, noise());
+  explicit Guarded(const std::vector<T>& content) : store(guard + content.size() + guard) {
+    std::memset(store.data(), guard_byte, guard_bytes);
+    if (!content.empty()) std::memcpy(front(), content.data(), content.size() * sizeof(T));
+    std::memset(front() + content.size(), guard_byte, guard_bytes);
   }
 
   T* front() { return store.data() + guard; }
-  std::uint64_t size() const { return store.size() - 2 * guard; }
+  const T* front() const { return store.data() + guard; }
+  std::size_t size() const { return store.size() - 2 * guard; }
+  std::vector<T> content() const { return std::vector<T>(front(), front() + size()); }
 
-  // Whether the buffer holds this, and the guards hold what they held.
-  bool holds(const std::vector<T>& content) const {
-    return intact() && content.size() == size() && std::equal(content.begin(), content.end(), store.begin() + guard);
-  }
-  bool holds(const Guarded& other) const { return intact() && store == other.store; }
-
-  std::vector<T> content() const { return std::vector<T>(store.begin() + guard, store.end() - guard); }
+  bool holds(const std::vector<T>& content) const { return content.size() == size() && same(content.data(), front(), size() * sizeof(T)); }
+  // Whether the guards hold what they held.
+  bool intact() const { return is_guard(store.data()) && is_guard(front() + size()); }
 
  private:
-  static constexpr std::ptrdiff_t guard = 64 / sizeof(T);
-  static constexpr T noise() { return static_cast<T>(0xa5a5a5a5a5a5a5a5u); }
-  static bool untouched(const T& element) { return element == noise(); }
-  bool intact() const {
-    return std::all_of(store.begin(), store.begin() + guard, untouched) && std::all_of(store.end() - guard, store.end(), untouched);
-  }
+  static constexpr std::size_t guard = guard_bytes / sizeof(T);
   std::vector<T> store;
 };
 
@@ -51,31 +70,42 @@ class Guarded {
 template <class T>
 class Framed {
  public:
-  Framed() { std::memset(bytes, 0xa5, sizeof bytes); }
-  T* place() { return reinterpret_cast<T*>(bytes + guard); }
-  bool intact() const {
-    return std::all_of(bytes, bytes + guard, untouched) && std::all_of(bytes + guard + sizeof(T), bytes + sizeof bytes, untouched);
-  }
+  Framed() { std::memset(bytes, guard_byte, sizeof bytes); }
+  T* place() { return reinterpret_cast<T*>(bytes + guard_bytes); }
+  bool intact() const { return is_guard(bytes) && is_guard(bytes + guard_bytes + sizeof(T)); }
 
  private:
-  static constexpr std::size_t guard = 64;
-  static bool untouched(std::uint8_t byte) { return byte == 0xa5; }
-  alignas(16) std::uint8_t bytes[guard + sizeof(T) + guard];
+  alignas(16) std::uint8_t bytes[guard_bytes + sizeof(T) + guard_bytes];
 };
 
-// A loan as one program gets it.
-struct Lent {
-  explicit Lent(const Loan& loan)
+// A loan kept for one program.
+struct Kept {
+  explicit Kept(const Loan& loan)
       : table(loan.table), state(loan.state), missing(loan.missing), bytes(loan.bytes), number(loan.number), into(loan.into),
         out(loan.out), clocks(loan.clocks) {}
 
-  std::uint64_t parts() const { return state.size() + missing; }
+  Lent lent() {
+    const std::uint64_t parts = state.size() + missing;
+    return {{table.front(), table.size()},
+            {state.front(), parts},
+            {state.front(), parts},
+            {bytes.front(), bytes.size()},
+            number,
+            {into.front(), into.size()},
+            {out.front(), out.size()},
+            {clocks.front(), clocks.size()},
+            answer.place(),
+            after.place()};
+  }
 
-  // Whether every buffer holds what the other one holds, and all guards hold what they held.
-  template <class Other>
-  bool holds(const Other& other) const {
-    return table.holds(other.table) && state.holds(other.state) && bytes.holds(other.bytes) && into.holds(other.into) &&
-           out.holds(other.out) && clocks.holds(other.clocks) && answer.intact() && after.intact();
+  bool holds(const Loan& loan) const {
+    return table.holds(loan.table) && state.holds(loan.state) && bytes.holds(loan.bytes) && into.holds(loan.into) && out.holds(loan.out) &&
+           clocks.holds(loan.clocks);
+  }
+  // Whether all guards hold what they held.
+  bool intact() const {
+    return table.intact() && state.intact() && bytes.intact() && into.intact() && out.intact() && clocks.intact() && answer.intact() &&
+           after.intact();
   }
 
   Guarded<std::uint64_t> table;

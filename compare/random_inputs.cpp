@@ -1,79 +1,21 @@
 #include "random_inputs.hpp"
 
-#include "acceptance.hpp"
+#include "aims.hpp"
 #include "damage.hpp"
-#include "generate.hpp"
+#include "drawing.hpp"
+#include "table.hpp"
 #include "tally.hpp"
-#include "text_writing.hpp"
 
 namespace {
 
-using second::Model;
+using drawing::Drawn;
 using second::Random;
+
+constexpr unsigned aims_for_a_model = 3;
 
 std::string where;  // the input that is tried, for a difference to be found again
 
-Comparison try_call(const Call& call, const Loan& loan) { return compare(call, loan, where); }
-
-// ---- loans. Draws stand in statements of their own, so that a seed gives the same inputs with every compiler.
-
-Bytes bytes_of(const std::string& text) { return Bytes(text.begin(), text.end()); }
-
-Table noise(Random& random, std::size_t words) {
-  Table table(words);
-  for (std::uint64_t& word : table) word = random.next();
-  return table;
-}
-
-Bytes noise_bytes(Random& random, std::size_t bytes) {
-  Bytes buffer(bytes);
-  for (std::uint8_t& byte : buffer) byte = static_cast<std::uint8_t>(random.next());
-  return buffer;
-}
-
-// A buffer for a table: mostly as long as an image, else longer, a word short, or empty.
-Table room(Random& random) {
-  const unsigned drawn = random.below(10);
-  const std::size_t words = drawn < 6   ? second::image_words
-                            : drawn < 8 ? second::image_words + random.below(9)
-                            : drawn < 9 ? second::image_words - 1
-                                        : random.below(3);
-  return noise(random, words);
-}
-
-Model drawn(Random& random) {
-  const auto size = random.chance(5) ? second::Size::large : random.chance(30) ? second::Size::medium : second::Size::small;
-  const unsigned kind = random.below(20);
-  if (kind < 3) return second::generate_faulty(random, size);
-  if (kind < 7) return second::generate_failing(random, 10 + random.below(9), size);
-  if (kind < 8 && random.chance(20)) return second::generate_overlong(random);
-  return second::generate(random, second::families[random.chance(90) ? random.below(5) : random.below(9)], size);
-}
-
-bool sound(const Model& model, const Bytes& state) {
-  return !second::acceptance(model) && state.size() == model.components.size() &&
-         std::equal(state.begin(), state.end(), model.components.begin(),
-                    [](std::uint8_t part, const second::Component& c) { return part < c.states; });
-}
-
-Bytes drawn_state(Random& random, const Model& model) {
-  if (random.chance(50)) return second::generate_state(random, model);
-  return random.chance(70) ? second::generate_calm_state(random, model) : second::generate_odd_state(random, model);
-}
-
-Bytes drawn_list(Random& random, const Model& model, const Bytes& state) {
-  if (!sound(model, state)) return noise_bytes(random, 3);
-  if (random.chance(60)) {
-    const unsigned most = 1 + random.below(40);
-    return second::generate_list(random, model, state, most);
-  }
-  return second::generate_odd_list(random, model, state);
-}
-
-std::uint64_t drawn_action(Random& random, const Bytes& list) {
-  if (!list.empty() && !random.chance(10)) return list[0];
-  return random.chance(50) ? random.below(64) : random.next();
-}
+Comparison try_call(const Call& call, const Loan& loan) { return compare(Input::generated, call, loan, where); }
 
 // ---- single calls
 
@@ -86,41 +28,43 @@ void try_text(const Bytes& text, const Table& into) {
 }
 
 void try_texts(Random& random, const std::string& text) {
-  try_text(bytes_of(text), room(random));
+  try_text(drawing::bytes_of(text), drawing::odd_room(random));
   std::string damaged = text;
   for (unsigned turn = 0; turn < 2; ++turn) {
     damaged = second::damaged_text(random, damaged);
-    try_text(bytes_of(damaged), room(random));
+    try_text(drawing::bytes_of(damaged), drawing::odd_room(random));
   }
 }
 
-void try_calls(Random& random, const Table& table, const Model& model, const std::string& text) {
+// Every call that takes a table, on one that need not be the model's.
+void try_calls(Random& random, const Table& table, const Drawn& drawn) {
   Loan loan;
   loan.table = table;
   for (const Call* call : {&calls::recognise, &calls::compatible, &calls::accept, &calls::confluent}) try_call(*call, loan);
 
   const unsigned length = random.below(4);
-  const std::size_t bytes = length == 0 ? second::max_text : length == 1 ? text.size() : length == 2 ? text.size() + random.below(40) : text.size() - 1;
-  loan.out = noise_bytes(random, bytes);
+  const std::size_t exact = drawn.text.size();
+  const std::size_t bytes = length == 0 ? second::max_text : length == 1 ? exact : length == 2 ? exact + random.below(40) : exact - 1;
+  loan.out = drawing::noise_bytes(random, bytes);
   try_call(calls::write, loan);
 
-  loan.state = drawn_state(random, model);
-  loan.bytes = drawn_list(random, model, loan.state);
-  loan.number = drawn_action(random, loan.bytes);
+  loan.state = drawing::odd_state(random, drawn);
+  loan.bytes = drawing::odd_list(random, drawn, loan.state);
+  loan.number = drawing::action(random, loan.bytes);
   for (const Call* call : {&calls::step, &calls::step_by, &calls::settle_list, &calls::advance}) try_call(*call, loan);
 
-  loan.number = random.chance(60) ? second::generate_budget(random) : second::generate_odd_budget(random);
-  const std::size_t exact = loan.number <= second::max_budget ? loan.number : 0;
-  const std::size_t trace = random.chance(80) ? exact + random.below(3) : random.below(exact + 1);
-  loan.out = noise_bytes(random, trace);
+  loan.number = drawing::budget(random);
+  loan.out = drawing::trace(random, loan.number);
   try_call(calls::settle, loan);
 
-  loan.clocks = random.chance(60) ? second::generate_ticks(random) : second::generate_odd_ticks(random);
+  // Half of the states above are not stable, which a timed step refuses first of all.
+  if (random.chance(50)) loan.state = second::generate_calm_state(random, drawn.model);
+  loan.clocks = random.chance(70) ? drawing::clocks(random, drawn, loan.state) : drawing::odd_clocks(random, drawn, loan.state);
   try_call(calls::timed_step, loan);
 
-  loan.number = second::generate_index(random, model);
+  loan.number = second::generate_index(random, drawn.model);
   try_call(calls::component, loan);
-  loan.into = room(random);
+  loan.into = drawing::odd_room(random);
   try_call(calls::merge, loan);
 }
 
@@ -128,38 +72,35 @@ void try_calls(Random& random, const Table& table, const Model& model, const std
 
 bool refused(const Comparison& made) { return made.second.answer.kind == FLOODNEEDLE_REFUSED; }
 
-// Read a text, merge some components, settle and take timed steps, write, read again. A word of the table, the text or the state is
-// damaged on the way at times.
-void try_sequence(Random& random, const std::string& text) {
-  Loan loan;
-  loan.bytes = bytes_of(random.chance(90) ? text : second::damaged_text(random, text));
-  loan.into = noise(random, second::image_words);
-  Comparison made = try_call(calls::read, loan);
-  if (refused(made)) return;
-  Table table = made.left.into.content();
-
+// Some components are merged, one pair after the other.
+Table merged(Random& random, Table table) {
   for (unsigned turn = 0; turn < 3 && random.chance(60); ++turn) {
-    loan = Loan{};
+    Loan loan;
     loan.table = table;
     loan.number = table[0] > 1 && random.chance(90) ? random.below(table[0] - 1) : random.below(table[0] + 1);
-    loan.into = noise(random, second::image_words);
-    made = try_call(calls::merge, loan);
+    loan.into = drawing::room(random);
+    const Comparison made = try_call(calls::merge, loan);
     if (refused(made)) break;
     table = made.left.into.content();
   }
-  if (random.chance(5)) table = second::damaged_table(random, table);
+  return table;
+}
 
-  loan = Loan{};
+// Settling and timed steps in turn, with new samples for the clocks reset; a lent step after the first settling.
+void try_run(Random& random, const Table& table) {
+  Loan loan;
   loan.table = table;
   const auto model = second::model_of_image(lent(table));
+  const Drawn drawn(model ? *model : second::Model{{second::Component{}}});
   if (model)
     for (const second::Component& component : model->components) loan.state.push_back(static_cast<std::uint8_t>(component.start));
-  loan.clocks = second::generate_ticks(random);
+  loan.clocks = drawing::clocks(random, drawn, loan.state);
   loan.number = random.between(1, 64);
-  loan.out = noise_bytes(random, 64);
+  loan.out = drawing::noise_bytes(random, 64);
+  const std::uint64_t span = random.chance(70) ? 1000 : second::tick_bound;
   for (unsigned turn = 0; turn < 6; ++turn) {
-    if (random.chance(3)) loan.state = drawn_state(random, model ? *model : Model{{second::Component{}}});
-    made = try_call(calls::settle, loan);
+    if (random.chance(3)) loan.state = drawing::odd_state(random, drawn);
+    Comparison made = try_call(calls::settle, loan);
     const std::size_t parts = loan.state.size();
     std::uint64_t resets = made.second.answer.resets;
     if (!refused(made)) loan.state.assign(made.second.after.begin(), made.second.after.begin() + parts);
@@ -174,10 +115,25 @@ void try_sequence(Random& random, const std::string& text) {
     loan.state.assign(made.second.after.begin(), made.second.after.begin() + parts);
     loan.clocks = made.left.clocks.content();
     for (unsigned x = 0; x < loan.clocks.size(); ++x)
-      if (second::has(made.second.answer.resets | resets, x)) loan.clocks[x] = 1 + random.below(1000);
+      if (second::has(made.second.answer.resets | resets, x)) loan.clocks[x] = 1 + static_cast<std::int64_t>(random.next() % span);
   }
+}
 
-  loan.out = noise_bytes(random, second::max_text);
+// Read a text, merge some components, settle and take timed steps, write, read again. A word of the table, the text or the state is
+// damaged on the way at times.
+void try_sequence(Random& random, const std::string& text) {
+  Loan loan;
+  loan.bytes = drawing::bytes_of(random.chance(90) ? text : second::damaged_text(random, text));
+  loan.into = drawing::room(random);
+  Comparison made = try_call(calls::read, loan);
+  if (refused(made)) return;
+  Table table = merged(random, made.left.into.content());
+  if (random.chance(5)) table = second::damaged_table(random, table);
+  try_run(random, table);
+
+  loan = Loan{};
+  loan.table = table;
+  loan.out = drawing::noise_bytes(random, second::max_text);
   made = try_call(calls::write, loan);
   if (refused(made)) return;
   Bytes written = made.left.out.content();
@@ -186,17 +142,26 @@ void try_sequence(Random& random, const std::string& text) {
 }
 
 // Reports are lent a buffer of a megabyte, which takes its time: one for every fourth model.
-void try_report(Random& random, const Model& model, const std::string& text) {
-  const Bytes state = random.chance(80) ? second::generate_state(random, model) : second::generate_odd_state(random, model);
-  const std::uint64_t budget = second::generate_odd_budget(random);
+void try_report(Random& random, const Drawn& drawn) {
+  const Bytes state = drawing::odd_state(random, drawn);
+  const std::uint64_t budget = drawing::budget(random);
   std::string request = second::request_line(state, budget > 99999 ? 99999 : budget);
-  std::string behind = text;
+  std::string behind = drawn.text;
   if (random.chance(30)) behind = second::damaged_text(random, behind);
   if (random.chance(30)) request = second::damaged_request(random, request);
   Loan loan;
-  loan.bytes = bytes_of(request + behind);
-  loan.out = Bytes(random.chance(98) ? FLOODNEEDLE_REPORT : FLOODNEEDLE_REPORT - 1, 0x77);
+  loan.bytes = drawing::bytes_of(request + behind);
+  loan.out = Bytes(FLOODNEEDLE_REPORT - 1 + random.below(9), 0x77);
   try_call(calls::report, loan);
+}
+
+void try_nonsense(Random& random) {
+  const std::size_t bytes = random.below(300);
+  const Bytes nonsense = drawing::noise_bytes(random, bytes);
+  try_text(nonsense, drawing::odd_room(random));
+  Loan loan;
+  loan.table = drawing::noise(random, second::image_words);
+  try_call(calls::recognise, loan);
 }
 
 }  // namespace
@@ -204,24 +169,16 @@ void try_report(Random& random, const Model& model, const std::string& text) {
 void try_input(std::uint64_t seed, std::uint64_t index) {
   where = "seed " + std::to_string(seed) + ", model " + std::to_string(index);
   Random random(seed * 0x9e3779b97f4a7c15u + index);
-  const Model model = drawn(random);
-  const std::string text = second::text_of_model(model);
-  const Table table = second::image_of_model(model);
-  try_texts(random, text);
-  try_calls(random, table, model, text);
-  Loan longer;
-  longer.table = table;
-  longer.table.push_back(random.next());
-  try_call(calls::recognise, longer);
-  try_calls(random, second::damaged_table(random, table), model, text);
-  try_sequence(random, text);
-  if (index % 4 == 0) try_report(random, model, text);
-  if (index % 16 == 0) {
-    const std::size_t bytes = random.below(300);
-    const Bytes nonsense = noise_bytes(random, bytes);
-    try_text(nonsense, room(random));
-    Loan loan;
-    loan.table = noise(random, second::image_words);
-    try_call(calls::recognise, loan);
+  const Drawn drawn(drawing::model(random));
+  try_texts(random, drawn.text);
+  try_calls(random, drawing::lengthened(random, drawn.table), drawn);
+  const Table damaged = second::damaged_table(random, drawn.table);
+  try_calls(random, drawing::lengthened(random, damaged), drawn);
+  try_sequence(random, drawn.text);
+  if (index % 4 == 0) try_report(random, drawn);
+  if (index % 16 == 0) try_nonsense(random);
+  for (unsigned n = 0; n < aims_for_a_model; ++n) {
+    const Aim& aim = all_aims()[(aims_for_a_model * index + n) % all_aims().size()];
+    try_call(*aim.call, aimed(random, aim));
   }
 }

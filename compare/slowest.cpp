@@ -23,8 +23,9 @@ struct Timed {
 
 std::map<const Call*, std::vector<Timed>> all;
 
-double seconds(Said (*call)(Lent&), const Loan& loan) {
-  Lent lent(loan);
+double seconds(Said (*call)(const Lent&), const Loan& loan) {
+  Kept kept(loan);
+  const Lent lent = kept.lent();
   const auto start = std::chrono::steady_clock::now();
   call(lent);
   return std::chrono::duration<double>(std::chrono::steady_clock::now() - start).count();
@@ -47,10 +48,10 @@ void tell(const Call& call, std::vector<Timed>& timed) {
 
 }  // namespace
 
-Comparison compare(const Call& call, const Loan& loan, const std::string& where) {
-  Comparison made = made_by_both(call, loan);
+Comparison compare(Input, const Call& call, const Loan& loan, const std::string& where) {
+  Comparison made = made_by_both(call, loan, where);
   if (&call == &calls::report) return made;
-  Timed timed{1, 1, call.outcome(made.second, made.left), where};
+  Timed timed{1, 1, call.outcome(made.second, made.left.lent()), where};
   for (unsigned round = 0; round < rounds; ++round) {
     timed.engine = std::min(timed.engine, seconds(call.engine, loan));
     timed.second = std::min(timed.second, seconds(call.second, loan));

@@ -1,11 +1,14 @@
 // What was tried, by call and outcome, and how many tests passed and failed.
 #pragma once
 
-#include "calls.hpp"
+#include "both.hpp"
+
+// Stated inputs stand in compare/stated; the others are drawn, and must meet every outcome of every call by themselves.
+enum class Input { stated, generated };
 
 // One input to a call, by both programs; a difference is told in full the first few times. `where` says which input it was.
 // Answers what the second program left and said, for the next call in a sequence.
-Comparison compare(const Call& call, const Loan& loan, const std::string& where);
+Comparison compare(Input input, const Call& call, const Loan& loan, const std::string& where);
 
 // How many inputs were compared so far.
 std::uint64_t inputs();
@@ -15,6 +18,6 @@ void expect(const std::string& why, const Call& call, const Loan& loan, const Sa
 // The same where no lent byte changes, as with every refusal.
 void expect(const std::string& why, const Call& call, const Loan& loan, const Said& expected);
 
-// Counts by call and outcome, a line for each call that differed or, where `all`, missed an outcome; then 'N passed, M failed'.
-// Answers the exit status.
+// Counts by call and outcome, a line for each call that differed or, where `all`, for each outcome that no generated input met; then
+// 'N passed, M failed'. Answers the exit status.
 int conclude(bool all);

@@ -1,5 +1,5 @@
-/* A panel board with the engine built in: it reads a model, checks it part by part, settles it, and walks timed steps. All buffers are its
- * own; nothing is allocated.
+/* A panel board with the engine built in: it reads a model, checks it part by part, asks whether it is confluent, settles it, and walks timed
+ * steps. All buffers are its own; nothing is allocated.
  * A board has the model in its flash and takes its samples from distributions; here the model is standard input and the samples are made up.
  * usage: tail -n +2 examples/greenhouse.in | panel */
 #include <stdio.h>
@@ -73,6 +73,16 @@ static void take(const struct floodneedle_answer *answer) {
   printf("\n");
 }
 
+/* In a confluent model every settling below ends as it does in whatever order the modules react. settle asks for that each time; timed_step
+ * does not, nor would a loop over step or advance. So it is asked here, once, before the loop. */
+static int confluent(void) {
+  struct floodneedle_answer answer;
+  floodneedle_confluent(table, FLOODNEEDLE_TABLE, &answer);
+  if (refused(&answer)) return 0;
+  printf("confluent\n");
+  return 1;
+}
+
 static int settle(void) {
   struct floodneedle_answer answer;
   floodneedle_settle(table, FLOODNEEDLE_TABLE, state, parts, budget, trace, budget, after, &answer);
@@ -97,7 +107,7 @@ int main(void) {
   floodneedle_read(text, read_text(), table, FLOODNEEDLE_TABLE, &answer);
   if (refused(&answer)) return 1;
   begin();
-  if (!check()) return 1;
+  if (!check() || !confluent()) return 1;
   for (unsigned turn = 0; turn < turns; ++turn)
     if (!settle() || !timed_step()) return 1;
   return settle() ? 0 : 1;

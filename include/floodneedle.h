@@ -1,10 +1,22 @@
 /* Floodneedle for C: an engine for input/output stochastic automata with urgency, its code proved.
  *
+ * The library is compiled for x86-64 alone, with the calling convention that Linux has there. Of a C library it needs memcpy and memset.
+ *
  * Every call takes any input whatever and returns. It keeps nothing between calls, allocates nothing and prints nothing. Every buffer is
  * lent by the caller, with its length behind its pointer, and no two of one call may overlap. A buffer of length 0 still needs a pointer.
  *
- * The answer is always written. Where its kind is FLOODNEEDLE_REFUSED, `number` and the first `places` of `place` tell why and where (paper
- * 01's table of refusal numbers), every other field is 0, `after` is zeros, and no other lent byte has changed.
+ * `answer` and, where a call has it, `after` are the answer: both are always written, all of their bytes. Where the kind is
+ * FLOODNEEDLE_REFUSED, `number` and the first `places` of `place` tell why and where (paper 01's table of refusal numbers), every other
+ * field is 0, `after` is zeros, and nothing is stored to any other lent buffer. Where nothing is refused, `number`, `places` and `place` are
+ * 0, and so is every field that the answer does not use.
+ *
+ * In a model that `confluent` accepts, urgent steps that come to an end come to the same one in whatever order they are taken. settle and
+ * settle_list ask for that each time. step, step_by, advance and timed_step do not: in a model that `confluent` refuses with 18, what a loop
+ * over them arrives at can depend on which of several enabled actions is taken first. Whoever loops over them asks `confluent` once.
+ *
+ * Stack, in bytes, the deepest seen of each call (`make -C compare stack` measures it, and holds these numbers to it):
+ *   recognise 240, check_text 560, read 704, write 400, accept 1888, confluent 2064, merge 2080, step 2208, advance 2320, step_by 2048,
+ *   settle 2320, settle_list 2336, timed_step 2144, report 44464 (it keeps a table of its own).
  *
  * A table is 64-bit words at the front of a buffer (docs/TABLE.md); what lies behind the image is neither read nor changed.
  * A set of clocks or actions is one 64-bit number, bit x for member x.
@@ -43,12 +55,12 @@ enum floodneedle_kind {
 struct floodneedle_answer {
   uint64_t kind;     /* an enum floodneedle_kind */
   uint64_t number;   /* of the refusal, else 0 */
-  uint64_t places;   /* how many values the refusal's place has, 1 to 4 */
+  uint64_t places;   /* how many values the refusal's place has, 1 to 4; 0 where nothing is refused */
   uint64_t place[4];
-  uint64_t count;    /* bytes written, or steps taken */
-  uint64_t action;
-  uint64_t resets;   /* a set of clocks */
-  uint64_t ticks;
+  uint64_t count;    /* bytes written (write, report), or steps taken (settle, settle_list), else 0 */
+  uint64_t action;   /* where moved or fired, else 0 */
+  uint64_t resets;   /* a set of clocks: where moved or fired, and of a settling; else 0 */
+  uint64_t ticks;    /* where fired, else 0 */
 };
 
 /* Whether the table's front is the image of a model. It is not exactly where any other call on it refuses with 20. */
@@ -85,7 +97,8 @@ void floodneedle_accept(const uint64_t *table, size_t table_words, struct floodn
 void floodneedle_confluent(const uint64_t *table, size_t table_words, struct floodneedle_answer *answer);
 
 /* Writes the image of the model in which components i and i + 1 are replaced by their product, unreachable pairs included, to the front
- * of a second table; the first table stays as it is.
+ * of a second table; the first table stays as it is. The two tables may not overlap: a model that is merged into its own table can be
+ * answered done, and what is left there is no image.
  * Refuses: as accept, then 24 (bytes needed: 8 for each of FLOODNEEDLE_TABLE words), 25 (i + 1 is no component), 26 (over 64 states, or
  * over 1,024 rows or 32,768 bytes of text in the whole model). */
 void floodneedle_merge(const uint64_t *table, size_t table_words, uint64_t i, uint64_t *into, size_t into_words,
@@ -93,16 +106,19 @@ void floodneedle_merge(const uint64_t *table, size_t table_words, uint64_t i, ui
 
 /* One urgent step, by the lowest-numbered enabled urgent output: moved, with action and resets, or stable. `after` is always written:
  * the state after the step, the state as given where stable, zeros where refused; places past the state's own are 0.
+ * It does not ask whether the model is confluent, on which it depends whether the order of steps matters: ask `confluent` once.
  * Refuses: as accept, then 21. */
 void floodneedle_step(const uint64_t *table, size_t table_words, const uint8_t *state, size_t parts,
                       uint8_t after[FLOODNEEDLE_STATE], struct floodneedle_answer *answer);
 
 /* The same step on a state that is lent, and advanced there: where it moved, the bytes are the state after it; where it is stable or
  * refused nothing is stored, so that they may lie in memory that can only be read.
+ * It does not ask whether the model is confluent: before a loop over it ask `confluent` once, or where the loop ends depends on the order.
  * Refuses: as step. */
 void floodneedle_advance(const uint64_t *table, size_t table_words, uint8_t *state, size_t parts, struct floodneedle_answer *answer);
 
 /* One urgent step by a named action, moved or refused; never stable.
+ * It does not ask whether the model is confluent: if it is not, where a run ends can depend on the actions that the caller names.
  * Refuses: as accept, then 21, 23 at 0 where the action is not an enabled urgent output. */
 void floodneedle_step_by(const uint64_t *table, size_t table_words, const uint8_t *state, size_t parts, uint64_t action,
                          uint8_t after[FLOODNEEDLE_STATE], struct floodneedle_answer *answer);
@@ -122,6 +138,7 @@ void floodneedle_settle_list(const uint64_t *table, size_t table_words, const ui
 /* In a stable state the enabling clock with the least value fires: fired, with that value as `ticks`, action and resets, and `after` the
  * state after its row; every declared clock falls by it, down to -2^40 at the lowest, and undeclared places stay. With no enabling clock
  * it is quiet and nothing changes. Storing new samples for the clocks in `resets` is the caller's work.
+ * It does not ask whether the model is confluent: whoever settles between timed steps by a loop of his own asks `confluent` once.
  * Refuses: as accept, then 21, 27, 28, 29, 30. */
 void floodneedle_timed_step(const uint64_t *table, size_t table_words, const uint8_t *state, size_t parts,
                             int64_t *clocks, size_t clock_values, uint8_t after[FLOODNEEDLE_STATE], struct floodneedle_answer *answer);

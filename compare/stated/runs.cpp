@@ -68,6 +68,27 @@ void unconfluent() {
   expect("21 of a step, not 18", calls::step, lent_state(clash, {9}), refused(21, {0}));
 }
 
+// What the header says beside the calls that do not ask for 18: the order can matter. From 1,1 the lowest action first is stable after two
+// steps, action 2 first after three.
+void order_matters() {
+  const Table clash = image(with(m, "row 1 - 2 - 2", "row 1 - 2 - 0"));
+  const auto by_advance = [&](const Bytes& from, const Said& expected, const Bytes& to) {
+    const Loan loan = lent_state(clash, from), left = lent_state(clash, to);
+    expect("not confluent, lent", calls::advance, loan, expected, left);
+  };
+  by_advance({1, 1}, moved(1, 1, {}), {0, 1});
+  by_advance({0, 1}, moved(2, 0, {}), {0, 0});
+  by_advance({0, 0}, stable({}), {0, 0});
+  const auto by_name = [&](const Bytes& from, std::uint64_t action, std::uint64_t resets, const Bytes& to) {
+    Loan loan = lent_state(clash, from);
+    loan.number = action;
+    expect("not confluent, by name", calls::step_by, loan, moved(action, resets, to));
+  };
+  by_name({1, 1}, 2, 0, {1, 0});
+  by_name({1, 0}, 1, 1, {0, 1});
+  by_name({0, 1}, 2, 0, {0, 0});
+}
+
 void steps() {
   const Table table = image(m);
   expect("a step", calls::step, lent_state(table, {1, 0}), moved(1, 1, {0, 1}));
@@ -190,6 +211,7 @@ void lists() {
 void stated_runs() {
   states();
   unconfluent();
+  order_matters();
   steps();
   budgets();
   traces();

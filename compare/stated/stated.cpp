@@ -26,6 +26,7 @@ void try_stated() {
   stated_clocks();
   stated_merges();
   stated_requests();
+  stated_sizes();
 }
 
 Said refused(std::uint64_t number, std::initializer_list<std::uint64_t> place) {

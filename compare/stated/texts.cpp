@@ -51,8 +51,8 @@ void every_byte() {
       Text text = m;
       text[at] = static_cast<char>(value);
       const std::string where = "byte " + std::to_string(at) + " as " + std::to_string(value);
-      const Loan loan = lent_text(text, second::image_words);
-      for (const Call* call : {&calls::check_text, &calls::read}) compare(*call, loan, where);
+      compare(Input::stated, calls::check_text, lent_text(text, 0), where);
+      compare(Input::stated, calls::read, lent_text(text, second::image_words), where);
     }
 }
 

@@ -1,0 +1,145 @@
+#include "aims.hpp"
+
+#include <cstdlib>
+
+#include "damage.hpp"
+#include "drawing.hpp"
+#include "text_writing.hpp"
+
+namespace {
+
+using drawing::Drawn;
+using second::Family;
+using second::Model;
+using second::Random;
+
+constexpr unsigned tries = 60;
+
+// What is drawn goes by the refusal's number, where the outcome is one, and else by the kind of answer.
+unsigned number_of(const Aim& aim) { return static_cast<unsigned>(std::atoi(aim.outcome.c_str())); }
+
+bool within(unsigned number, unsigned low, unsigned high) { return low <= number && number <= high; }
+
+Model model_for(Random& random, const Aim& aim) {
+  const unsigned number = number_of(aim);
+  const auto size = drawing::size(random);
+  if (within(number, 10, 18)) return second::generate_failing(random, number, size);
+  if (number == 26) return second::generate(random, second::families[random.below(9)], second::Size::large);
+  // What comes behind 18 in one call comes before it in another, so all of these are confluent.
+  static const std::vector<Family> settling = {Family::confluent, Family::endless, Family::sharing};
+  static const std::vector<Family> timing = {Family::confluent, Family::sharing};
+  return second::generate(random, random.pick(within(number, 28, 30) || aim.call == &calls::timed_step ? timing : settling), size);
+}
+
+std::string too_long(Random& random, std::string text) {
+  if (random.chance(30)) return second::text_of_model(second::generate_overlong(random));
+  const std::size_t length = second::max_text + (random.chance(50) ? 1 : 1 + random.below(3000));
+  const std::string whole = text;
+  while (text.size() < length) text += whole;
+  if (random.chance(50)) text.resize(length);
+  return text;
+}
+
+// A component or a row more than there may be: 7, at that line. It has no image.
+std::string too_many(Random& random, std::string text) {
+  if (random.chance(50)) {
+    for (unsigned c = 0; c <= second::max_components; ++c) text += "comp\t1\t0\n";
+    return text;
+  }
+  Model full = second::generate(random, Family::rows_1024, second::Size::small);
+  second::Component& last = full.components.back();
+  second::Row again = last.rows.back();
+  last.clocks |= 1;
+  again.resets |= 1;
+  last.rows.push_back(again);
+  return second::text_of_model(full);
+}
+
+std::string text_for(Random& random, unsigned number) {
+  const std::string text = Drawn(drawing::model(random)).text;
+  switch (number) {
+    case 1: return too_long(random, text);
+    case 7: return too_many(random, text);
+    case 8: return "";
+    default: return within(number, 2, 6) ? second::damaged_text(random, text) : text;
+  }
+}
+
+// The program's input: 9 and 1 to 8 by what is wrong with it, the rest by its model, state and budget.
+Bytes input_for(Random& random, const Aim& aim, const Drawn& drawn) {
+  const unsigned number = number_of(aim);
+  const Bytes state = number == 21 ? second::generate_odd_state(random, drawn.model) : drawing::state(random, drawn);
+  const std::uint64_t budget = number == 22 ? second::max_budget + 1 + random.below(90000) : second::generate_budget(random);
+  std::string request = second::request_line(state, budget);
+  if (number == 9) request = second::damaged_request(random, request);
+  return drawing::bytes_of(request + (within(number, 1, 8) ? text_for(random, number) : drawn.text));
+}
+
+std::uint64_t number_for(Random& random, const Aim& aim, const Drawn& drawn, const Bytes& list) {
+  const unsigned number = number_of(aim);
+  if (aim.call == &calls::merge) return number == 25 ? second::generate_index(random, drawn.model) : random.below(drawn.model.components.size());
+  if (aim.call == &calls::step_by) return number == 23 ? random.below(second::members) : drawing::action(random, list);
+  if (number == 22) return second::generate_odd_budget(random);
+  return number == 24 ? 1 + random.below(second::max_budget) : second::generate_budget(random);
+}
+
+// What each call writes, a little too short for 24.
+Bytes out_for(Random& random, const Aim& aim, const Drawn& drawn, std::uint64_t number) {
+  const bool is_short = number_of(aim) == 24;
+  const std::size_t need = aim.call == &calls::write ? drawn.text.size() : number <= second::max_budget ? number : 0;
+  const std::size_t bytes = !is_short ? need + random.below(9) : need > 0 ? need - 1 - random.below(need) : 0;
+  return drawing::noise_bytes(random, bytes);
+}
+
+Loan loan_for(Random& random, const Aim& aim, const Drawn& drawn) {
+  const unsigned number = number_of(aim);
+  Loan loan;
+  if (aim.call == &calls::report) {
+    loan.bytes = input_for(random, aim, drawn);
+    loan.out = Bytes(number == 24 ? FLOODNEEDLE_REPORT - 1 - random.below(9) : FLOODNEEDLE_REPORT + random.below(9), 0x77);
+    return loan;
+  }
+  loan.into = number == 24 ? drawing::noise(random, second::image_words - 1 - random.below(9)) : drawing::room(random);
+  if (aim.call == &calls::check_text || aim.call == &calls::read) {
+    loan.bytes = drawing::bytes_of(text_for(random, number));
+    return loan;
+  }
+  const Table table = number == 20 ? second::damaged_table(random, drawn.table) : drawn.table;
+  loan.table = drawing::lengthened(random, table);
+  loan.state = number == 21 ? second::generate_odd_state(random, drawn.model) : drawing::state(random, drawn);
+  loan.bytes = within(number, 22, 23) ? second::generate_odd_list(random, drawn.model, loan.state) : drawing::list(random, drawn, loan.state);
+  loan.number = number_for(random, aim, drawn, loan.bytes);
+  loan.out = out_for(random, aim, drawn, loan.number);
+  loan.clocks = within(number, 28, 30) ? drawing::odd_clocks(random, drawn, loan.state) : drawing::clocks(random, drawn, loan.state);
+  return loan;
+}
+
+bool hits(const Aim& aim, const Loan& loan) {
+  Kept kept(loan);
+  const Lent lent = kept.lent();
+  const Said said = aim.call->second(lent);
+  return aim.call->outcome(said, lent) == aim.outcome;
+}
+
+}  // namespace
+
+const std::vector<Aim>& all_aims() {
+  static const std::vector<Aim> aims = [] {
+    std::vector<Aim> list;
+    for (const Call* call : calls::all)
+      for (const std::string& outcome : call->outcomes) list.push_back({call, outcome});
+    return list;
+  }();
+  return aims;
+}
+
+Loan aimed(Random& random, const Aim& aim) {
+  for (unsigned left = tries;; --left) {
+    const Drawn drawn(model_for(random, aim));
+    // A model costs more than what is lent beside it.
+    for (unsigned again = 0; again < 4; ++again) {
+      Loan loan = loan_for(random, aim, drawn);
+      if (left == 0 || hits(aim, loan)) return loan;
+    }
+  }
+}

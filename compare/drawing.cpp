@@ -1,0 +1,168 @@
+#include "drawing.hpp"
+
+#include "acceptance.hpp"
+#include "composition.hpp"
+#include "damage.hpp"
+#include "text_writing.hpp"
+
+namespace drawing {
+namespace {
+
+constexpr std::int64_t bound = second::tick_bound;
+
+bool fits(const Drawn& drawn, const Bytes& state) { return drawn.accepted && second::fits(drawn.model, state.data(), state.size()); }
+
+second::Set waiting(const Drawn& drawn, const Bytes& state) {
+  second::State at;
+  for (std::uint8_t part : state) at.parts[at.count++] = part;
+  return second::enabling(drawn.model, at);
+}
+
+std::int64_t below(Random& random, std::int64_t most) { return static_cast<std::int64_t>(random.next() % static_cast<std::uint64_t>(most)); }
+
+// Some member of the set, or 64 where it has none.
+unsigned member(Random& random, second::Set of) {
+  const unsigned from = random.below(second::members);
+  for (unsigned n = 0; n < second::members; ++n)
+    if (second::has(of, (from + n) % second::members)) return (from + n) % second::members;
+  return second::members;
+}
+
+// The least value of those that wait: small, of any size, or the largest there is.
+std::int64_t least_value(Random& random) {
+  const unsigned style = random.below(10);
+  if (style == 0) return bound;
+  if (style < 4) return random.below(4);
+  return below(random, std::int64_t{1} << random.between(3, 40));
+}
+
+}  // namespace
+
+Drawn::Drawn(second::Model drawn)
+    : model(std::move(drawn)), text(second::text_of_model(model)), table(second::image_of_model(model)), accepted(!second::acceptance(model)) {}
+
+Bytes bytes_of(const std::string& text) { return Bytes(text.begin(), text.end()); }
+
+Table noise(Random& random, std::size_t words) {
+  Table table(words);
+  for (std::uint64_t& word : table) word = random.next();
+  return table;
+}
+
+Bytes noise_bytes(Random& random, std::size_t bytes) {
+  Bytes buffer(bytes);
+  for (std::uint8_t& byte : buffer) byte = static_cast<std::uint8_t>(random.next());
+  return buffer;
+}
+
+second::Size size(Random& random) {
+  if (random.chance(5)) return second::Size::large;
+  return random.chance(30) ? second::Size::medium : second::Size::small;
+}
+
+second::Model model(Random& random) {
+  const auto of_size = size(random);
+  const unsigned kind = random.below(20);
+  if (kind < 3) return second::generate_faulty(random, of_size);
+  if (kind < 7) return second::generate_failing(random, 10 + random.below(9), of_size);
+  if (kind < 8 && random.chance(20)) return second::generate_overlong(random);
+  // The families at the limits are large and slow.
+  return second::generate(random, second::families[random.chance(90) ? random.below(5) : random.below(9)], of_size);
+}
+
+Table lengthened(Random& random, Table table) {
+  if (random.chance(60)) return table;
+  const unsigned more = random.between(1, 9);
+  for (unsigned word = 0; word < more; ++word) table.push_back(random.next());
+  return table;
+}
+
+Table room(Random& random) {
+  const std::size_t more = random.chance(60) ? 0 : random.below(9);
+  return noise(random, second::image_words + more);
+}
+
+Table odd_room(Random& random) {
+  const unsigned style = random.below(10);
+  if (style < 8) return room(random);
+  const std::size_t words = style < 9 ? second::image_words - 1 : random.below(3);
+  return noise(random, words);
+}
+
+Bytes state(Random& random, const Drawn& drawn) {
+  return random.chance(50) ? second::generate_state(random, drawn.model) : second::generate_calm_state(random, drawn.model);
+}
+
+Bytes odd_state(Random& random, const Drawn& drawn) {
+  return random.chance(85) ? state(random, drawn) : second::generate_odd_state(random, drawn.model);
+}
+
+Bytes list(Random& random, const Drawn& drawn, const Bytes& state) {
+  if (!fits(drawn, state)) return noise_bytes(random, 3);
+  const unsigned most = 1 + random.below(40);
+  return second::generate_list(random, drawn.model, state, most);
+}
+
+Bytes odd_list(Random& random, const Drawn& drawn, const Bytes& state) {
+  if (!fits(drawn, state) || random.chance(60)) return list(random, drawn, state);
+  return second::generate_odd_list(random, drawn.model, state);
+}
+
+std::uint64_t action(Random& random, const Bytes& list) {
+  if (!list.empty() && !random.chance(10)) return list[0];
+  return random.chance(50) ? random.below(second::members) : random.next();
+}
+
+std::uint64_t budget(Random& random) { return random.chance(60) ? second::generate_budget(random) : second::generate_odd_budget(random); }
+
+Bytes trace(Random& random, std::uint64_t budget) {
+  const std::size_t exact = budget <= second::max_budget ? budget : 0;
+  const std::size_t bytes = random.chance(80) ? exact + random.below(3) : random.below(exact + 1);
+  return noise_bytes(random, bytes);
+}
+
+Clocks clocks(Random& random, const Drawn& drawn, const Bytes& state) {
+  if (!fits(drawn, state)) return second::generate_ticks(random);
+  const second::Set declared = second::clocks_of(drawn.model), waits = waiting(drawn, state);
+  const std::int64_t least = least_value(random);
+  const std::int64_t spread = random.chance(50) ? 1 + std::min<std::int64_t>(3, bound - least) : 1 + bound - least;
+  const unsigned percent = random.pick(std::vector<unsigned>{10, 50, 90});
+  Clocks values;
+  for (unsigned x = 0; x < second::clock_values; ++x) {
+    const bool low = random.chance(percent);
+    if (!second::has(declared, x)) values.push_back(static_cast<std::int64_t>(random.next()));
+    else if (second::has(waits, x)) values.push_back(least + below(random, spread));
+    else if (low) values.push_back(-bound + below(random, std::min(2 * least + 2, 2 * bound + 1)));
+    else values.push_back(-bound + below(random, 2 * bound + 1));
+  }
+  // One of those that wait is below the others, if it can be.
+  const unsigned first = member(random, waits);
+  if (first < second::members) values[first] = std::max<std::int64_t>(0, least - 1);
+  return values;
+}
+
+Clocks odd_clocks(Random& random, const Drawn& drawn, const Bytes& state) {
+  static const std::vector<std::size_t> lengths = {0, 1, second::clock_values - 1, second::clock_values + 1, 2 * second::clock_values};
+  static const std::vector<std::int64_t> outside = {bound + 1, -bound - 1, INT64_MAX, INT64_MIN};
+  const unsigned style = random.below(5);
+  if (style == 0 || !fits(drawn, state)) return second::generate_odd_ticks(random);
+  Clocks values = clocks(random, drawn, state);
+  const second::Set waits = waiting(drawn, state);
+  const unsigned some = member(random, second::clocks_of(drawn.model));
+  const unsigned one = member(random, waits);
+  const unsigned other = member(random, waits);
+  const std::int64_t far = random.pick(outside);
+  const std::int64_t low = -1 - below(random, bound);
+  if (style == 1) values.resize(random.pick(lengths));
+  else if (style == 2 && some < second::members) values[some] = far;
+  else if (style == 3 && one < second::members) values[one] = low;
+  else if (one < second::members) {
+    std::int64_t least = values[one];
+    for (unsigned x = 0; x < second::clock_values; ++x)
+      if (second::has(waits, x)) least = std::min(least, values[x]);
+    values[one] = values[other] = least;
+  }
+  return values;
+}
+
+}  // namespace drawing

@@ -1,0 +1,53 @@
+// Draws of all that a call can be lent. Draws stand in statements of their own, so that a seed gives the same inputs with every compiler.
+#pragma once
+
+#include "engine.hpp"
+#include "generate.hpp"
+
+namespace drawing {
+
+using second::Random;
+
+// A model that was drawn, and what the draws beside it ask of it.
+struct Drawn {
+  explicit Drawn(second::Model drawn);
+  second::Model model;
+  std::string text;
+  Table table;
+  bool accepted;
+};
+
+Bytes bytes_of(const std::string& text);
+Table noise(Random& random, std::size_t words);
+Bytes noise_bytes(Random& random, std::size_t bytes);
+
+second::Size size(Random& random);
+// Of any family, or faulty.
+second::Model model(Random& random);
+
+// The same table, at times with words of noise behind it: they are neither read nor changed.
+Table lengthened(Random& random, Table table);
+// A buffer for a table, as long as an image or longer; the odd one may be a word short, or empty.
+Table room(Random& random);
+Table odd_room(Random& random);
+
+// Right for the model, stable or not; the odd one may be of wrong length or range.
+Bytes state(Random& random, const Drawn& drawn);
+Bytes odd_state(Random& random, const Drawn& drawn);
+
+// Actions to take one after the other; the odd ones need not be enabled, and there may be too many.
+Bytes list(Random& random, const Drawn& drawn, const Bytes& state);
+Bytes odd_list(Random& random, const Drawn& drawn, const Bytes& state);
+// The list's first, as a rule.
+std::uint64_t action(Random& random, const Bytes& list);
+
+std::uint64_t budget(Random& random);
+// As long as the budget or a little longer; at times shorter.
+Bytes trace(Random& random, std::uint64_t budget);
+
+// Values that a timed step takes in a stable state: the clocks that wait are at zero or above and one of them is the least, and many of the others
+// lie so near the floor that they reach it. In the odd ones something is wrong: a tie, a value below zero or out of range, or their number.
+Clocks clocks(Random& random, const Drawn& drawn, const Bytes& state);
+Clocks odd_clocks(Random& random, const Drawn& drawn, const Bytes& state);
+
+}  // namespace drawing

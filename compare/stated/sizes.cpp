@@ -1,0 +1,128 @@
+// Every size that the header defines, held to the engine by what it answers there and one further. The Makefile lists them from the header
+// (sizes.inc): a size without a test here does not compile, nor does a test of a size that is gone.
+#include "stated.hpp"
+#include "text_cases.hpp"
+#include "text_writing.hpp"
+
+namespace {
+
+Loan with_front(Loan loan, const Table& front) {
+  std::copy(front.begin(), front.end(), loan.into.begin());
+  return loan;
+}
+
+void TABLE() {
+  const std::uint64_t words = FLOODNEEDLE_TABLE;
+  const Table table = image(m);
+  const Table merged = image(tabbed(
+      "comp 6 0\nact 0 out\nact 1 uout\nact 2 uout\nclk 0 1\n"
+      "row 0 0 0 - 3\nrow 1 0 0 - 4\nrow 1 - 2 - 2\nrow 2 0 0 - 5\nrow 3 - 1 0 1\nrow 4 - 1 0 1\nrow 4 - 2 - 5\nrow 5 - 1 0 2\n"));
+  Loan read, merge = lent_table(table);
+  read.bytes = bytes_of(m);
+  read.into = merge.into = Table(words - 1, 0x77);
+  expect("a table of a word less, read into", calls::read, read, refused(24, {8 * words}));
+  expect("a table of a word less, merged into", calls::merge, merge, refused(24, {8 * words}));
+  read.into = merge.into = Table(words, 0x77);
+  expect("a table, read into", calls::read, read, done(), with_front(read, table));
+  expect("a table, merged into", calls::merge, merge, done(), with_front(merge, merged));
+  Table lent = table;
+  lent.resize(words);
+  expect("a table, read from", calls::recognise, lent_table(lent), done());
+  lent.pop_back();
+  expect("a table of a word less, read from", calls::recognise, lent_table(lent), refused(20, {0}));
+}
+
+void TEXT() {
+  const std::uint64_t bytes = FLOODNEEDLE_TEXT;
+  const second::Model longest = cases::padded_to(bytes);
+  const Text text = second::text_of_model(longest);
+  Loan loan;
+  loan.bytes = bytes_of(text);
+  expect("the longest text", calls::check_text, loan, done());
+  loan.bytes.push_back('\n');
+  expect("a byte more", calls::check_text, loan, refused(1, {0}));
+  loan = lent_table(second::image_of_model(longest));
+  loan.out = Bytes(bytes, 0x77);
+  Loan left = loan;
+  left.out = bytes_of(text);
+  expect("room for the longest text", calls::write, loan, done(bytes), left);
+}
+
+void STATE() {
+  const std::uint64_t parts = FLOODNEEDLE_STATE;
+  const Text component = tabbed("comp 2 1\n");
+  Loan loan;
+  loan.bytes = bytes_of(repeated(component, parts));
+  expect("as many components as parts", calls::check_text, loan, done());
+  loan.bytes = bytes_of(repeated(component, parts + 1));
+  expect("a component more", calls::check_text, loan, refused(7, {parts + 1}));
+  // Every byte of the state after is written, and none behind it.
+  const Bytes ones(parts, 1);
+  const Table table = image(repeated(component, parts));
+  expect("as many parts as there can be", calls::step, lent_state(table, ones), stable(ones));
+  expect("a part more", calls::step, lent_state(table, Bytes(parts + 1, 1)), refused(21, {0}));
+}
+
+void BUDGET() {
+  const std::uint64_t most = FLOODNEEDLE_BUDGET;
+  const Table loop = image(tabbed("comp 1 0\nact 3 uout\nrow 0 - 3 - 0\n"));
+  const Said unsettled = settled(FLOODNEEDLE_UNSETTLED, most, 0, {0});
+  Loan loan = lent_state(loop, {0});
+  loan.number = most;
+  loan.out = Bytes(most - 1, 0x77);
+  expect("the largest budget, a trace of a byte less", calls::settle, loan, refused(24, {most}));
+  loan.out = Bytes(most, 0x77);
+  Loan left = loan;
+  left.out = Bytes(most, 3);
+  expect("the largest budget", calls::settle, loan, unsettled, left);
+  loan.number = most + 1;
+  loan.out = Bytes(most + 1, 0x77);
+  expect("a budget of one more", calls::settle, loan, refused(22, {0}));
+  loan.bytes = Bytes(most, 3);
+  expect("the longest list", calls::settle_list, loan, unsettled);
+  loan.bytes.push_back(3);
+  expect("a list of one more", calls::settle_list, loan, refused(22, {0}));
+}
+
+void CLOCKS() {
+  const std::uint64_t values = FLOODNEEDLE_CLOCKS;
+  Loan loan = lent_state(image(m), {0, 0});
+  for (std::uint64_t wrong : {values - 1, values + 1}) {
+    loan.clocks = Clocks(wrong, 5);
+    expect("another number of clock values", calls::timed_step, loan, refused(28, {0}));
+  }
+  loan.clocks = Clocks(values, 5);
+  Loan left = loan;
+  left.clocks[0] = 0;
+  expect("the number of clock values", calls::timed_step, loan, fired(5, 0, 0, {1, 0}), left);
+}
+
+// The longest report fills this: stated/requests.cpp.
+void REPORT() {
+  const std::uint64_t bytes = FLOODNEEDLE_REPORT;
+  const std::string report = "refused\t9\t0\n";
+  Loan loan;
+  loan.out = Bytes(bytes - 1, 0x77);
+  expect("room for a report, less a byte", calls::report, loan, refused(24, {bytes}));
+  loan.out = Bytes(bytes, 0x77);
+  Loan left = loan;
+  std::copy(report.begin(), report.end(), left.out.begin());
+  expect("room for a report", calls::report, loan, done(report.size()), left);
+}
+
+// No number with a #define: 18 fills every place that an answer has.
+void places() {
+  const Table clash = image(with(m, "row 1 - 2 - 2", "row 1 - 2 - 0"));
+  Said full = refused(18, {1, 1, 1, 2});
+  full.answer.places = sizeof full.answer.place / sizeof full.answer.place[0];
+  expect("as many values as places", calls::confluent, lent_table(clash), full);
+}
+
+}  // namespace
+
+void stated_sizes() {
+#define SIZE(name) name();
+#include "sizes.inc"
+#undef SIZE
+  places();
+}
