@@ -20,7 +20,7 @@ module _ (c : Comp) (cs : List Comp) (well : WellFormed (c ∷ cs)) (conf : Conf
   confluent-steps-commute N k s a b g h ok ne e f =
       let p = step-is-a-row c cs well conf join s (ok .0) a g e in
       let q = step-is-a-row c cs well conf join s (ok .0) b h f in
-      let d = k .meet (ok .1) ne (p .0 .urgent) (q .0 .urgent) (p .0 .row) (q .0 .row) in
+      let d = k .pair a b ne (p .0 .urgent) (q .0 .urgent) .meets (stateOf c cs s) (ok .1) .meet (p .0 .row) (q .0 .row) in
       close g h
       (row-is-a-step c cs well conf join (g .after) (p .1) (d .0) (record { output = q .0 .output; urgent = q .0 .urgent; row = d .1 }))
       (row-is-a-step c cs well conf join (h .after) (q .1) (d .0) (record { output = p .0 .output; urgent = p .0 .urgent; row = d .2 }))

@@ -59,7 +59,7 @@ pub products-confluent : (cs : Model) (A : Automaton) → Closed A → Confluent
 products-confluent [] A o k w al f p = k
 products-confluent (c ∷ cs) A o k w al f p =
     let q = component-closed c (w .0) in
-    products-confluent cs (A ⊗ autoOf c) (product-closed A (autoOf c) o q) (product-is-confluent A (autoOf c) (A .States) (autoOf c .States) (f .0) o q k (al .0))
+    products-confluent cs (A ⊗ autoOf c) (product-closed A (autoOf c) o q) (product-is-confluent A (autoOf c) (A .States) (autoOf c .States) o q (f .0) k (al .0))
     (w .1) (al .1) (fits-on A (autoOf c) cs (f .1) (p .0)) (p .1)
 
 pub wells : (m : Model) → WellFormed m → All WellComp m
