@@ -1,10 +1,12 @@
--- Definition 4.1 of document 000, clause by clause in its own words, without the measure of each clock: sampling is not the engine's.
--- `conditions-are-definition-4-1` proves that `Conditions` (Automaton) is this with paper 01's house rule.
+-- Definitions 4.1 and 4.3 of document 000, clause by clause in its own words, without the measure of each clock: sampling is not the engine's.
+-- `conditions-are-definition-4-1` and `compatible-is-definition-4-3` prove that `Conditions` (Automaton) is the first with paper 01's house rule, and `Compatible` the second.
 use mathlib.Core.Path.{_≡_}
 use mathlib.Core.Logic.{_↔_}
-use Prim.Native.Nat.{ℕ}
+use Prim.Native.Nat.{ℕ, _<_}
+use lib.ListN.{length}
 use Rattle.laws.specs.Sets.{_∪_, _∩_, _∖_, only, _∈_, _⊆_, Apart}
-use Rattle.iosa.specs.Automaton.{Automaton, alphabet}
+use Rattle.iosa.specs.Model.{Model, compAt}
+use Rattle.iosa.specs.Automaton.{Automaton, alphabet, autoOf}
 
 -- ---- the structure (S, A, C, →, C0, s0)
 -- (s, C, a, C′, s′) is one of S × 2^C × A × 2^C × S
@@ -64,3 +66,14 @@ pub record Definition41 (A : Automaton) : Type 0 where
 -- paper 01: "House rule: also at most one for each `uout`"
 pub record HouseRule (A : Automaton) : Type 0 where
   pub one : {a R Q : ℕ} {s t u : A .State} → a ∈ A .urgent ∩ A .outputs → A .Row s 0 a R t → A .Row s 0 a Q u → (R ≡ Q) × (t ≡ u)
+
+-- every component of a system
+pub record AllDefinition41 (m : Model) : Type 0 where
+  pub each : (i : ℕ) → i < length m → Definition41 (autoOf (compAt m i)) × HouseRule (autoOf (compAt m i))
+
+-- ---- Definition 4.3: "they do not share output actions nor clocks, i.e. A1^o ∩ A2^o = ∅ and C1 ∩ C2 = ∅ and, moreover, they agree on urgent actions,
+-- i.e. A1 ∩ A2^u = A2 ∩ A1^u"
+pub record Definition43 (A B : Automaton) : Type 0 where
+  pub outputs : A .outputs ∩ B .outputs ≡ 0
+  pub clocks : A .clocks ∩ B .clocks ≡ 0
+  pub urgent : alphabet A ∩ B .urgent ≡ alphabet B ∩ A .urgent

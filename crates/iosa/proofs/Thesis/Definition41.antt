@@ -1,13 +1,13 @@
--- The conditions that are checked are Definition 4.1 of document 000, clause by clause, and the house rule.
+-- The conditions that are checked are Definition 4.1 of document 000, clause by clause, and the house rule; compatibility is its Definition 4.3.
 use mathlib.Core.Path.{_≡_, refl, sym, _∙_, ap}
 use mathlib.Core.Logic.{_↔_, ⊎-elim}
 use mathlib.Core.Bool.{Bool, true, false, true≢false}
 use Prim.Native.Nat.{ℕ}
-use Rattle.laws.specs.Sets.{has, _∪_, _∩_, _∖_, only, _∈_, _⊆_}
-use Rattle.laws.proofs.SetLaws.{in-or, or-in-l, or-in-r, in-and, and-in, in-without, without-in, in-one, one-in, none-in}
+use Rattle.laws.specs.Sets.{has, _∪_, _∩_, _∖_, only, _∈_, _⊆_, Apart}
+use Rattle.laws.proofs.SetLaws.{in-or, or-in-l, or-in-r, in-and, and-in, in-without, without-in, in-one, one-in, none-in, same-members}
 use Rattle.laws.proofs.TestLaws.{not-so}
-use Rattle.iosa.specs.Automaton.{Automaton, Stable, Enabling, CondA, CondB, CondE, Active, Conditions}
-use Rattle.iosa.specs.Thesis.{Structure, Enabling41, Stable41, Active41, Definition41, HouseRule}
+use Rattle.iosa.specs.Automaton.{Automaton, alphabet, Stable, Enabling, CondA, CondB, CondE, Active, Conditions, Compatible}
+use Rattle.iosa.specs.Thesis.{Structure, Enabling41, Stable41, Active41, Definition41, HouseRule, Definition43}
 use Rattle.iosa.proofs.Settling.Closed.{Closed}
 use Rattle.iosa.proofs.Settling.ProductConditions.{Constraints, conditions-constraints}
 
@@ -162,3 +162,27 @@ active-within-the-clocks A k =
     let cb = condB A (k .structure) k in
     let f = cut-active A o ca cb (k .f .0) (k .f .1) in
     ((λ s. k .f .0 s ∩ A .clocks), active-41 A o ca cb (λ s. k .f .0 s ∩ A .clocks) f, f .own)
+
+-- ---- Definition 4.3
+apart-none : (s t : ℕ) → Apart s t ↔ (s ∩ t ≡ 0)
+apart-none s t = (
+  λ f. same-members (s ∩ t) 0 (λ x h. let p = in-and s t x h in absurd (f x (p .0) (p .1))) (λ x h. absurd (none-in x h)),
+  λ e x h k. none-in x (rw e at (and-in s t x h k)),
+)
+
+pub compatible-is-definition-4-3 : (A B : Automaton) → Structure A → Structure B → Compatible A B ↔ Definition43 A B
+compatible-is-definition-4-3 A B sa sb = (
+  λ k. record {
+    outputs = apart-none (A .outputs) (B .outputs) .0 (k .outputs);
+    clocks = apart-none (A .clocks) (B .clocks) .0 (k .clocks);
+    urgent = same-members (alphabet A ∩ B .urgent) (alphabet B ∩ A .urgent)
+        (λ x h. let p = in-and (alphabet A) (B .urgent) x h in and-in (alphabet B) (A .urgent) x (sb .urgent x (p .1)) (k .right x (p .1) (p .0)))
+        (λ x h. let p = in-and (alphabet B) (A .urgent) x h in and-in (alphabet A) (B .urgent) x (sa .urgent x (p .1)) (k .left x (p .1) (p .0)));
+  },
+  λ d. record {
+    outputs = apart-none (A .outputs) (B .outputs) .1 (d .outputs);
+    clocks = apart-none (A .clocks) (B .clocks) .1 (d .clocks);
+    left = λ a u h. in-and (alphabet A) (B .urgent) a (rw (← d .urgent) at (and-in (alphabet B) (A .urgent) a h u)) .1;
+    right = λ a u h. in-and (alphabet B) (A .urgent) a (rw (d .urgent) at (and-in (alphabet A) (B .urgent) a h u)) .1;
+  },
+)
