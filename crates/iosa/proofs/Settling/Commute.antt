@@ -9,7 +9,8 @@ use Rattle.iosa.specs.Automaton.{Confluent, Conforming, Joinable, AllCon
 use Rattle.iosa.specs.Product.{product, stateOf, Within}
 use Rattle.iosa.specs.Step.{Gone, urgentStep}
 use Rattle.iosa.proofs.Settling.Parts.{within-length}
-use Rattle.iosa.proofs.Settling.ProductOfMany.{system-is-confluent, in-range-is-a-state}
+use Rattle.iosa.proofs.Settling.ProductOfMany.{in-range-is-a-state}
+use Rattle.iosa.proofs.Settling.SystemConfluent.{system-is-confluent}
 use Rattle.iosa.proofs.Settling.Steps.{state-is-one-list, step-is-a-row, row-is-a-step, RowStep}
 use Rattle.iosa.proofs.Settling.Descent.{Diamond}
 
