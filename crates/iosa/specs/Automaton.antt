@@ -1,6 +1,6 @@
 -- The automaton of document 000, Definition 4.1, with its conditions (a) to (f); confluence, Definition 4.5; compatibility.
 use mathlib.Core.Path.{_≡_}
-use mathlib.Core.Logic.{_≢_, _⊎_}
+use mathlib.Core.Logic.{_≢_}
 use Prim.Native.Nat.{ℕ, _<_}
 use lib.ListN.{length}
 use Rattle.laws.specs.Sets.{_∪_, _∖_, only, _∈_, _⊆_, Apart}

@@ -1,5 +1,6 @@
 -- Definitions 4.1 and 4.3 of document 000, clause by clause in its own words, without the measure of each clock: sampling is not the engine's.
--- `conditions-are-definition-4-1` and `compatible-is-definition-4-3` prove that `Conditions` (Automaton) is the first with paper 01's house rule, and `Compatible` the second.
+-- `conditions-are-definition-4-1` proves that `Conditions` (Automaton) is the first with paper 01's house rule, `compatible-is-definition-4-3` that
+-- `Compatible` is the second.
 use mathlib.Core.Path.{_≡_}
 use mathlib.Core.Logic.{_↔_}
 use Prim.Native.Nat.{ℕ, _<_}

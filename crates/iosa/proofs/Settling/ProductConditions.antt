@@ -169,9 +169,12 @@ module _ (A B : Automaton) (k : Compatible A B) (ca : Constraints A) (cb : Const
   -- (e): an input of the product is no output of either side
   product-meets-e : OneRow (A ⊗ B) ((A ⊗ B) .inputs)
   product-meets-e = product-one-row A B ((A ⊗ B) .inputs) (A .inputs) (B .inputs)
-      (λ a h. known-input A a (λ v. true≢false (sym (or-in-l (A .outputs) (B .outputs) a v) ∙ in-without (A .inputs ∪ B .inputs) (A .outputs ∪ B .outputs) a h .1)))
-      (λ a h. known-input B a (λ v. true≢false (sym (or-in-r (A .outputs) (B .outputs) a v) ∙ in-without (A .inputs ∪ B .inputs) (A .outputs ∪ B .outputs) a h .1)))
+      (λ a h. known-input A a (λ v. nobody a h (or-in-l (A .outputs) (B .outputs) a v)))
+      (λ a h. known-input B a (λ v. nobody a h (or-in-r (A .outputs) (B .outputs) a v)))
       (ca .inputs) (cb .inputs)
+    where
+      nobody : (a : ℕ) → a ∈ (A ⊗ B) .inputs → a ∈ (A ⊗ B) .outputs → ⊥
+      nobody a h v = true≢false (sym v ∙ in-without (A .inputs ∪ B .inputs) (A .outputs ∪ B .outputs) a h .1)
 
   -- an output of A is none of B, so B can always go with it
   pub with-left : {a C R : ℕ} {s s′ : A .State} (t : B .State) → B .States t → a ∈ A .outputs → A .Row s C a R s′
@@ -301,7 +304,7 @@ module _ (A B : Automaton) (k : Compatible A B) (ca : Constraints A) (cb : Const
 pub product-keeps-house-rule : (A B : Automaton) → Compatible A B → CondE A → CondE B → CondE (A ⊗ B)
 product-keeps-house-rule A B k ea eb =
     let e = product-one-row A B ((A ⊗ B) .inputs ∪ (A ⊗ B) .urgent) (A .inputs ∪ A .urgent) (B .inputs ∪ B .urgent)
-        (unclocked-left A B k) (unclocked-right A B k) (record { same = ea .same }) (record { same = eb .same }) in
+    (unclocked-left A B k) (unclocked-right A B k) (record { same = ea .same }) (record { same = eb .same }) in
     record { same = e .same }
 
 -- Proposition 4.1, with the house rule

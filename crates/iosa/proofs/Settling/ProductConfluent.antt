@@ -1,7 +1,7 @@
--- Proposition 4.2 of document 000, pair by pair: the product of automata that are confluent with respect to a and b is; and so for every pair, where they are compatible.
+-- Proposition 4.2 of document 000, pair by pair: of two automata confluent with respect to a and b, the product is; where they are compatible, for all.
 use mathlib.Core.Path.{_≡_, sym}
 use Prim.Native.Nat.{ℕ}
-use Rattle.laws.specs.Sets.{_∪_, _∈_}
+use Rattle.laws.specs.Sets.{_∈_}
 use Rattle.laws.proofs.SetLaws.{or-none}
 use Rattle.iosa.specs.Automaton.{Automaton, alphabet, MeetsAt, ConfluentFor, Confluent, Compatible}
 use Rattle.iosa.specs.Product.{_⊗_}

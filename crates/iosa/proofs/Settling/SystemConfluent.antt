@@ -1,17 +1,17 @@
 -- Proposition 4.2 of document 000 for a system, pair by pair: at one composed state, over composed states made of parts that count, and over all.
-use mathlib.Core.Path.{_≡_, refl}
+use mathlib.Core.Path.{refl}
 use mathlib.Core.List.{List, [], _∷_}
 use Prim.Native.Nat.{ℕ, _<_}
 use Rattle.laws.specs.Sets.{_∈_}
 use Rattle.iosa.specs.Model.{Comp, Model, acts, urgents}
 use Rattle.iosa.specs.WellFormed.{WellComp, WellFormed}
 use Rattle.iosa.specs.Automaton.{Automaton, autoOf, MeetsAt, ConfluentFor, Confluent, Joinable, AllConfluent}
-use Rattle.iosa.specs.Product.{_⊗_, productFrom, product, embed, stateOf, EachPart, Within, MadeOf}
+use Rattle.iosa.specs.Product.{_⊗_, productFrom, product, embed, stateOf, EachPart, MadeOf}
 use Rattle.iosa.proofs.Settling.Each.{All, each-all, all-map, all-zip}
 use Rattle.iosa.proofs.Settling.Parts.{label-parts}
 use Rattle.iosa.proofs.Settling.Closed.{Closed, component-closed, product-closed}
 use Rattle.iosa.proofs.Settling.ProductConfluent.{Meets, product-meets-at}
-use Rattle.iosa.proofs.Settling.ProductOfMany.{Pairwise, joinable-pairwise, wells, system-closed, state-has-a-list}
+use Rattle.iosa.proofs.Settling.ProductOfMany.{joinable-pairwise, wells, system-closed, state-has-a-list}
 use Rattle.iosa.proofs.Settling.UrgentOutputs.{urgent-everywhere}
 
 -- what holds of each component, and of each part, together

@@ -130,9 +130,9 @@ module _ (A : Automaton) where
             let i = k .a r u in
             let j = k .a q u in
             let e = ⊎-elim (λ v. k .e v (rw i at r) (rw j at q)) (λ v. ⊎-elim
-                (λ w. k .e w (rw i at r) (rw j at q))
-                (λ w. h .one (and-in (A .urgent) (A .outputs) a v w) (rw i at r) (rw j at q))
-                (in-or (A .inputs) (A .outputs) a (own .action r))) (in-or (A .inputs) (A .urgent) a u) in
+            (λ w. k .e w (rw i at r) (rw j at q))
+            (λ w. h .one (and-in (A .urgent) (A .outputs) a v w) (rw i at r) (rw j at q))
+            (in-or (A .inputs) (A .outputs) a (own .action r))) (in-or (A .inputs) (A .urgent) a u) in
             (i ∙ sym j, e .0, e .1);
       }
 
@@ -155,7 +155,8 @@ module _ (A : Automaton) where
     )
 
 -- (f) asks for active : S → 2^C: of any sets that will do, the clocks of A in them will do
-pub active-within-the-clocks : (A : Automaton) → Definition41 A → (active : A .State → ℕ) × Active41 A active × ((s : A .State) → A .States s → active s ⊆ A .clocks)
+pub active-within-the-clocks : (A : Automaton) → Definition41 A
+    → (active : A .State → ℕ) × Active41 A active × ((s : A .State) → A .States s → active s ⊆ A .clocks)
 active-within-the-clocks A k =
     let o = structure-closed A (k .structure) in
     let ca = condA A (k .structure) k in

@@ -6,7 +6,7 @@ use mathlib.Core.Option.{none}
 use mathlib.Core.List.{List, [], _∷_}
 use Prim.Native.Nat.{ℕ, _<_}
 use lib.ListN.{length}
-use Rattle.laws.specs.Sets.{_∪_, _∈_, _⊆_, Apart}
+use Rattle.laws.specs.Sets.{_∪_, _⊆_, Apart}
 use Rattle.laws.proofs.SetLaws.{in-or, or-in-l, or-in-r, in-without}
 use Rattle.iosa.specs.Model.{Comp, Model, compAt, inputs, outputs}
 use Rattle.iosa.specs.WellFormed.{WellComp, WellFormed}
@@ -20,7 +20,8 @@ use Rattle.iosa.proofs.Settling.Parts.{alphabet-joins}
 use Rattle.iosa.proofs.Settling.Closed.{Closed, component-closed, product-closed, or-within}
 use Rattle.iosa.proofs.Settling.ProductConditions.{product-keeps-constraints, product-keeps-house-rule}
 use Rattle.iosa.proofs.Settling.ProductOfMany.{wells, system-is-an-automaton}
-use Rattle.iosa.proofs.Thesis.Definition41.{structure-closed, constraints-definition, definition-constraints, house-rule-condition, condition-house-rule, conditions-are-definition-4-1}
+use Rattle.iosa.proofs.Thesis.Definition41.{structure-closed, constraints-definition, definition-constraints}
+use Rattle.iosa.proofs.Thesis.Definition41.{house-rule-condition, condition-house-rule, conditions-are-definition-4-1}
 
 -- ---- the structure
 closed-structure : (A : Automaton) → Closed A → Apart (A .inputs) (A .outputs) → A .urgent ⊆ alphabet A → Structure A
@@ -51,8 +52,9 @@ product-structure A B p q = closed-structure (A ⊗ B) (product-closed A B (stru
 -- ---- Proposition 4.1: "Let I1 and I2 be two compatible IOSA_us. Then I1 || I2 is indeed an IOSA_u"
 module _ (A B : Automaton) (k : Compatible A B) (p : Definition41 A) (q : Definition41 B) where
   pub product-meets-definition-4-1 : Definition41 (A ⊗ B)
-  product-meets-definition-4-1 = constraints-definition (A ⊗ B) (product-structure A B (p .structure) (q .structure)) (product-keeps-constraints A B k
-      (definition-constraints A (p .structure) p) (definition-constraints B (q .structure) q) (structure-closed A (p .structure)) (structure-closed B (q .structure)))
+  product-meets-definition-4-1 = constraints-definition (A ⊗ B) (product-structure A B (p .structure) (q .structure)) (
+      product-keeps-constraints A B k (definition-constraints A (p .structure) p) (definition-constraints B (q .structure) q)
+      (structure-closed A (p .structure)) (structure-closed B (q .structure)))
 
   -- and the house rule, where both have it
   pub product-meets-the-house-rule : HouseRule A → HouseRule B → HouseRule (A ⊗ B)
@@ -68,7 +70,8 @@ pub system-meets-definition-4-1 : (c : Comp) (cs : List Comp) → WellFormed (c 
     → Definition41 (product c cs) × HouseRule (product c cs)
 system-meets-definition-4-1 c cs well conf join =
     let w = wells (c ∷ cs) well in
-    conditions-are-definition-4-1 (product c cs) (products-structure cs (autoOf c) (component-structure c (w .0)) (w .1)) .0 (system-is-an-automaton c cs well conf join)
+    let s = products-structure cs (autoOf c) (component-structure c (w .0)) (w .1) in
+    conditions-are-definition-4-1 (product c cs) s .0 (system-is-an-automaton c cs well conf join)
 
 -- ---- what the checks 10 to 17 accept
 pub accepted-is-definition-4-1 : (m : Model) → WellFormed m → (acceptOf m ≡ none) ↔ AllDefinition41 m × Joinable m
