@@ -19,5 +19,6 @@ pub mod Places
 pub mod FaultsAt
 pub mod InTurn
 pub mod Refused
+pub mod FirstFault
 pub mod Clashes
 pub mod LooksRight

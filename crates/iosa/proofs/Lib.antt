@@ -1,6 +1,7 @@
 pub mod Examples
 pub mod Acceptance
 pub mod Settling
+pub mod Thesis
 pub mod Reading
 pub mod Merging
 pub mod Timing

@@ -10,6 +10,7 @@ pub mod ProductOfMany
 pub mod UrgentOutputs
 pub mod Moves
 pub mod Steps
+pub mod SystemConfluent
 pub mod Commute
 pub mod SeriesAndRuns
 pub mod Demand3

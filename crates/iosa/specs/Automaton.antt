@@ -1,6 +1,6 @@
 -- The automaton of document 000, Definition 4.1, with its conditions (a) to (f); confluence, Definition 4.5; compatibility.
 use mathlib.Core.Path.{_≡_}
-use mathlib.Core.Logic.{_≢_, _⊎_}
+use mathlib.Core.Logic.{_≢_}
 use Prim.Native.Nat.{ℕ, _<_}
 use lib.ListN.{length}
 use Rattle.laws.specs.Sets.{_∪_, _∖_, only, _∈_, _⊆_, Apart}
@@ -110,11 +110,18 @@ pub record Conditions (A : Automaton) : Type 0 where
   pub condF : CondF A
 
 -- ---- confluence (01; 000, Definition 4.5), over the states that count
--- "for every state s and two different urgent actions a and b that both leave s, to s1 with resets A and to s2 with resets B, there is an s3
--- with a b-row from s1 to s3 resetting B and an a-row from s2 to s3 resetting A"
+-- at s, for the actions a and b: "that both leave s, to s1 with resets A and to s2 with resets B, there is an s3 with a b-row from s1 to s3 resetting B
+-- and an a-row from s2 to s3 resetting A"
+pub record MeetsAt (A : Automaton) (s : A .State) (a b : ℕ) : Type 0 where
+  pub meet : {R Q : ℕ} {t u : A .State} → A .Row s 0 a R t → A .Row s 0 b Q u → (v : A .State) × A .Row t 0 b Q v × A .Row u 0 a R v
+
+-- 000: "confluent with respect to actions a, b"
+pub record ConfluentFor (A : Automaton) (Counts : A .State → Type 0) (a b : ℕ) : Type 0 where
+  pub meets : (s : A .State) → Counts s → MeetsAt A s a b
+
+-- "for every state s and two different urgent actions a and b"; 000: "with respect to every pair of urgent actions"
 pub record Confluent (A : Automaton) (Counts : A .State → Type 0) : Type 0 where
-  pub meet : {a b R Q : ℕ} {s t u : A .State} → Counts s → a ≢ b → a ∈ A .urgent → b ∈ A .urgent → A .Row s 0 a R t → A .Row s 0 b Q u
-      → (v : A .State) × A .Row t 0 b Q v × A .Row u 0 a R v
+  pub pair : (a b : ℕ) → a ≢ b → a ∈ A .urgent → b ∈ A .urgent → ConfluentFor A Counts a b
 
 -- ---- compatibility (01; 000, section 4.3)
 -- "no action is an output of two components, no clock belongs to two, and an action is urgent in all components that have it or in none"

@@ -1,5 +1,6 @@
 pub mod Model
 pub mod Automaton
+pub mod Thesis
 pub mod Product
 pub mod Text
 pub mod WellFormed

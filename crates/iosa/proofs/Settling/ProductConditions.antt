@@ -1,4 +1,4 @@
--- Proposition 4.1 of document 000: the product of compatible automata that meet (a) to (f) meets them again.
+-- Proposition 4.1 of document 000: the product of compatible automata that meet (a) to (f) meets them again, with the house rule and without it.
 use mathlib.Core.Path.{_≡_, refl, sym, _∙_, ap₂}
 use mathlib.Core.Logic.{_⊎_, inl, inr, ⊎-elim}
 use mathlib.Core.Bool.{Bool, true, false, true≢false}
@@ -20,6 +20,29 @@ compatible-sym A B k = record {
   right = k .left;
 }
 
+-- at most one row leaves a state by an action of the set K
+pub record OneRow (A : Automaton) (K : ℕ) : Type 0 where
+  pub same : {C D a R Q : ℕ} {s t u : A .State} → a ∈ K → A .Row s C a R t → A .Row s D a Q u → (C ≡ D) × (R ≡ Q) × (t ≡ u)
+
+-- (a) to (f) without the house rule, which `Conditions` has in (e)
+pub record Constraints (A : Automaton) : Type 0 where
+  pub condA : CondA A
+  pub condB : CondB A
+  pub condC : CondC A
+  pub condD : CondD A
+  pub inputs : OneRow A (A .inputs)
+  pub condF : CondF A
+
+pub conditions-constraints : (A : Automaton) → Conditions A → Constraints A
+conditions-constraints A k = record {
+  condA = k .condA;
+  condB = k .condB;
+  condC = k .condC;
+  condD = k .condD;
+  inputs = record { same = λ {C} {D} {a} h r q. k .condE .same (or-in-l (A .inputs) (A .urgent) a h) r q };
+  condF = k .condF;
+}
+
 -- ---- one automaton, by a row or at rest
 module _ (A : Automaton) where
   -- an action that is no output of A is an input of A, where A has it
@@ -34,11 +57,11 @@ module _ (A : Automaton) where
     go-unguarded ca (goes h r) = ca .unguarded r (un h)
     go-unguarded ca (rests h p) = refl
 
-    go-same : CondE A → {s t u : A .State} {C D R Q : ℕ} → Go A a s C R t → Go A a s D Q u → (C ≡ D) × (R ≡ Q) × (t ≡ u)
-    go-same ce (goes h r) (goes k q) = ce .same (un h) r q
-    go-same ce (goes h r) (rests k p) = absurd (true≢false (sym h ∙ k))
-    go-same ce (rests h p) (goes k q) = absurd (true≢false (sym k ∙ h))
-    go-same ce (rests h p) (rests k q) = (refl, refl, refl)
+  go-same : (K a : ℕ) → (a ∈ alphabet A → a ∈ K) → OneRow A K → {s t u : A .State} {C D R Q : ℕ} → Go A a s C R t → Go A a s D Q u → (C ≡ D) × (R ≡ Q) × (t ≡ u)
+  go-same K a f ce (goes h r) (goes k q) = ce .same (f h) r q
+  go-same K a f ce (goes h r) (rests k p) = absurd (true≢false (sym h ∙ k))
+  go-same K a f ce (rests h p) (goes k q) = absurd (true≢false (sym k ∙ h))
+  go-same K a f ce (rests h p) (rests k q) = (refl, refl, refl)
 
   -- by an action that is no output of A, it always can go
   go-input : CondD A → (a : ℕ) → (a ∈ A .outputs → ⊥) → (s : A .State) → A .States s → (R : ℕ) × (t : A .State) × Go A a s 0 R t
@@ -92,14 +115,14 @@ module _ (A B : Automaton) (k : Compatible A B) (a : ℕ) where
       (or-in-r (A .outputs) (B .outputs)) (λ p. urgent-right p h) u h
 
 -- the clock of a guard is one side's: its rows by that clock are one, and the other side follows, to which the action is an input or nothing
-module _ (A B : Automaton) (k : Compatible A B) (ca : CondA A) (cc′ : CondC A) (ce : CondE B) (oa : Closed A) where
+module _ (A B : Automaton) (k : Compatible A B) (ca : CondA A) (cc′ : CondC A) (ce : OneRow B (B .inputs)) (oa : Closed A) where
   one-clock : {a b C D R Q C′ D′ R′ Q′ : ℕ} {s t u : A .State} {s′ t′ u′ : B .State} (x : ℕ) → x ∈ C → x ∈ D
       → Go A a s C R t → Go B a s′ C′ R′ t′ → Go A b s D Q u → Go B b s′ D′ Q′ u′
       → (a ≡ b) × (C ≡ D) × (R ≡ Q) × (t ≡ u) × (C′ ≡ D′) × (R′ ≡ Q′) × (t′ ≡ u′)
   one-clock {a} {b} x h g r p q w =
       let e = cc′ .same x h g (go-enabling A x h r) (go-enabling A x g q) in
       let o = guard-output A ca oa x h (go-enabling A x h r) in
-      let f = go-same B a (λ v. input-unclocked B a (known-input B a (λ z. k .outputs a o z) v)) ce p (rw (← e .1) at w) in
+      let f = go-same B (B .inputs) a (known-input B a (λ z. k .outputs a o z)) ce p (rw (← e .1) at w) in
       (e .1, e .0, e .2, e .3, f .0, f .1, f .2)
 
 -- what one side hands on, the pair does
@@ -112,7 +135,7 @@ hand-on P P′ C D R R′ x f g r h = ⊎-elim
 -- X in state s is a side of P in state p: its rows by outputs are P's with the same guard. Where P is stable so is X, and then X's active clocks guard rows of P
 module _ (X P : Automaton) (s : X .State) (p : P .State) (out : X .outputs ⊆ P .outputs) (ur : X .urgent ⊆ P .urgent)
     (lift : (C a R : ℕ) (t : X .State) → a ∈ X .outputs → X .Row s C a R t → (Q : ℕ) × (y : P .State) × P .Row p C a Q y) where
-  stable-side : Stable P p → Stable X s
+  pub stable-side : Stable P p → Stable X s
   stable-side st = record { rests = λ {C} {a} {R} {t} r. st .rests (record { output = out a (r .output); urgent = ur a (r .urgent); row = lift C a R t (r .output) (r .row) .2 }) }
 
   enabling-side : CondA X → Closed X → (x : ℕ) → Enabling X s x → Enabling P p x
@@ -123,8 +146,19 @@ module _ (X P : Automaton) (s : X .State) (p : P .State) (out : X .outputs ⊆ P
   equal-side : CondA X → Closed X → (active : X .State → ℕ) → Active X active → X .States s → Stable P p → (x : ℕ) → x ∈ active s → Enabling P p x
   equal-side ca o active f ok st x h = enabling-side ca o x (f .equal s ok (stable-side st) x h)
 
+-- one row by an action of K, where K is among K₁ of A and among K₂ of B
+module _ (A B : Automaton) (K K₁ K₂ : ℕ) (f : (a : ℕ) → a ∈ K → a ∈ alphabet A → a ∈ K₁) (g : (a : ℕ) → a ∈ K → a ∈ alphabet B → a ∈ K₂) where
+  product-one-row : OneRow A K₁ → OneRow B K₂ → OneRow (A ⊗ B) K
+  product-one-row ea eb = record { same = λ {C} {D} {a} {R} {Q} {s} {t} {u} h r q. build h (joint-parts A B a r) (joint-parts A B a q) }
+    where
+      build : {C D a R Q : ℕ} {s t u : A .State × B .State} → a ∈ K → Parts A B a s C R t → Parts A B a s D Q u → (C ≡ D) × (R ≡ Q) × (t ≡ u)
+      build {a = a} h p q =
+          let x = go-same A K₁ a (f a h) ea (p .left) (q .left) in
+          let y = go-same B K₂ a (g a h) eb (p .right) (q .right) in
+          (p .guards ∙ ap₂ _∪_ (x .0) (y .0) ∙ sym (q .guards), p .sets ∙ ap₂ _∪_ (x .1) (y .1) ∙ sym (q .sets), λ i. (x .2 i, y .2 i))
+
 -- the conditions, one by one
-module _ (A B : Automaton) (k : Compatible A B) (ca : Conditions A) (cb : Conditions B) (oa : Closed A) (ob : Closed B) where
+module _ (A B : Automaton) (k : Compatible A B) (ca : Constraints A) (cb : Constraints B) (oa : Closed A) (ob : Closed B) where
   product-meets-a : CondA (A ⊗ B)
   product-meets-a = record {
     unguarded = λ {C} {a} {R} {s} {t} r u.
@@ -132,24 +166,25 @@ module _ (A B : Automaton) (k : Compatible A B) (ca : Conditions A) (cb : Condit
         p .guards ∙ ap₂ _∪_ (go-unguarded A a (unclocked-left A B k a u) (ca .condA) (p .left)) (go-unguarded B a (unclocked-right A B k a u) (cb .condA) (p .right));
   }
 
-  product-meets-e : CondE (A ⊗ B)
-  product-meets-e = record { same = λ {C} {D} {a} {R} {Q} {s} {t} {u} un r q. build un (joint-parts A B a r) (joint-parts A B a q) }
+  -- (e): an input of the product is no output of either side
+  product-meets-e : OneRow (A ⊗ B) ((A ⊗ B) .inputs)
+  product-meets-e = product-one-row A B ((A ⊗ B) .inputs) (A .inputs) (B .inputs)
+      (λ a h. known-input A a (λ v. nobody a h (or-in-l (A .outputs) (B .outputs) a v)))
+      (λ a h. known-input B a (λ v. nobody a h (or-in-r (A .outputs) (B .outputs) a v)))
+      (ca .inputs) (cb .inputs)
     where
-      build : {C D a R Q : ℕ} {s t u : A .State × B .State} → a ∈ (A ⊗ B) .inputs ∪ (A ⊗ B) .urgent → Parts A B a s C R t → Parts A B a s D Q u → (C ≡ D) × (R ≡ Q) × (t ≡ u)
-      build {a = a} un p q =
-          let x = go-same A a (unclocked-left A B k a un) (ca .condE) (p .left) (q .left) in
-          let y = go-same B a (unclocked-right A B k a un) (cb .condE) (p .right) (q .right) in
-          (p .guards ∙ ap₂ _∪_ (x .0) (y .0) ∙ sym (q .guards), p .sets ∙ ap₂ _∪_ (x .1) (y .1) ∙ sym (q .sets), λ i. (x .2 i, y .2 i))
+      nobody : (a : ℕ) → a ∈ (A ⊗ B) .inputs → a ∈ (A ⊗ B) .outputs → ⊥
+      nobody a h v = true≢false (sym v ∙ in-without (A .inputs ∪ B .inputs) (A .outputs ∪ B .outputs) a h .1)
 
   -- an output of A is none of B, so B can always go with it
-  with-left : {a C R : ℕ} {s s′ : A .State} (t : B .State) → B .States t → a ∈ A .outputs → A .Row s C a R s′
+  pub with-left : {a C R : ℕ} {s s′ : A .State} (t : B .State) → B .States t → a ∈ A .outputs → A .Row s C a R s′
       → (Q : ℕ) × (y : A .State × B .State) × (A ⊗ B) .Row (s, t) C a Q y
   with-left {a} {C} {R} {s} {s′} t ok o r =
       let q = go-input B (cb .condD) a (λ p. k .outputs a o p) t ok in
       let g = parts-go A B a (goes (oa .action r) r) (q .2) in
       (R ∪ q .0, (s′, q .1), rw (or-zero-r C) at (go-row (A ⊗ B) (rw (alphabet-joins A B) (or-in-l (alphabet A) (alphabet B) a (oa .action r))) g))
 
-  with-right : {a C R : ℕ} (s : A .State) {t t′ : B .State} → A .States s → a ∈ B .outputs → B .Row t C a R t′
+  pub with-right : {a C R : ℕ} (s : A .State) {t t′ : B .State} → A .States s → a ∈ B .outputs → B .Row t C a R t′
       → (Q : ℕ) × (y : A .State × B .State) × (A ⊗ B) .Row (s, t) C a Q y
   with-right {a} {C} {R} s {t} {t′} ok o r =
       let q = go-input A (ca .condD) a (λ p. k .outputs a p o) s ok in
@@ -191,12 +226,12 @@ module _ (A B : Automaton) (k : Compatible A B) (ca : Conditions A) (cb : Condit
         where
           sides : (x ∈ p .guard₁) ⊎ (x ∈ p .guard₂) → (x ∈ q .guard₁) ⊎ (x ∈ q .guard₂) → (C ≡ D) × (a ≡ b) × (R ≡ Q) × (t ≡ u)
           sides (inl i) (inl j) =
-              let e = one-clock A B k (ca .condA) (ca .condC) (cb .condE) oa x i j (p .left) (p .right) (q .left) (q .right) in
+              let e = one-clock A B k (ca .condA) (ca .condC) (cb .inputs) oa x i j (p .left) (p .right) (q .left) (q .right) in
               (p .guards ∙ ap₂ _∪_ (e .1) (e .4) ∙ sym (q .guards), e .0, p .sets ∙ ap₂ _∪_ (e .2) (e .5) ∙ sym (q .sets), λ i. (e .3 i, e .6 i))
           sides (inl i) (inr j) = absurd (k .clocks x (go-own A oa (p .left) .guard x i) (go-own B ob (q .right) .guard x j))
           sides (inr i) (inl j) = absurd (k .clocks x (go-own A oa (q .left) .guard x j) (go-own B ob (p .right) .guard x i))
           sides (inr i) (inr j) =
-              let e = one-clock B A (compatible-sym A B k) (cb .condA) (cb .condC) (ca .condE) ob x i j (p .right) (p .left) (q .right) (q .left) in
+              let e = one-clock B A (compatible-sym A B k) (cb .condA) (cb .condC) (ca .inputs) ob x i j (p .right) (p .left) (q .right) (q .left) in
               (p .guards ∙ ap₂ _∪_ (e .4) (e .1) ∙ sym (q .guards), e .0, p .sets ∙ ap₂ _∪_ (e .5) (e .2) ∙ sym (q .sets), λ i. (e .6 i, e .3 i))
 
   -- ---- (f): the clocks active in a pair are those of either side
@@ -247,13 +282,40 @@ module _ (A B : Automaton) (k : Compatible A B) (ca : Conditions A) (cb : Condit
             (go-kept B (fb .0) (fb .1) (p .right) x i))
             (in-or (fa .0 (s .0)) (fb .0 (s .1)) x h)
 
--- Proposition 4.1
+  -- where the product is stable, both sides are
+  pub stable-sides : (s : A .State) (t : B .State) → A .States s → B .States t → Stable (A ⊗ B) (s, t) → Stable A s × Stable B t
+  stable-sides s t oks okt st = (
+    stable-side A (A ⊗ B) s (s, t) (or-in-l (A .outputs) (B .outputs)) (or-in-l (A .urgent) (B .urgent)) (λ C a R y. with-left t okt) st,
+    stable-side B (A ⊗ B) t (s, t) (or-in-r (A .outputs) (B .outputs)) (or-in-r (A .urgent) (B .urgent)) (λ C a R y. with-right s oks) st,
+  )
+
+  -- Proposition 4.1, without the house rule
+  pub product-keeps-constraints : Constraints (A ⊗ B)
+  product-keeps-constraints = record {
+    condA = product-meets-a;
+    condB = product-meets-b;
+    condC = product-meets-c;
+    condD = product-meets-d;
+    inputs = product-meets-e;
+    condF = (active (ca .condF) (cb .condF), product-active (ca .condF) (cb .condF));
+  }
+
+-- the house rule
+pub product-keeps-house-rule : (A B : Automaton) → Compatible A B → CondE A → CondE B → CondE (A ⊗ B)
+product-keeps-house-rule A B k ea eb =
+    let e = product-one-row A B ((A ⊗ B) .inputs ∪ (A ⊗ B) .urgent) (A .inputs ∪ A .urgent) (B .inputs ∪ B .urgent)
+    (unclocked-left A B k) (unclocked-right A B k) (record { same = ea .same }) (record { same = eb .same }) in
+    record { same = e .same }
+
+-- Proposition 4.1, with the house rule
 pub product-is-an-automaton : (A B : Automaton) → Compatible A B → Conditions A → Conditions B → Closed A → Closed B → Conditions (A ⊗ B)
-product-is-an-automaton A B k ca cb oa ob = record {
-  condA = product-meets-a A B k ca cb oa ob;
-  condB = product-meets-b A B k ca cb oa ob;
-  condC = product-meets-c A B k ca cb oa ob;
-  condD = product-meets-d A B k ca cb oa ob;
-  condE = product-meets-e A B k ca cb oa ob;
-  condF = (active A B k ca cb oa ob (ca .condF) (cb .condF), product-active A B k ca cb oa ob (ca .condF) (cb .condF));
-}
+product-is-an-automaton A B k ca cb oa ob =
+    let c = product-keeps-constraints A B k (conditions-constraints A ca) (conditions-constraints B cb) oa ob in
+    record {
+      condA = c .condA;
+      condB = c .condB;
+      condC = c .condC;
+      condD = c .condD;
+      condE = product-keeps-house-rule A B k (ca .condE) (cb .condE);
+      condF = c .condF;
+    }

@@ -1,4 +1,5 @@
--- Propositions 4.1 and 4.2 of document 000 for a system: "A system of several is the product from the left" (paper 01).
+-- Proposition 4.1 of document 000 for a system, "A system of several is the product from the left" (paper 01); its states are lists of numbers.
+use mathlib.Core.Path.{_≡_, refl}
 use mathlib.Core.Logic.{⊎-elim}
 use mathlib.Core.List.{List, [], _∷_}
 use Prim.Native.Nat.{ℕ, suc}
@@ -6,13 +7,12 @@ use native.Mathlib.Omega.{arith}
 use Rattle.laws.proofs.SetLaws.{or-in-l, or-in-r, in-or}
 use Rattle.iosa.specs.Model.{Comp, Model}
 use Rattle.iosa.specs.WellFormed.{WellComp, WellFormed}
-use Rattle.iosa.specs.Automaton.{Automaton, alphabet, autoOf, Conditions, Confluent, Compatible, Conforming, Joinable, AllConfluent}
+use Rattle.iosa.specs.Automaton.{Automaton, alphabet, autoOf, Conditions, Compatible, Conforming, Joinable}
 use Rattle.iosa.specs.Product.{_⊗_, productFrom, product, embed, stateOf, Within}
 use Rattle.iosa.proofs.Settling.Each.{All, each-all}
 use Rattle.iosa.proofs.Settling.Parts.{alphabet-joins}
 use Rattle.iosa.proofs.Settling.Closed.{Closed, component-closed, product-closed, products-closed}
 use Rattle.iosa.proofs.Settling.ProductConditions.{product-is-an-automaton}
-use Rattle.iosa.proofs.Settling.ProductConfluent.{product-is-confluent}
 
 -- what is compatible with both sides is compatible with their product
 pub compatible-goes-on : (A B D : Automaton) → Compatible A D → Compatible B D → Compatible (A ⊗ B) D
@@ -54,14 +54,6 @@ products-conform (c ∷ cs) A o k w al f p =
     products-conform cs (A ⊗ autoOf c) (product-closed A (autoOf c) o q) (product-is-an-automaton A (autoOf c) (f .0) k (al .0) o q) (w .1) (al .1)
     (fits-on A (autoOf c) cs (f .1) (p .0)) (p .1)
 
-pub products-confluent : (cs : Model) (A : Automaton) → Closed A → Confluent A (A .States) → All WellComp cs
-    → All (λ c. Confluent (autoOf c) (autoOf c .States)) cs → Fits A cs → Pairwise cs → Confluent (productFrom A cs) (productFrom A cs .States)
-products-confluent [] A o k w al f p = k
-products-confluent (c ∷ cs) A o k w al f p =
-    let q = component-closed c (w .0) in
-    products-confluent cs (A ⊗ autoOf c) (product-closed A (autoOf c) o q) (product-is-confluent A (autoOf c) (A .States) (autoOf c .States) (f .0) o q k (al .0))
-    (w .1) (al .1) (fits-on A (autoOf c) cs (f .1) (p .0)) (p .1)
-
 pub wells : (m : Model) → WellFormed m → All WellComp m
 wells m w = each-all WellComp m (w .each)
 
@@ -77,14 +69,7 @@ module _ (c : Comp) (cs : List Comp) (well : WellFormed (c ∷ cs)) where
       let p = joinable-pairwise (c ∷ cs) j in
       products-conform cs (autoOf c) (component-closed c (w .0)) (a .0) (w .1) (a .1) (p .0) (p .1)
 
-  pub system-is-confluent : Joinable (c ∷ cs) → AllConfluent (c ∷ cs) → Confluent (product c cs) (product c cs .States)
-  system-is-confluent j k =
-      let w = wells (c ∷ cs) well in
-      let a = each-all (λ d. Confluent (autoOf d) (autoOf d .States)) (c ∷ cs) (k .each) in
-      let p = joinable-pairwise (c ∷ cs) j in
-      products-confluent cs (autoOf c) (component-closed c (w .0)) (a .0) (w .1) (a .1) (p .0) (p .1)
-
--- ---- a composed state in range is a state of the product
+-- ---- a composed state in range is a state of the product, and every state of the product is one
 embed-states : (cs : List Comp) (A : Automaton) (x : A .State) (ss : List ℕ) → A .States x → Within cs ss → productFrom A cs .States (embed A cs x ss)
 embed-states [] A x [] h w = h
 embed-states [] A x (s ∷ ss) h w = absurd w
@@ -94,3 +79,13 @@ embed-states (c ∷ cs) A x (s ∷ ss) h w = embed-states cs (A ⊗ autoOf c) (x
 pub in-range-is-a-state : (c : Comp) (cs : List Comp) (s : List ℕ) → Within (c ∷ cs) s → product c cs .States (stateOf c cs s)
 in-range-is-a-state c cs [] w = absurd w
 in-range-is-a-state c cs (s ∷ ss) w = embed-states cs (autoOf c) s ss (w .0) (w .1)
+
+embed-onto : (cs : List Comp) (A : Automaton) (y : productFrom A cs .State) → productFrom A cs .States y
+    → (x : A .State) × (ss : List ℕ) × A .States x × Within cs ss × (y ≡ embed A cs x ss)
+embed-onto [] A y h = (y, [], h, tt, refl)
+embed-onto (c ∷ cs) A y h =
+    let p = embed-onto cs (A ⊗ autoOf c) y h in
+    (p .0 .0, p .0 .1 ∷ p .1, p .2 .0, (p .2 .1, p .3), p .4)
+
+pub state-has-a-list : (c : Comp) (cs : List Comp) (y : product c cs .State) → product c cs .States y → (s : List ℕ) × Within (c ∷ cs) s × (y ≡ stateOf c cs s)
+state-has-a-list c cs y h = let p = embed-onto cs (autoOf c) y h in (p .0 ∷ p .1, (p .2, p .3), p .4)

@@ -15,13 +15,13 @@ use Rattle.laws.proofs.SearchLaws.{no-some}
 use Rattle.iosa.specs.Model.{Comp, Model, inputs, outputs}
 use Rattle.iosa.specs.WellFormed.{WellComp, WellFormed}
 use Rattle.iosa.specs.Automaton.{Automaton, alphabet, autoOf, UrgentRow, Stable, Conforming, Joinable, Conditions}
-use Rattle.iosa.specs.Product.{_⊗_, product, embed, stateOf, Within}
+use Rattle.iosa.specs.Product.{_⊗_, product, embed, stateOf, Within, OneList}
 use Rattle.iosa.specs.Step.{Gone, Went, moveAll, isUout, urgentStep, lowest, isStable}
 use Rattle.iosa.specs.Demand3.{GoesOn}
 use Rattle.iosa.proofs.Acceptance.Rows.{Single, urgent-unclocked}
 use Rattle.iosa.proofs.Settling.Each.{All, each-all, all-map}
 use Rattle.iosa.proofs.Settling.Parts.{parts-row, row-parts, within-length}
-use Rattle.iosa.proofs.Settling.ProductOfMany.{Pairwise, joinable-pairwise, wells}
+use Rattle.iosa.proofs.Settling.ProductOfMany.{Pairwise, joinable-pairwise, wells, in-range-is-a-state, state-has-a-list}
 use Rattle.iosa.proofs.Settling.UrgentOutputs.{uout-urgent, uout-labels, labels-uout, uout-below}
 use Rattle.iosa.proofs.Settling.Moves.{Unclocked, moves-go, go-moves, go-within}
 use Rattle.iosa.proofs.Settling.Rule.{Bounded, lowest-none, lowest-some}
@@ -58,6 +58,24 @@ state-is-one-list c cs (s ∷ ss) [] p q e = absurd (omega arith)
 state-is-one-list c cs (s ∷ ss) (t ∷ ts) p q e =
     let r = embed-injective cs (autoOf c) s t ss ts (omega arith) (omega arith) e in
     λ i. r .0 i ∷ r .1 i
+
+-- every state of the product is the state of exactly one list in range, and of a list in range is one
+pub states-are-lists : (c : Comp) (cs : List Comp) (y : product c cs .State) → product c cs .States y ↔ OneList c cs y
+states-are-lists c cs y = (
+  λ h.
+      let p = state-has-a-list c cs y h in
+      record {
+        list = p .0;
+        within = p .1;
+        state = p .2;
+        only = λ t w e. state-is-one-list c cs t (p .0) (within-length (c ∷ cs) t w) (within-length (c ∷ cs) (p .0) (p .1)) (sym e ∙ p .2);
+      },
+  λ o. rw (o .state) (in-range-is-a-state c cs (o .list) (o .within)),
+)
+
+-- the list s, t, u is the state ((s, t), u)
+pub three-parts : (c d e : Comp) (s t u : ℕ) → stateOf c (d ∷ e ∷ []) (s ∷ t ∷ u ∷ []) ≡ ((s, t), u)
+three-parts c d e s t u = refl
 
 -- a row of the product from s by a, with resets R to y, as a step that computes
 pub record RowStep (c : Comp) (cs : List Comp) (s : List ℕ) (C a R : ℕ) (y : product c cs .State) : Type 0 where

@@ -1,0 +1,2 @@
+pub mod Definition41
+pub mod Proposition41
