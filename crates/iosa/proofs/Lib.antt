@@ -4,3 +4,4 @@ pub mod Settling
 pub mod Reading
 pub mod Merging
 pub mod Timing
+pub mod Answers

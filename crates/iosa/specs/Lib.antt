@@ -11,7 +11,10 @@ pub mod Faults
 pub mod Greatest
 pub mod Step
 pub mod Settle
+pub mod Orders
 pub mod Demand3
+pub mod InOrder
+pub mod Answers
 pub mod Stepped
 pub mod Timed
 pub mod Merge

@@ -1,0 +1,4 @@
+-- Each call's relation, and that what computes is exactly it.
+pub mod InOrder
+pub mod OneRun
+pub mod Models
