@@ -2,3 +2,6 @@
 pub mod InOrder
 pub mod OneRun
 pub mod Models
+pub mod Texts
+pub mod Lines
+pub mod Merged

@@ -13,8 +13,6 @@ pub mod Step
 pub mod Settle
 pub mod Orders
 pub mod Demand3
-pub mod InOrder
-pub mod Answers
 pub mod Stepped
 pub mod Timed
 pub mod Merge
@@ -23,3 +21,8 @@ pub mod Examples
 pub mod LooksRight
 pub mod MergedExactly
 pub mod TimedExactly
+pub mod MergedAs
+pub mod InOrder
+pub mod Answers
+pub mod Lent
+pub mod Printed
