@@ -2,3 +2,4 @@ pub mod Determined
 pub mod Exactly
 pub mod EachInTurn
 pub mod AfterAccept
+pub mod Answers

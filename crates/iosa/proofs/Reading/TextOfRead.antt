@@ -192,7 +192,7 @@ sound-step {t} (c ∷ m) (some d) (row-entry s g a r u) {bs} {cs} h e f =
 reaches-sound : {t : List ℕ} {k : ℕ} {p : Progress} {bs : List ℕ} → Reaches t k p bs → Sound t (p .comps) (p .last) bs
 unfolding textOf rowCount
 reaches-sound first-line = record { text = refl; many = omega arith; each = tt; rows = omega arith; last = tt }
-reaches-sound (next-line {p = p} {bs} {e} {cs} r read f) = sound-step (p .comps) (p .last) e (reaches-sound r) (entry-exact .scanned bs (record { value = e; rest = cs }) read .0) f
+reaches-sound (next-line {p = p} {bs} {e} {cs} r read f) = sound-step (p .comps) (p .last) e (reaches-sound r) (read .printed) f
 
 -- ---- the whole text
 pub text-of-read : (t : List ℕ) (m : Model) → readOf t ≡ answered m → WellFormed m × (textOf m ≡ t)
