@@ -1,8 +1,10 @@
 -- The contract of `merge` says exactly what is said of the product of the two components.
 use mathlib.Core.Logic.{_↔_}
-use mathlib.Core.List.{List, _∷_}
+use mathlib.Core.List.{List}
 use Prim.Native.Nat.{ℕ}
+use Rattle.answer.specs.Told.{Answer}
 use Rattle.answer.specs.declared.Checked.{Checked}
+use Rattle.iosa.specs.Model.{Comp, Model}
 use Rattle.iosa.specs.Merge.{mergeOf}
 use Rattle.iosa.specs.InOrder.{room}
 use Rattle.iosa.specs.Answers.{MergeCallAnswer}
@@ -20,7 +22,7 @@ room-decided was = table-room-decided was
 pub merge-answers-exactly : (t : List ℕ) (i : ℕ) (was : List ℕ) (r : Checked) (into : List ℕ) → Merging t i was r into ↔ MergeExactly t i was r into
 unfolding mergeOn
 merge-answers-exactly t i was r into =
-    let R = λ c cs. MergeCallAnswer c cs i imageBytes (bytesOf was) in
+    let R : Comp → List Comp → Answer Model → Type 0 = λ c cs. MergeCallAnswer c cs i imageBytes (bytesOf was) in
     let e = leaves-exactly (mergeOn t i was) (OnImage t R) (FillsTable was into r)
     (on-table-exactly t (λ m. mergeOf m i (roomFault was)) R (λ c cs w. merge-model-exactly c cs w i imageBytes (bytesOf was) (roomFault was) (room-decided was))) in
     (λ g. e .0 (record { answer = g .answer; table = g .table }), λ g. let l = e .1 g in record { answer = l .answer; table = l .table })

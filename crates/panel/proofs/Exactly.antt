@@ -2,10 +2,12 @@
 use mathlib.Core.Logic.{_↔_}
 use mathlib.Core.List.{List}
 use Prim.Native.Nat.{ℕ}
+use Rattle.answer.specs.Told.{Answer}
 use Rattle.answer.specs.State.{partsOf}
 use Rattle.answer.specs.declared.Outcome.{Outcome}
 use Rattle.answer.specs.declared.State.{State}
-use Rattle.iosa.specs.Step.{stepOf}
+use Rattle.iosa.specs.Model.{Comp}
+use Rattle.iosa.specs.Step.{Stepping, stepOf}
 use Rattle.iosa.specs.Answers.{StepAnswer}
 use Rattle.iosa.proofs.Answers.InOrder.{leaves-exactly}
 use Rattle.iosa.proofs.Answers.Models.{step-model-exactly}
@@ -17,6 +19,6 @@ use Rattle.panel.specs.AdvanceExactly.{AdvanceLeaves, AdvanceExactly}
 
 pub advance-answers-exactly : (t : List ℕ) (x y : State) (r : Outcome) → AdvanceCall t x y r ↔ AdvanceExactly t x y r
 advance-answers-exactly t x y r =
-    let R = λ c cs. StepAnswer c cs (partsOf x) in
+    let R : Comp → List Comp → Answer Stepping → Type 0 = λ c cs. StepAnswer c cs (partsOf x) in
     let e = leaves-exactly (stepOn t x) (OnImage t R) (AdvanceLeaves x y r) (on-table-exactly t (λ m. stepOf m (partsOf x)) R (λ c cs w. step-model-exactly c cs w (partsOf x))) in
     (λ g. e .0 (record { outcome = g .outcome; state = g .state }), λ g. let l = e .1 g in record { outcome = l .outcome; state = l .state })

@@ -7,3 +7,4 @@ pub mod TestsOfImage
 pub mod ImageExactly
 pub mod CheckedLaws
 pub mod OnImageExactly
+pub mod Recognised

@@ -26,7 +26,7 @@ use Rattle.table.proofs.OnTableLaws.{on-image, on-no-image}
 use Rattle.table.proofs.ImageExactly.{image-exactly, no-image-exactly}
 
 -- a table that holds a model is its image, and back
-holds-image : {t : List ℕ} {m : Model} → Holds t m → Image t
+pub holds-image : {t : List ℕ} {m : Model} → Holds t m → Image t
 holds-image {m = m} h = record { model = m; well = h .well; front = h .front }
 
 pub image-holds : (t : List ℕ) → Image t → Holds t (modelOf t)
