@@ -6,19 +6,14 @@ use Rattle.answer.specs.declared.Checked.{Checked}
 use Rattle.iosa.specs.Checks.{acceptOf, confluentOf}
 use Rattle.iosa.specs.Step.{unless}
 use Rattle.iosa.specs.Answers.{AcceptAnswer, ConfluentAnswer}
-use Rattle.iosa.proofs.Answers.InOrder.{leaves-exactly}
 use Rattle.iosa.proofs.Answers.Models.{accept-model-exactly, confluent-model-exactly}
-use Rattle.layout.specs.OnImage.{OnImage, Tells}
-use Rattle.table.specs.OnTable.{onTable}
-use Rattle.table.proofs.OnImageExactly.{on-table-exactly}
+use Rattle.layout.specs.OnImage.{Tells}
+use Rattle.table.proofs.OnImageExactly.{on-table-leaves}
 use Rattle.admit.specs.Admit.{Accepted, Confluently}
 use Rattle.admit.specs.AdmitExactly.{AcceptExactly, ConfluentExactly}
 
 pub accept-answers-exactly : (t : List ℕ) (r : Checked) → Accepted t r ↔ AcceptExactly t r
-accept-answers-exactly t r =
-    leaves-exactly (onTable t (λ m. unless (acceptOf m) tt)) (OnImage t AcceptAnswer) (Tells r) (on-table-exactly t (λ m. unless (acceptOf m) tt) AcceptAnswer accept-model-exactly)
+accept-answers-exactly t r = on-table-leaves t (λ m. unless (acceptOf m) tt) AcceptAnswer accept-model-exactly (Tells r)
 
 pub confluent-answers-exactly : (t : List ℕ) (r : Checked) → Confluently t r ↔ ConfluentExactly t r
-confluent-answers-exactly t r =
-    leaves-exactly (onTable t (λ m. unless (confluentOf m) tt)) (OnImage t ConfluentAnswer) (Tells r)
-    (on-table-exactly t (λ m. unless (confluentOf m) tt) ConfluentAnswer confluent-model-exactly)
+confluent-answers-exactly t r = on-table-leaves t (λ m. unless (confluentOf m) tt) ConfluentAnswer confluent-model-exactly (Tells r)

@@ -50,11 +50,12 @@ module _ (t : List ℕ) (p q b d : List ℕ) where
         → (q ≡ checkedWords (doneOf (readOn t old))) × (d ≡ tableAfter (readOn t old) old) → (p ≡ q) × (b ≡ d)
     floodneedle_read-determined e f = (one (e .0) (f .0), one (e .1) (f .1))
 
-    pub floodneedle_write-determined : (p ≡ writtenWords (writeOn t old)) × (b ≡ textAfter (writeOn t old) t old) → (q ≡ writtenWords (writeOn t old)) × (d ≡ textAfter (writeOn t old) t old)
-        → (p ≡ q) × (b ≡ d)
+    pub floodneedle_write-determined : (p ≡ writtenWords (writeOn t old)) × (b ≡ textAfter (writeOn t old) t old)
+        → (q ≡ writtenWords (writeOn t old)) × (d ≡ textAfter (writeOn t old) t old) → (p ≡ q) × (b ≡ d)
     floodneedle_write-determined e f = (one (e .0) (f .0), one (e .1) (f .1))
 
-    pub floodneedle_report-determined : (p ≡ writtenWords (lengthTold t old)) × (b ≡ reportIn t old) → (q ≡ writtenWords (lengthTold t old)) × (d ≡ reportIn t old) → (p ≡ q) × (b ≡ d)
+    pub floodneedle_report-determined : (p ≡ writtenWords (lengthTold t old)) × (b ≡ reportIn t old)
+        → (q ≡ writtenWords (lengthTold t old)) × (d ≡ reportIn t old) → (p ≡ q) × (b ≡ d)
     floodneedle_report-determined e f = (one (e .0) (f .0), one (e .1) (f .1))
 
     pub floodneedle_merge-determined : (i : ℕ) → (p ≡ checkedWords (doneOf (mergeOn t i old))) × (b ≡ tableAfter (mergeOn t i old) old)
@@ -66,23 +67,26 @@ module _ (t : List ℕ) (p q b d : List ℕ) where
     pub floodneedle_step-determined : StepTold (stepOn t (stateOf s)) (stateOf s) b p → StepTold (stepOn t (stateOf s)) (stateOf s) d q → (b ≡ d) × (p ≡ q)
     floodneedle_step-determined g h = step-told (stepOn t (stateOf s)) (stateOf s) b d p q g h
 
-    pub floodneedle_step_by-determined : (a : ℕ) → StepTold (stepByOn t (stateOf s) a) (stateOf s) b p → StepTold (stepByOn t (stateOf s) a) (stateOf s) d q → (b ≡ d) × (p ≡ q)
+    pub floodneedle_step_by-determined : (a : ℕ) → StepTold (stepByOn t (stateOf s) a) (stateOf s) b p
+        → StepTold (stepByOn t (stateOf s) a) (stateOf s) d q → (b ≡ d) × (p ≡ q)
     floodneedle_step_by-determined a g h = step-told (stepByOn t (stateOf s) a) (stateOf s) b d p q g h
 
     pub floodneedle_advance-determined : AdvanceTold (stepOn t (stateOf s)) s b p → AdvanceTold (stepOn t (stateOf s)) s d q → (b ≡ d) × (p ≡ q)
     floodneedle_advance-determined g h = (one (g .state) (h .state), one (g .words) (h .words))
 
-    pub floodneedle_settle_list-determined : (l : List ℕ) → SettlingTold (settleListOn t (stateOf s) l) (stateOf s) b p → SettlingTold (settleListOn t (stateOf s) l) (stateOf s) d q → (b ≡ d) × (p ≡ q)
+    pub floodneedle_settle_list-determined : (l : List ℕ) → SettlingTold (settleListOn t (stateOf s) l) (stateOf s) b p
+        → SettlingTold (settleListOn t (stateOf s) l) (stateOf s) d q → (b ≡ d) × (p ≡ q)
     floodneedle_settle_list-determined l g h = settling-told (settleListOn t (stateOf s) l) (stateOf s) b d p q g h
 
     -- u and v are the trace after the call
     pub floodneedle_settle-determined : (budget : ℕ) (old u v : List ℕ)
         → SettlingTold (settleOn t (stateOf s) budget old) (stateOf s) b p × (u ≡ traceAfter (settleOn t (stateOf s) budget old) old)
-        → SettlingTold (settleOn t (stateOf s) budget old) (stateOf s) d q × (v ≡ traceAfter (settleOn t (stateOf s) budget old) old) → (b ≡ d) × (p ≡ q) × (u ≡ v)
+        → SettlingTold (settleOn t (stateOf s) budget old) (stateOf s) d q × (v ≡ traceAfter (settleOn t (stateOf s) budget old) old)
+        → (b ≡ d) × (p ≡ q) × (u ≡ v)
     floodneedle_settle-determined budget old u v g h =
         let r = settling-told (settleOn t (stateOf s) budget old) (stateOf s) b d p q (g .0) (h .0) in (r .0, r .1, one (g .1) (h .1))
 
     -- u and v are the clock values after the call
-    pub floodneedle_timed_step-determined : (was u v : List ℤ) → TimingTold (timedOn t (stateOf s) was) (stateOf s) was u b p → TimingTold (timedOn t (stateOf s) was) (stateOf s) was v d q
-        → (b ≡ d) × (p ≡ q) × (u ≡ v)
+    pub floodneedle_timed_step-determined : (was u v : List ℤ) → TimingTold (timedOn t (stateOf s) was) (stateOf s) was u b p
+        → TimingTold (timedOn t (stateOf s) was) (stateOf s) was v d q → (b ≡ d) × (p ≡ q) × (u ≡ v)
     floodneedle_timed_step-determined was u v g h = (one (g .state) (h .state), one (g .words) (h .words), one (g .values) (h .values))

@@ -119,7 +119,8 @@ taken p e = record { comps = takeIn (p .comps) e; last = some e }
 -- the lines of t before line k are faultless, each in its turn; p stands before line k, and the bytes bs are left
 pub data Reaches (t : List ℕ) : ℕ → Progress → List ℕ → Type 0 where
   first-line : Reaches t 1 atStart t
-  next-line : {k : ℕ} {p : Progress} {bs : List ℕ} {e : Entry} {cs : List ℕ} → Reaches t k p bs → LineAt bs e cs → Faultless p e → Reaches t (suc k) (taken p e) cs
+  next-line : {k : ℕ} {p : Progress} {bs : List ℕ} {e : Entry} {cs : List ℕ} → Reaches t k p bs → LineAt bs e cs → Faultless p e
+      → Reaches t (suc k) (taken p e) cs
 
 -- t, not too long, has a line k, the lines before it are faultless, and n is its lowest fault
 pub record FaultAt (t : List ℕ) (n k : ℕ) : Type 0 where

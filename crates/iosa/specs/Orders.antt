@@ -63,7 +63,8 @@ pub record Called (c : Comp) (cs : List Comp) (s : List ℕ) (budget : ℕ) (d :
   pub run : OurRun c cs s budget d
   pub enough : {l : List ℕ} {R : ℕ} {y : product c cs .State} → Series (product c cs) (stateOf c cs s) l R y → Stable (product c cs) y → length l ≤ budget
       → SettledAs c cs (length l) R y d
-  pub short : {l : List ℕ} {R : ℕ} {y : product c cs .State} → Series (product c cs) (stateOf c cs s) l R y → Stable (product c cs) y → budget < length l → Unsettled budget d
+  pub short : {l : List ℕ} {R : ℕ} {y : product c cs .State} → Series (product c cs) (stateOf c cs s) l R y → Stable (product c cs) y → budget < length l
+      → Unsettled budget d
   pub never : ((l : List ℕ) (R : ℕ) (y : product c cs .State) → Series (product c cs) (stateOf c cs s) l R y → Stable (product c cs) y → ⊥) → Unsettled budget d
 
 -- ---- settling by list

@@ -44,5 +44,6 @@ pub record Asks (input : List ℕ) (q : Request) (text : List ℕ) : Type 0 wher
 pub data Prints (input : List ℕ) : List ℕ → Type 0 where
   is9 : ((q : Request) (text : List ℕ) → Asks input q text → ⊥) → Prints input (refusedLine (tell 9 (0 ∷ [])))
   no-model : {q : Request} {text : List ℕ} {t : Told} → Asks input q text → ReadAnswer text (refused t) → Prints input (refusedLine t)
-  runs : {q : Request} {text : List ℕ} {c : Comp} {cs : List Comp} {a : Answer (Settling (List ℕ))} {out : List ℕ} → Asks input q text → ReadAnswer text (answered (c ∷ cs))
-      → SettleAnswer c cs (q .state) (q .budget) (q .budget) a → AnswerPrinted c cs (q .state) a out → Prints input out
+  runs : {q : Request} {text : List ℕ} {c : Comp} {cs : List Comp} {a : Answer (Settling (List ℕ))} {out : List ℕ}
+      → Asks input q text → ReadAnswer text (answered (c ∷ cs)) → SettleAnswer c cs (q .state) (q .budget) (q .budget) a
+      → AnswerPrinted c cs (q .state) a out → Prints input out

@@ -8,10 +8,10 @@ use Rattle.iosa.specs.Model.{Comp, Model}
 use Rattle.iosa.specs.Merge.{mergeOf}
 use Rattle.iosa.specs.InOrder.{room}
 use Rattle.iosa.specs.Answers.{MergeCallAnswer}
-use Rattle.iosa.proofs.Answers.InOrder.{Decided, leaves-exactly}
+use Rattle.iosa.proofs.Answers.InOrder.{Decided}
 use Rattle.iosa.proofs.Answers.Merged.{merge-model-exactly}
-use Rattle.layout.specs.OnImage.{OnImage, FillsTable, bytesOf, imageBytes}
-use Rattle.table.proofs.OnImageExactly.{on-table-exactly, table-room-decided}
+use Rattle.layout.specs.OnImage.{FillsTable, bytesOf, imageBytes}
+use Rattle.table.proofs.OnImageExactly.{on-table-leaves, table-room-decided}
 use Rattle.merge.specs.Merging.{roomFault, mergeOn, Merging}
 use Rattle.merge.specs.MergeExactly.{MergeExactly}
 
@@ -23,6 +23,6 @@ pub merge-answers-exactly : (t : List ℕ) (i : ℕ) (was : List ℕ) (r : Check
 unfolding mergeOn
 merge-answers-exactly t i was r into =
     let R : Comp → List Comp → Answer Model → Type 0 = λ c cs. MergeCallAnswer c cs i imageBytes (bytesOf was) in
-    let e = leaves-exactly (mergeOn t i was) (OnImage t R) (FillsTable was into r)
-    (on-table-exactly t (λ m. mergeOf m i (roomFault was)) R (λ c cs w. merge-model-exactly c cs w i imageBytes (bytesOf was) (roomFault was) (room-decided was))) in
+    let e = on-table-leaves t (λ m. mergeOf m i (roomFault was)) R
+    (λ c cs w. merge-model-exactly c cs w i imageBytes (bytesOf was) (roomFault was) (room-decided was)) (FillsTable was into r) in
     (λ g. e .0 (record { answer = g .answer; table = g .table }), λ g. let l = e .1 g in record { answer = l .answer; table = l .table })

@@ -9,16 +9,13 @@ use Rattle.answer.specs.declared.State.{State}
 use Rattle.iosa.specs.Model.{Comp}
 use Rattle.iosa.specs.Step.{Stepping, stepOf}
 use Rattle.iosa.specs.Answers.{StepAnswer}
-use Rattle.iosa.proofs.Answers.InOrder.{leaves-exactly}
 use Rattle.iosa.proofs.Answers.Models.{step-model-exactly}
-use Rattle.layout.specs.OnImage.{OnImage}
-use Rattle.table.proofs.OnImageExactly.{on-table-exactly}
-use Rattle.run.specs.Calls.{stepOn}
+use Rattle.table.proofs.OnImageExactly.{on-table-leaves}
 use Rattle.panel.specs.Advance.{AdvanceCall}
 use Rattle.panel.specs.AdvanceExactly.{AdvanceLeaves, AdvanceExactly}
 
 pub advance-answers-exactly : (t : List ℕ) (x y : State) (r : Outcome) → AdvanceCall t x y r ↔ AdvanceExactly t x y r
 advance-answers-exactly t x y r =
     let R : Comp → List Comp → Answer Stepping → Type 0 = λ c cs. StepAnswer c cs (partsOf x) in
-    let e = leaves-exactly (stepOn t x) (OnImage t R) (AdvanceLeaves x y r) (on-table-exactly t (λ m. stepOf m (partsOf x)) R (λ c cs w. step-model-exactly c cs w (partsOf x))) in
+    let e = on-table-leaves t (λ m. stepOf m (partsOf x)) R (λ c cs w. step-model-exactly c cs w (partsOf x)) (AdvanceLeaves x y r) in
     (λ g. e .0 (record { outcome = g .outcome; state = g .state }), λ g. let l = e .1 g in record { outcome = l .outcome; state = l .state })

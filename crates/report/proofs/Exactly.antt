@@ -1,7 +1,7 @@
 -- What is printed is exactly what is said of the request line, the text's model and the product's rows; and so is the contract of `report`.
 use mathlib.Core.Path.{_≡_, refl, sym, _∙_, ap, subst}
 use mathlib.Core.Logic.{_↔_}
-use mathlib.Core.Bool.{Bool, true, false, cond}
+use mathlib.Core.Bool.{Bool, true, false, cond, true≢false}
 use mathlib.Core.Option.{Option, none, some, Option·some-inj}
 use mathlib.Core.List.{List, [], _∷_, _++_}
 use Prim.Native.Nat.{ℕ, _-_, _≤_}
@@ -41,7 +41,7 @@ short-exactly bs g g′ = go (ltb maxRequest (length bs - length (g .rest))) ref
   where
     go : (b : Bool) → ltb maxRequest (length bs - length (g .rest)) ≡ b
         → (_≡_ {A = Option (Got Request)} (cond b none (some g)) (some g′)) ↔ (g ≡ g′) × (length bs - length (g .rest) ≤ maxRequest)
-    go true e = (λ h. absurd (no-some refl h), λ p. absurd (let w : true ≡ false = sym e ∙ le-ltb maxRequest _ (p .1) in let z : _≡_ {A = ℕ} 0 1 = cc in omega arith))
+    go true e = (λ h. absurd (no-some refl h), λ p. absurd (true≢false (sym e ∙ le-ltb maxRequest _ (p .1))))
     go false e = (λ h. (Option·some-inj .0 h, ltb-false maxRequest _ e), λ p. ap some (p .0))
 
 asks : (bs : List ℕ) (o : Option (Got Request)) → requestLine bs ≡ o → (g : Got Request) → shortEnough bs o ≡ some g → Asks bs (g .value) (g .rest)
@@ -56,7 +56,9 @@ asked : (bs : List ℕ) (q : Request) (text : List ℕ) → Asks bs q text → r
 unfolding requestOf
 asked bs q text a =
     let e = ap requestLine (a .line) ∙ request-exact .printed q text (a .fits) tt in
-    ap (shortEnough bs) e ∙ short-exactly bs (record { value = q; rest = text }) (record { value = q; rest = text }) .1 (refl, omega (arith, ap length (a .line), length-append (requestText q) text, a .short))
+    let g : Got Request = record { value = q; rest = text } in
+    let n : length bs - length text ≤ maxRequest = omega (arith, ap length (a .line), length-append (requestText q) text, a .short) in
+    ap (shortEnough bs) e ∙ short-exactly bs g g .1 (refl, n)
 
 not-asked : (bs : List ℕ) → ((q : Request) (text : List ℕ) → Asks bs q text → ⊥) → requestOf bs ≡ none
 unfolding requestOf
@@ -91,7 +93,8 @@ module _ (input : List ℕ) where
   printed = go (requestOf input) refl
     where
       behind : (q : Request) (text : List ℕ) → Asks input q text → (v : Answer Model) → readOf text ≡ v → Prints input (reportOf input)
-      behind q text a (refused t) e = subst (Prints input) (sym (report-text input text q (asked input q text a) t e)) (no-model a (read-text-exactly text (refused t) .0 e))
+      behind q text a (refused t) e =
+          subst (Prints input) (sym (report-text input text q (asked input q text a) t e)) (no-model a (read-text-exactly text (refused t) .0 e))
       behind q text a (answered m) e = of-model q text a m e
 
       go : (o : Option (Got Request)) → requestOf input ≡ o → Prints input (reportOf input)
@@ -120,15 +123,20 @@ module _ (input : List ℕ) where
     unfolding reportIn given
     filled-given = go (ltb (length old) mostBytes)
       where
-        go : (b : Bool) → cond b old (filledWith (answered (reportOf input)) old) ≡ filledWith (refusedOr (when b (tell 24 (mostBytes ∷ []))) (answered (reportOf input))) old
+        go : (b : Bool)
+            → cond b old (filledWith (answered (reportOf input)) old) ≡ filledWith (refusedOr (when b (tell 24 (mostBytes ∷ []))) (answered (reportOf input))) old
         go true = refl
         go false = refl
 
-    pub report-answers-exactly : (new : List ℕ) (r : Written) → Reported input old new r ↔ ReportExactly input old new r
+    given-exactly : (a : Answer (List ℕ)) → (given ≡ a) ↔ (room mostBytes (length old) ▹ Gives (Prints input)) a
     unfolding given
+    given-exactly =
+        check-exactly (room mostBytes (length old)) _ (room-decided mostBytes (length old)) (answered (reportOf input)) (Gives (Prints input)) (λ p.
+        gives-exactly (reportOf input) (Prints input) report-prints-exactly)
+
+    pub report-answers-exactly : (new : List ℕ) (r : Written) → Reported input old new r ↔ ReportExactly input old new r
     report-answers-exactly new r =
-        let e = leaves-exactly given (room mostBytes (length old) ▹ Gives (Prints input)) (Fills old new r)
-            (check-exactly (room mostBytes (length old)) _ (room-decided mostBytes (length old)) (answered (reportOf input)) (Gives (Prints input)) (λ p. gives-exactly (reportOf input) (Prints input) report-prints-exactly)) in
+        let e = leaves-exactly given (room mostBytes (length old) ▹ Gives (Prints input)) (Fills old new r) given-exactly in
         let f = fills-exactly old new r given in (
           λ g. e .0 (f .0 (g .answer ∙ ap some length-given, g .buffer ∙ filled-given)),
           λ g. let p = f .1 (e .1 g) in record { answer = p .0 ∙ ap some (sym length-given); buffer = p .1 ∙ sym filled-given },

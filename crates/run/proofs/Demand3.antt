@@ -23,13 +23,16 @@ use Rattle.run.proofs.Exactly.{settle-answers-exactly, settle-list-answ
 module _ (t : List ℕ) (x : State) (r : Settled) (b : Bool) (says : saysVerdict (r .verdict) ≡ some (answered b)) where
   -- beside a verdict there is no refusal, and the verdict is that of the settling
   refusal : {P : Type 0} {f : Told} → SettleAnswers (refused f) x r → P
-  refusal {f = f} l = let e : _≡_ {A = Option (Answer Bool)} (some (answered b)) (some (refused f)) = sym says ∙ l .0 in let z : _≡_ {A = ℕ} 0 1 = cc in absurd (omega arith)
+  refusal {f = f} l =
+      let e : _≡_ {A = Option (Answer Bool)} (some (answered b)) (some (refused f)) = sym says ∙ l .0 in
+      let z : _≡_ {A = ℕ} 0 1 = cc in absurd (omega arith)
 
   verdict : {d : Settling (List ℕ)} → SettlingGives d x r → d .stable ≡ b
   verdict {d} g = let e : _≡_ {A = Option (Answer Bool)} (some (answered (d .stable))) (some (answered b)) = sym (g .verdict) ∙ says in cc
 
   module _ (budget : ℕ) (old new : List ℕ) where
-    settled : {a : Answer (Settling (List ℕ))} → OnImage t (λ c cs. SettleAnswer c cs (partsOf x) budget (length old)) a → SettleLeaves x old new r a → SettledOn t x budget old new r b
+    settled : {a : Answer (Settling (List ℕ))} → OnImage t (λ c cs. SettleAnswer c cs (partsOf x) budget (length old)) a
+        → SettleLeaves x old new r a → SettledOn t x budget old new r b
     settled (is20 n) l = refusal (l .answer)
     settled (of-model h (refuses q)) l = refusal (l .answer)
     settled (of-model h (passes k (refuses q))) l = refusal (l .answer)

@@ -16,5 +16,6 @@ use Rattle.iosa.proofs.Answers.Texts.{read-text-exactly}
 pub check-text-determined : (t : List ℕ) (r q : Checked) → saysChecked r ≡ some (doneOf (readOf t)) → saysChecked q ≡ some (doneOf (readOf t)) → r ≡ q
 check-text-determined t r q e f = checked-fixed r q (doneOf (readOf t)) e f
 
-pub check-text-answers-exactly : (t : List ℕ) (r : Checked) → (saysChecked r ≡ some (doneOf (readOf t))) ↔ Leaves (ReadAnswer t) (λ a. saysChecked r ≡ some (doneOf a))
+pub check-text-answers-exactly : (t : List ℕ) (r : Checked)
+    → (saysChecked r ≡ some (doneOf (readOf t))) ↔ Leaves (ReadAnswer t) (λ a. saysChecked r ≡ some (doneOf a))
 check-text-answers-exactly t r = leaves-exactly (readOf t) (ReadAnswer t) (λ a. saysChecked r ≡ some (doneOf a)) (read-text-exactly t)

@@ -12,8 +12,8 @@ use Rattle.laws.specs.Search.{when}
 use Rattle.answer.specs.Told.{Answer, refused}
 use Rattle.iosa.specs.Model.{Comp, Model}
 use Rattle.iosa.specs.WellFormed.{WellFormed}
-use Rattle.iosa.specs.InOrder.{room}
-use Rattle.iosa.proofs.Answers.InOrder.{Decided, test-decided}
+use Rattle.iosa.specs.InOrder.{Leaves, room}
+use Rattle.iosa.proofs.Answers.InOrder.{Decided, leaves-exactly, test-decided}
 use Rattle.layout.specs.Layout.{imageWords}
 use Rattle.layout.specs.Image.{Image, modelOf, noImage}
 use Rattle.layout.specs.Lent.{tableTooShort}
@@ -47,10 +47,15 @@ module _ {A : Type 0} (t : List ℕ) (f : Model → Answer A) (R : Comp → List
 
   back : {a : Answer A} → OnImage t R a → onTable t f ≡ a
   back (is20 none) = on-no-image t f (no-image-exactly t .1 (λ im. none (modelOf t) (image-holds t im)))
-  back (of-model {c = c} {cs = cs} {a = a} h r) = on-image t f (image-exactly t .1 (holds-image h)) ∙ ap f (held-model t (c ∷ cs) h) ∙ exactly c cs (h .well) a .1 r
+  back (of-model {c = c} {cs = cs} {a = a} h r) =
+      on-image t f (image-exactly t .1 (holds-image h)) ∙ ap f (held-model t (c ∷ cs) h) ∙ exactly c cs (h .well) a .1 r
 
   pub on-table-exactly : (a : Answer A) → (onTable t f ≡ a) ↔ OnImage t R a
   on-table-exactly a = (there (isImage t) refl a, back)
+
+  -- what a call leaves of what computes is what it leaves of the answer that is right
+  pub on-table-leaves : (Left : Answer A → Type 0) → Left (onTable t f) ↔ Leaves (OnImage t R) Left
+  on-table-leaves Left = leaves-exactly (onTable t f) (OnImage t R) Left on-table-exactly
 
 -- 24: as many words as an image has, or as many bytes
 pub table-room-decided : (t : List ℕ) → Decided (room imageBytes (bytesOf t)) (when (ltb (length t) imageWords) tableTooShort)

@@ -24,11 +24,11 @@ use Rattle.iosa.proofs.Answers.Texts.{read-text-exactly}
 use Rattle.layout.specs.Layout.{imageWords}
 use Rattle.layout.specs.Image.{modelOf, noImage}
 use Rattle.layout.specs.Lent.{tableTooShort}
-use Rattle.layout.specs.OnImage.{OnImage, FillsTable, bytesOf, imageBytes}
+use Rattle.layout.specs.OnImage.{FillsTable, bytesOf, imageBytes}
 use Rattle.table.specs.IsImage.{isImage}
 use Rattle.table.specs.OnTable.{onTable}
 use Rattle.table.proofs.OnTableLaws.{on-image, on-no-image}
-use Rattle.table.proofs.OnImageExactly.{on-table-exactly, table-room-decided}
+use Rattle.table.proofs.OnImageExactly.{on-table-leaves, table-room-decided}
 use Rattle.reading.specs.Read.{roomFor, readOn, ReadCall}
 use Rattle.text.specs.Write.{writeOf, writeOn, textAfter, WriteCall}
 use Rattle.text.specs.TextExactly.{ReadExactly, WriteExactly}
@@ -77,11 +77,13 @@ module _ (t old : List ℕ) where
 textGiven : ℕ → Model → Answer (List ℕ)
 textGiven bytes m = refusedOr (when (ltb bytes (length (textOf m))) (tell 24 (length (textOf m) ∷ []))) (answered (textOf m))
 
-given-exactly : (bytes : ℕ) (c : Comp) (cs : List Comp) → WellFormed (c ∷ cs) → (a : Answer (List ℕ)) → (textGiven bytes (c ∷ cs) ≡ a) ↔ WriteAnswer bytes c cs a
+given-exactly : (bytes : ℕ) (c : Comp) (cs : List Comp) → WellFormed (c ∷ cs) → (a : Answer (List ℕ))
+    → (textGiven bytes (c ∷ cs) ≡ a) ↔ WriteAnswer bytes c cs a
 unfolding textGiven
 given-exactly bytes c cs w a =
     let x = textOf (c ∷ cs) in
-    check-exactly (room (length x) bytes) _ (room-decided (length x) bytes) (answered x) (Gives (λ text. text ≡ x)) (λ p. gives-exactly x (λ text. text ≡ x) (λ y. (sym, sym))) a
+    check-exactly (room (length x) bytes) _ (room-decided (length x) bytes) (answered x) (Gives (λ text. text ≡ x)) (λ p.
+    gives-exactly x (λ text. text ≡ x) (λ y. (sym, sym))) a
 
 module _ (t old : List ℕ) where
   length-given : (m : Model) → writeOf (length old) m ≡ lengthIn (textGiven (length old) m)
@@ -107,7 +109,7 @@ module _ (t old : List ℕ) where
 
   -- the bytes given are the text's
   filled-on : textAfter (writeOn t old) t old ≡ filledWith on old
-  unfolding on
+  unfolding on textGiven
   filled-on = go (isImage t) refl
     where
       given : (b : Bool) → textAfter (lengthIn (refusedOr (when b (tell 24 (length (textOf (modelOf t)) ∷ []))) (answered (textOf (modelOf t))))) t old
@@ -116,17 +118,18 @@ module _ (t old : List ℕ) where
       given false = refl
 
       go : (b : Bool) → isImage t ≡ b → textAfter (writeOn t old) t old ≡ filledWith (onTable t (textGiven (length old))) old
-      unfolding textGiven
       go true e =
           ap (λ a. textAfter a t old) (on-image t (writeOf (length old)) e ∙ length-given (modelOf t))
           ∙ given (ltb (length old) (length (textOf (modelOf t))))
           ∙ sym (ap (λ a. filledWith a old) (on-image t (textGiven (length old)) e))
-      go false e = ap (λ a. textAfter a t old) (on-no-image t (writeOf (length old)) e) ∙ sym (ap (λ a. filledWith a old) (on-no-image t (textGiven (length old)) e))
+      go false e =
+          ap (λ a. textAfter a t old) (on-no-image t (writeOf (length old)) e)
+          ∙ sym (ap (λ a. filledWith a old) (on-no-image t (textGiven (length old)) e))
 
   pub write-answers-exactly : (new : List ℕ) (r : Written) → WriteCall t old new r ↔ WriteExactly t old new r
   unfolding on
   write-answers-exactly new r =
-      let e = leaves-exactly on (OnImage t (WriteAnswer (length old))) (Fills old new r) (on-table-exactly t (textGiven (length old)) (WriteAnswer (length old)) (given-exactly (length old))) in
+      let e = on-table-leaves t (textGiven (length old)) (WriteAnswer (length old)) (given-exactly (length old)) (Fills old new r) in
       let f = fills-exactly old new r on in (
         λ g. e .0 (f .0 (g .answer ∙ ap some length-on, g .buffer ∙ filled-on)),
         λ g. let p = f .1 (e .1 g) in record { answer = p .0 ∙ ap some (sym length-on); buffer = p .1 ∙ sym filled-on },

@@ -10,11 +10,8 @@ use Rattle.answer.specs.declared.Timed.{Timed}
 use Rattle.iosa.specs.Model.{Comp}
 use Rattle.iosa.specs.Timed.{Timing, timedOf}
 use Rattle.iosa.specs.Answers.{TimedStepAnswer}
-use Rattle.iosa.proofs.Answers.InOrder.{leaves-exactly}
 use Rattle.iosa.proofs.Answers.Texts.{timed-step-model-exactly}
-use Rattle.layout.specs.OnImage.{OnImage}
-use Rattle.table.specs.OnTable.{onTable}
-use Rattle.table.proofs.OnImageExactly.{on-table-exactly}
+use Rattle.table.proofs.OnImageExactly.{on-table-leaves}
 use Rattle.firing.specs.Shots.{TimingAnswers}
 use Rattle.timed.specs.TimedStep.{TimedStep}
 use Rattle.timed.specs.TimedStepExactly.{TimedStepExactly}
@@ -22,5 +19,4 @@ use Rattle.timed.specs.TimedStepExactly.{TimedStepExactly}
 pub timed_step-answers-exactly : (t : List ℕ) (x : State) (was : List ℤ) (r : Timed) (vs : List ℤ) → TimedStep t x was r vs ↔ TimedStepExactly t x was r vs
 timed_step-answers-exactly t x was r vs =
     let R : Comp → List Comp → Answer Timing → Type 0 = λ c cs. TimedStepAnswer c cs (partsOf x) was in
-    leaves-exactly (onTable t (λ m. timedOf m (partsOf x) was)) (OnImage t R) (λ a. TimingAnswers a x was r vs)
-    (on-table-exactly t (λ m. timedOf m (partsOf x) was) R (λ c cs w. timed-step-model-exactly c cs w (partsOf x) was))
+    on-table-leaves t (λ m. timedOf m (partsOf x) was) R (λ c cs w. timed-step-model-exactly c cs w (partsOf x) was) (λ a. TimingAnswers a x was r vs)

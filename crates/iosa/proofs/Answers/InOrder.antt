@@ -39,7 +39,8 @@ unless-refused none x = refl
 unless-refused (some t) x = refl
 
 -- ---- a check that is decided, then what comes after it
-module _ {A : Type 0} (k : Check) (o : Option Told) (d : Decided k o) (x : Answer A) (R : Answer A → Type 0) (rest : k .Passes → (a : Answer A) → (x ≡ a) ↔ R a) where
+module _ {A : Type 0} (k : Check) (o : Option Told) (d : Decided k o) (x : Answer A) (R : Answer A → Type 0)
+    (rest : k .Passes → (a : Answer A) → (x ≡ a) ↔ R a) where
   there : (p : Option Told) → o ≡ p → {a : Answer A} → refusedOr p x ≡ a → (k ▹ R) a
   there none h {a} e = passes (d .fine .0 h) (rest (d .fine .0 h) a .0 e)
   there (some t) h e = subst (k ▹ R) e (refuses (d .told t .0 h))

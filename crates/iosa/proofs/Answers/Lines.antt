@@ -60,7 +60,8 @@ module _ (c : Comp) (cs : List Comp) (well : WellFormed (c ∷ cs)) (conf : Conf
 
 -- what is printed for what settling answers
 module _ (c : Comp) (cs : List Comp) (well : WellFormed (c ∷ cs)) (s : List ℕ) (budget trace : ℕ) where
-  pub answer-printed : {a : Answer (Settling (List ℕ))} → SettleAnswer c cs s budget trace a → (out : List ℕ) → (answerLines (c ∷ cs) s a ≡ out) ↔ AnswerPrinted c cs s a out
+  pub answer-printed : {a : Answer (Settling (List ℕ))} → SettleAnswer c cs s budget trace a → (out : List ℕ)
+      → (answerLines (c ∷ cs) s a ≡ out) ↔ AnswerPrinted c cs s a out
   unfolding answerLines
   answer-printed (refuses r) out = (sym, sym)
   answer-printed (passes k (refuses r)) out = (sym, sym)

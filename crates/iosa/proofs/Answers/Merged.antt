@@ -69,10 +69,12 @@ leads-row e r f t n = subst (λ q. In q (e .rows)) same (in-at noRow (e .rows) (
 -- ---- the kinds of the actions, by inputs, outputs and urgency
 module _ (c d e : Comp) (p : ProductOf c d e) (a : ℕ) where
   calm-in : a ∈ e .ins → (a ∈ urgents e → ⊥)
-  calm-in h u = ⊎-elim (p .in-or-uin a h) (λ o. p .input-or-output a (or-in-l (e .ins) (e .uins) a h) (or-in-r (e .outs) (e .uouts) a o)) (in-or (e .uins) (e .uouts) a u)
+  calm-in h u = ⊎-elim (p .in-or-uin a h)
+      (λ o. p .input-or-output a (or-in-l (e .ins) (e .uins) a h) (or-in-r (e .outs) (e .uouts) a o)) (in-or (e .uins) (e .uouts) a u)
 
   calm-out : a ∈ e .outs → (a ∈ urgents e → ⊥)
-  calm-out h u = ⊎-elim (λ i. p .input-or-output a (or-in-r (e .ins) (e .uins) a i) (or-in-l (e .outs) (e .uouts) a h)) (p .out-or-uout a h) (in-or (e .uins) (e .uouts) a u)
+  calm-out h u = ⊎-elim (λ i. p .input-or-output a (or-in-r (e .ins) (e .uins) a i) (or-in-l (e .outs) (e .uouts) a h))
+      (p .out-or-uout a h) (in-or (e .uins) (e .uouts) a u)
 
 module _ (c d e e′ : Comp) (p : ProductOf c d e) (p′ : ProductOf c d e′) where
   urgent-there : (a : ℕ) → a ∈ urgents e → a ∈ urgents e′
@@ -88,16 +90,20 @@ module _ (c d e e′ : Comp) (p : ProductOf c d e) (p′ : ProductOf c d e′) w
   output-there a h = rw (p .outs ∙ sym (p′ .outs)) at h
 
   pub ins-there : (a : ℕ) → a ∈ e .ins → a ∈ e′ .ins
-  ins-there a h = ⊎-elim (λ i. i) (λ u. absurd (calm-in c d e p a h (urgent-back a (or-in-l (e′ .uins) (e′ .uouts) a u)))) (in-or (e′ .ins) (e′ .uins) a (input-there a (or-in-l (e .ins) (e .uins) a h)))
+  ins-there a h = ⊎-elim (λ i. i) (λ u. absurd (calm-in c d e p a h (urgent-back a (or-in-l (e′ .uins) (e′ .uouts) a u))))
+      (in-or (e′ .ins) (e′ .uins) a (input-there a (or-in-l (e .ins) (e .uins) a h)))
 
   pub uins-there : (a : ℕ) → a ∈ e .uins → a ∈ e′ .uins
-  uins-there a h = ⊎-elim (λ i. absurd (calm-in c d e′ p′ a i (urgent-there a (or-in-l (e .uins) (e .uouts) a h)))) (λ u. u) (in-or (e′ .ins) (e′ .uins) a (input-there a (or-in-r (e .ins) (e .uins) a h)))
+  uins-there a h = ⊎-elim (λ i. absurd (calm-in c d e′ p′ a i (urgent-there a (or-in-l (e .uins) (e .uouts) a h)))) (λ u. u)
+      (in-or (e′ .ins) (e′ .uins) a (input-there a (or-in-r (e .ins) (e .uins) a h)))
 
   pub outs-there : (a : ℕ) → a ∈ e .outs → a ∈ e′ .outs
-  outs-there a h = ⊎-elim (λ i. i) (λ u. absurd (calm-out c d e p a h (urgent-back a (or-in-r (e′ .uins) (e′ .uouts) a u)))) (in-or (e′ .outs) (e′ .uouts) a (output-there a (or-in-l (e .outs) (e .uouts) a h)))
+  outs-there a h = ⊎-elim (λ i. i) (λ u. absurd (calm-out c d e p a h (urgent-back a (or-in-r (e′ .uins) (e′ .uouts) a u))))
+      (in-or (e′ .outs) (e′ .uouts) a (output-there a (or-in-l (e .outs) (e .uouts) a h)))
 
   pub uouts-there : (a : ℕ) → a ∈ e .uouts → a ∈ e′ .uouts
-  uouts-there a h = ⊎-elim (λ i. absurd (calm-out c d e′ p′ a i (urgent-there a (or-in-r (e .uins) (e .uouts) a h)))) (λ u. u) (in-or (e′ .outs) (e′ .uouts) a (output-there a (or-in-r (e .outs) (e .uouts) a h)))
+  uouts-there a h = ⊎-elim (λ i. absurd (calm-out c d e′ p′ a i (urgent-there a (or-in-r (e .uins) (e .uouts) a h)))) (λ u. u)
+      (in-or (e′ .outs) (e′ .uouts) a (output-there a (or-in-r (e .outs) (e .uouts) a h)))
 
   pub rows-there : (r : Row) → In r (e .rows) → In r (e′ .rows)
   rows-there r m =
@@ -175,7 +181,8 @@ module _ (m : Model) (i : ℕ) (w : WellFormed m) (o : Conforming m) (j : Joinab
   below = omega arith
 
   product-here : ProductOf (compAt m i) (compAt m (suc i)) (merged (compAt m i) (compAt m (suc i)))
-  product-here = merged-is-product (compAt m i) (compAt m (suc i)) (w .each i below) (w .each (suc i) next) (o .each i below) (o .each (suc i) next) (j .pair i (suc i) (omega arith) next)
+  product-here = merged-is-product (compAt m i) (compAt m (suc i)) (w .each i below) (w .each (suc i) next)
+      (o .each i below) (o .each (suc i) next) (j .pair i (suc i) (omega arith) next)
 
   pub computed-here : compAt (mergedAt m i) i ≡ merged (compAt m i) (compAt m (suc i))
   unfolding mergedAt
@@ -224,14 +231,15 @@ module _ (m : Model) (i : ℕ) (w : WellFormed m) (k : Conforming m × Joinable 
       ME.is26 (r .neighbour) (λ g. f (subst (λ x. Small x i) e (fits-small m i w (k .0) (k .1) (r .neighbour) g)))
   back (is-merged {n = n} r s) =
       let e = one-replaced m i w (k .0) (k .1) (r .neighbour) n r in
-      subst (λ x. MergeAnswer m i (answered x)) e (ME.is-merged (r .neighbour) (small-fits m i w (k .0) (k .1) (r .neighbour) (subst (λ x. Small x i) (sym e) s)))
+      subst (λ x. MergeAnswer m i (answered x)) e
+      (ME.is-merged (r .neighbour) (small-fits m i w (k .0) (k .1) (r .neighbour) (subst (λ x. Small x i) (sym e) s)))
 
   pub merged-answers-exactly : (a : Answer Model) → MergeAnswer m i a ↔ MergedAnswer m i a
   merged-answers-exactly a = (there, back)
 
 -- "as `accept`, then 24, 25, 26", where o decides 24
-pub merge-model-exactly : (c : Comp) (cs : List Comp) → WellFormed (c ∷ cs) → (i needed bytes : ℕ) (o : Option Told) → Decided (room needed bytes) o → (a : Answer Model)
-    → (mergeOf (c ∷ cs) i o ≡ a) ↔ MergeCallAnswer c cs i needed bytes a
+pub merge-model-exactly : (c : Comp) (cs : List Comp) → WellFormed (c ∷ cs) → (i needed bytes : ℕ) (o : Option Told) → Decided (room needed bytes) o
+    → (a : Answer Model) → (mergeOf (c ∷ cs) i o ≡ a) ↔ MergeCallAnswer c cs i needed bytes a
 unfolding mergeOf
 merge-model-exactly c cs w i needed bytes o d a =
     let m = c ∷ cs in

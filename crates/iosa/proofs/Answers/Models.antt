@@ -12,7 +12,7 @@ use borrow.Author.Tests.{ltb-false, le-ltb, not-false}
 use Rattle.laws.specs.Search.{orElse}
 use Rattle.laws.proofs.SearchLaws.{no-some}
 use Rattle.answer.specs.Limits.{maxBudget}
-use Rattle.answer.specs.Told.{Told, tell, Answer, answered, refused}
+use Rattle.answer.specs.Told.{Told, tell, Answer, answered, refused, moved}
 use Rattle.iosa.specs.Model.{Comp, Model}
 use Rattle.iosa.specs.WellFormed.{WellFormed}
 use Rattle.iosa.specs.Automaton.{UrgentRow, Conforming, Joinable, AllConfluent}
@@ -23,7 +23,8 @@ use Rattle.iosa.specs.Settle.{Settling, settle, budgetFault, traceFault,
 use Rattle.iosa.specs.Stepped.{StepsByRule, StepsByName, follows}
 use Rattle.iosa.specs.Orders.{OneEnd, Called, CalledByList}
 use Rattle.iosa.specs.InOrder.{Check, _▹_, refuses, passes, Gives, gives, needs, room, accepted, confluent}
-use Rattle.iosa.specs.Answers.{Fine, stateOk, AcceptAnswer, ConfluentAnswer, StepAnswer, Enabled, StepByAnswer, SettleAnswer, ListAnswer, is23, is-series, SettleListAnswer}
+use Rattle.iosa.specs.Answers.{Fine, stateOk, AcceptAnswer, ConfluentAnswer, StepAnswer, Enabled, StepByAnswer}
+use Rattle.iosa.specs.Answers.{SettleAnswer, ListAnswer, is23, is-series, SettleListAnswer}
 use Rattle.iosa.proofs.Acceptance.Accepted.{accepted-exactly}
 use Rattle.iosa.proofs.Acceptance.Refused.{refused-exactly}
 use Rattle.iosa.proofs.Acceptance.Clashes.{decides-clashes, clash-exactly}
@@ -34,7 +35,8 @@ use Rattle.iosa.proofs.Settling.Demand3.{demand-3}
 use Rattle.iosa.proofs.Settling.Listed.{list-that-is-a-series, list-that-is-no-series}
 use Rattle.iosa.proofs.Settling.Called.{one-end, no-answer}
 use Rattle.iosa.proofs.Settling.StepCalled.{rule-taken, taken-rule}
-use Rattle.iosa.proofs.Answers.InOrder.{Decided, refusedOr, either, or-refused, unless-refused, check-exactly, gives-exactly, needs-decided, room-decided}
+use Rattle.iosa.proofs.Answers.InOrder.{Decided, refusedOr, either, or-refused, unless-refused}
+use Rattle.iosa.proofs.Answers.InOrder.{check-exactly, gives-exactly, needs-decided, room-decided}
 use Rattle.iosa.proofs.Answers.OneRun.{our-run-exactly}
 
 -- ---- the checks are decided
@@ -73,7 +75,8 @@ module _ (c : Comp) (cs : List Comp) (well : WellFormed (c ∷ cs)) where
   m = c ∷ cs
 
   pub accept-model-exactly : (a : Answer (Unit {0})) → (unless (acceptOf m) tt ≡ a) ↔ AcceptAnswer c cs a
-  accept-model-exactly a = rw (unless-refused (acceptOf m) done) (check-exactly (accepted m) (acceptOf m) (accepted-decided m well) (answered done) Fine (λ p. unit-exactly) a)
+  accept-model-exactly a = rw (unless-refused (acceptOf m) done) (
+      check-exactly (accepted m) (acceptOf m) (accepted-decided m well) (answered done) Fine (λ p. unit-exactly) a)
 
   pub confluent-model-exactly : (a : Answer (Unit {0})) → (unless (confluentOf m) tt ≡ a) ↔ ConfluentAnswer c cs a
   unfolding confluentOf
@@ -87,7 +90,8 @@ module _ (c : Comp) (cs : List Comp) (well : WellFormed (c ∷ cs)) where
     step-model-exactly a =
         let x = taken s (lowest (urgentStep m) s) in
         rw (unless-refused (orElse (acceptOf m) (stateFault m s)) x ∙ or-refused (acceptOf m) (stateFault m s) (answered x)) (
-        check-exactly (accepted m) (acceptOf m) (accepted-decided m well) (refusedOr (stateFault m s) (answered x)) (stateOk c cs s ▹ Gives (StepsByRule c cs s)) (λ k.
+        check-exactly (accepted m) (acceptOf m) (accepted-decided m well) (refusedOr (stateFault m s) (answered x))
+        (stateOk c cs s ▹ Gives (StepsByRule c cs s)) (λ k.
         check-exactly (stateOk c cs s) (stateFault m s) (state-decided c cs s) (answered x) (Gives (StepsByRule c cs s)) (λ w.
         gives-exactly x (StepsByRule c cs s) (λ v. (
           λ e. subst (StepsByRule c cs s) e (rule-taken c cs well (k .0) (k .1) s w (lowest (urgentStep m) s) refl),
@@ -96,7 +100,8 @@ module _ (c : Comp) (cs : List Comp) (well : WellFormed (c ∷ cs)) where
 
     -- 23, or the named step
     module _ (k : Conforming m × Joinable m) (w : Within m s) (b : ℕ) where
-      by-named : (o : Option (Gone (List ℕ))) → urgentStep m s b ≡ o → (a : Answer Stepping) → (takenBy (named b o) ≡ a) ↔ (needs 23 (Enabled c cs s b) ▹ Gives (StepsByName c cs s b)) a
+      by-named : (o : Option (Gone (List ℕ))) → urgentStep m s b ≡ o → (a : Answer Stepping)
+          → (takenBy (named b o) ≡ a) ↔ (needs 23 (Enabled c cs s b) ▹ Gives (StepsByName c cs s b)) a
       by-named none h a = (λ e. subst (needs 23 (Enabled c cs s b) ▹ Gives (StepsByName c cs s b)) e (refuses (disabled, refl)), back)
         where
           disabled : Enabled c cs s b → ⊥
@@ -105,10 +110,13 @@ module _ (c : Comp) (cs : List Comp) (well : WellFormed (c ∷ cs)) where
           back : {a : Answer Stepping} → (needs 23 (Enabled c cs s b) ▹ Gives (StepsByName c cs s b)) a → takenBy (named b none) ≡ a
           back (refuses p) = ap refused (sym (p .1))
           back (passes e r) = absurd (disabled e)
-      by-named (some g) h a = (λ e. subst (needs 23 (Enabled c cs s b) ▹ Gives (StepsByName c cs s b)) e (passes enabled (gives (follows (record { row = p .0; range = p .1 })))), back)
+      by-named (some g) h a = (λ e. subst (needs 23 (Enabled c cs s b) ▹ Gives (StepsByName c cs s b)) e (passes enabled (gives by-row)), back)
         where
           p : UrgentRow (product c cs) (stateOf c cs s) 0 b (g .resets) (stateOf c cs (g .after)) × Within m (g .after)
           p = step-is-a-row c cs well (k .0) (k .1) s w b g h
+
+          by-row : StepsByName c cs s b (record { step = moved b (g .resets); state = g .after })
+          by-row = follows (record { row = p .0; range = p .1 })
 
           enabled : Enabled c cs s b
           enabled = (0, g .resets, stateOf c cs (g .after), p .0)
@@ -156,7 +164,8 @@ module _ (c : Comp) (cs : List Comp) (well : WellFormed (c ∷ cs)) where
       list-exactly l a = (λ e. there (play m 0 l s) refl e, back)
         where
           there : (x : Answer (Settling (List ℕ))) → play m 0 l s ≡ x → {a : Answer (Settling (List ℕ))} → x ≡ a → ListAnswer c cs s l a
-          there (answered d) h e = subst (ListAnswer c cs s l) e (is-series (record { orders = orders-agree; listed = list-that-is-a-series c cs well (k .0) (k .1) s w l d .0 h }))
+          there (answered d) h e = subst (ListAnswer c cs s l) e
+              (is-series (record { orders = orders-agree; listed = list-that-is-a-series c cs well (k .0) (k .1) s w l d .0 h }))
           there (refused t) h e =
               let p = list-that-is-no-series c cs well (k .0) (k .1) s w l t .0 h in
               subst (ListAnswer c cs s l) (ap refused (sym (p .1)) ∙ e) (is23 (p .2))
@@ -196,4 +205,5 @@ module _ (c : Comp) (cs : List Comp) (well : WellFormed (c ∷ cs)) where
     unfolding settleListOf
     settle-list-model-exactly l a =
         after-21 (budgetFault (length l)) (play m 0 l s) (needs 22 (length l ≤ maxBudget) ▹ ListAnswer c cs s l) (λ k al w.
-        check-exactly (needs 22 (length l ≤ maxBudget)) (budgetFault (length l)) (budget-decided (length l)) (play m 0 l s) (ListAnswer c cs s l) (λ h. list-exactly k al w l)) a
+        check-exactly (needs 22 (length l ≤ maxBudget)) (budgetFault (length l)) (budget-decided (length l)) (play m 0 l s) (ListAnswer c cs s l) (λ h.
+        list-exactly k al w l)) a

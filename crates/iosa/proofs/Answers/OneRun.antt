@@ -34,32 +34,41 @@ module _ {S : Type 0} (step : S → ℕ → Option (Gone S)) (bd : Bounded step)
   some-step s a g e none h = absurd (no-some (lowest-none step s bd h a) e)
   some-step s a g e (some w) h = (w, refl)
 
+  -- what settling answers by the step that is left: with no budget, and with a budget of n more
+  abbrev lastly : S → Option (Went S) → Settling S
+  lastly s p = elim p as (λ _. Settling S) [ none ↦ resting true s | some w ↦ resting false s ]
+
+  abbrev onward : ℕ → S → Option (Went S) → Settling S
+  onward n s p = elim p as (λ _. Settling S) [ none ↦ resting true s | some w ↦ after w (settle step n (w .gone .after)) ]
+
   is-settled : (n : ℕ) {s u : S} {l : List ℕ} {R : ℕ} (b : Bool) → LowRun step s l R u → Over n u l b
       → settle step n s ≡ record { stable = b; steps = length l; resets = R; trace = l; state = u }
   unfolding settle
-  is-settled zero {s} true stay o = ap (λ p. elim p as (λ _. Settling S) [ none ↦ resting true s | some w ↦ resting false s ]) (stuck-lowest step s (o .stable refl))
+  is-settled zero {s} true stay o =
+      ap (lastly s) (stuck-lowest step s (o .stable refl))
   is-settled zero {s} false stay o =
       let q = o .going refl .1 in
       let w = some-step s (q .0) (q .1) (q .2) (lowest step s) refl in
-      ap (λ p. elim p as (λ _. Settling S) [ none ↦ resting true s | some w ↦ resting false s ]) (w .1)
+      ap (lastly s) (w .1)
   is-settled zero b (low a g e f more) o = absurd (omega (arith, o .within))
   is-settled (suc n) {s} true stay o =
-      ap (λ p. elim p as (λ _. Settling S) [ none ↦ resting true s | some w ↦ after w (settle step n (w .gone .after)) ]) (stuck-lowest step s (o .stable refl))
+      ap (onward n s) (stuck-lowest step s (o .stable refl))
   is-settled (suc n) false stay o = absurd (omega (arith, o .going refl .0))
-  is-settled (suc n) {s} b (low a g e f more) o =
-      let ih = is-settled n b more (record { within = omega (arith, o .within); stable = o .stable; going = λ h. (omega (arith, o .going h .0), o .going h .1) }) in
-      ap (λ p. elim p as (λ _. Settling S) [ none ↦ resting true s | some w ↦ after w (settle step n (w .gone .after)) ]) (some-lowest step s a g (bd s a g e) e f)
-      ∙ ap (after (record { action = a; gone = g })) ih
+  is-settled (suc n) {s} b (low {l = l} a g e f more) o =
+      let fewer : b ≡ false → length l ≡ n = λ h. omega (arith, o .going h .0) in
+      let ih = is-settled n b more (record { within = omega (arith, o .within); stable = o .stable; going = λ h. (fewer h, o .going h .1) }) in
+      ap (onward n s) (some-lowest step s a g (bd s a g e) e f) ∙ ap (after (record { action = a; gone = g })) ih
 
 module _ (c : Comp) (cs : List Comp) (well : WellFormed (c ∷ cs)) (conf : Conforming (c ∷ cs)) (join : Joinable (c ∷ cs)) where
-  low-series-is-a-run : (s : List ℕ) → Within (c ∷ cs) s → {x y : product c cs .State} {l : List ℕ} {R : ℕ} → x ≡ stateOf c cs s → LowestSeries (product c cs) x l R y
-      → (t : List ℕ) × LowRun (urgentStep (c ∷ cs)) s l R t × (y ≡ stateOf c cs t) × Within (c ∷ cs) t
+  low-series-is-a-run : (s : List ℕ) → Within (c ∷ cs) s → {x y : product c cs .State} {l : List ℕ} {R : ℕ} → x ≡ stateOf c cs s
+      → LowestSeries (product c cs) x l R y → (t : List ℕ) × LowRun (urgentStep (c ∷ cs)) s l R t × (y ≡ stateOf c cs t) × Within (c ∷ cs) t
   low-series-is-a-run s w e rest = (s, stay, e, w)
   low-series-is-a-run s w e (take {y = y} {C = C} {a = a} {R = R} r f more) =
       let p = row-is-a-step c cs well conf join s w y (rw e at r) in
       let q = low-series-is-a-run (p .after) (p .within) (p .state) more in
       let g : (b D P : ℕ) (v : product c cs .State) → b < a → UrgentRow (product c cs) (stateOf c cs s) D b P v → ⊥ = rw e at f in
-      (q .0, low a (record { resets = R; after = p .after }) (p .step) (λ b h. no-row-no-step c cs well conf join s w b (λ D P v u. g b D P v h u)) (q .1), q .2, q .3)
+      let lower : (b : ℕ) → b < a → urgentStep (c ∷ cs) s b ≡ none = λ b h. no-row-no-step c cs well conf join s w b (λ D P v u. g b D P v h u) in
+      (q .0, low a (record { resets = R; after = p .after }) (p .step) lower (q .1), q .2, q .3)
 
   module _ (s : List ℕ) (w : Within (c ∷ cs) s) (n : ℕ) where
     of-our-run : (d : Settling (List ℕ)) → OurRun c cs s n d → settle (urgentStep (c ∷ cs)) n s ≡ d

@@ -24,7 +24,8 @@ use Rattle.iosa.proofs.Timing.Exactly.{timed-exactly}
 use Rattle.iosa.proofs.Answers.InOrder.{refusedOr, either, or-refused, check-exactly}
 use Rattle.iosa.proofs.Answers.Models.{accepted-decided}
 
-pub timed-step-model-exactly : (c : Comp) (cs : List Comp) → WellFormed (c ∷ cs) → (s : List ℕ) (vs : List ℤ) (a : Answer Timing) → (timedOf (c ∷ cs) s vs ≡ a) ↔ TimedStepAnswer c cs s vs a
+pub timed-step-model-exactly : (c : Comp) (cs : List Comp) → WellFormed (c ∷ cs) → (s : List ℕ) (vs : List ℤ) (a : Answer Timing)
+    → (timedOf (c ∷ cs) s vs ≡ a) ↔ TimedStepAnswer c cs s vs a
 unfolding timedOf
 timed-step-model-exactly c cs well s vs a =
     let m = c ∷ cs in

@@ -9,7 +9,8 @@ use Rattle.laws.specs.Search.{when, orElse}
 use Rattle.laws.proofs.SearchLaws.{no-some}
 use Rattle.laws.proofs.TestLaws.{apart-cases}
 use Rattle.iosa.specs.Reading.{Got, got, Entry, entry, Progress, current, outOfTurn, outOfRange, lacks, outOfOrder, tooMany, faultOf}
-use Rattle.iosa.specs.Faulty.{InTurn, InRange, Named, InOrder, Room, Faultless, LineAt, Fault, wrong-shape, out-of-turn, out-of-range, lacking, out-of-order, too-many, Lowest}
+use Rattle.iosa.specs.Faulty.{InTurn, InRange, Named, InOrder, Room, Faultless, LineAt}
+use Rattle.iosa.specs.Faulty.{Fault, wrong-shape, out-of-turn, out-of-range, lacking, out-of-order, too-many, Lowest}
 use Rattle.iosa.proofs.Reading.Lines.{line-exactly, no-line-exactly}
 use Rattle.iosa.proofs.Reading.Tests.{turn-decided, range-decided, names-decided, order-decided, room-decided}
 

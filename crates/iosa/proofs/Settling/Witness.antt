@@ -174,10 +174,14 @@ differing-orders-have-no-one-end o =
     starts = range-exactly (T₀ ∷ T₁ ∷ clashing ∷ []) (0 ∷ 0 ∷ 0 ∷ []) .0 refl
 
     one : Listed T₀ (T₁ ∷ clashing ∷ []) (0 ∷ 0 ∷ 0 ∷ []) (0 ∷ 1 ∷ []) (ended 2 3 (1 ∷ 1 ∷ 1 ∷ []))
-    one = list-that-is-a-series T₀ (T₁ ∷ clashing ∷ []) clashing-well (k .0) (k .1) (0 ∷ 0 ∷ 0 ∷ []) starts (0 ∷ 1 ∷ []) (ended 2 3 (1 ∷ 1 ∷ 1 ∷ [])) .0 (orders-that-differ .0)
+    one =
+        list-that-is-a-series T₀ (T₁ ∷ clashing ∷ []) clashing-well (k .0) (k .1) (0 ∷ 0 ∷ 0 ∷ []) starts (0 ∷ 1 ∷ [])
+        (ended 2 3 (1 ∷ 1 ∷ 1 ∷ [])) .0 (orders-that-differ .0)
 
     other : Listed T₀ (T₁ ∷ clashing ∷ []) (0 ∷ 0 ∷ 0 ∷ []) (1 ∷ 0 ∷ []) (ended 2 3 (1 ∷ 1 ∷ 2 ∷ []))
-    other = list-that-is-a-series T₀ (T₁ ∷ clashing ∷ []) clashing-well (k .0) (k .1) (0 ∷ 0 ∷ 0 ∷ []) starts (1 ∷ 0 ∷ []) (ended 2 3 (1 ∷ 1 ∷ 2 ∷ [])) .0 (orders-that-differ .1)
+    other =
+        list-that-is-a-series T₀ (T₁ ∷ clashing ∷ []) clashing-well (k .0) (k .1) (0 ∷ 0 ∷ 0 ∷ []) starts (1 ∷ 0 ∷ [])
+        (ended 2 3 (1 ∷ 1 ∷ 2 ∷ [])) .0 (orders-that-differ .1)
 
 pub differing-orders-settle-as-nothing : (budget : ℕ) (d : Settling (List ℕ)) → Called T₀ (T₁ ∷ clashing ∷ []) (0 ∷ 0 ∷ 0 ∷ []) budget d → ⊥
 differing-orders-settle-as-nothing budget d r = differing-orders-have-no-one-end (r .orders)
