@@ -9,7 +9,6 @@ use Rattle.answer.specs.declared.State.{State}
 use Rattle.iosa.specs.Reading.{readOf}
 use Rattle.iosa.specs.Step.{Stepping}
 use Rattle.iosa.specs.Settle.{Settling}
-use Rattle.iosa.specs.Timed.{Timing}
 use Rattle.layout.specs.Lent.{tableAfter}
 use Rattle.table.specs.IsImage.{isImage}
 use Rattle.reading.specs.Read.{readOn}

@@ -5,7 +5,7 @@ use Prim.Native.Nat.{ℕ, _≤_, _<_}
 use lib.ListN.{length}
 use lib.IntN.{ℤ}
 use Rattle.answer.specs.Limits.{maxBudget, maxBytes}
-use Rattle.answer.specs.Told.{Told, tell, Answer, answered, refused}
+use Rattle.answer.specs.Told.{tell, Answer, answered, refused}
 use Rattle.iosa.specs.Model.{Comp, Model}
 use Rattle.iosa.specs.Text.{textOf}
 use Rattle.iosa.specs.WellFormed.{WellFormed}

@@ -1,6 +1,6 @@
 -- Refusals in their order (01, "Refusal numbers"): a call is refused by the first of its checks that does not pass; else it goes on.
 use mathlib.Core.Path.{_≡_}
-use mathlib.Core.List.{List, [], _∷_}
+use mathlib.Core.List.{[], _∷_}
 use Prim.Native.Nat.{ℕ, _≤_, _<_}
 use Rattle.answer.specs.Told.{Told, tell, Answer, answered, refused}
 use Rattle.iosa.specs.Model.{Model}

@@ -3,7 +3,7 @@ use mathlib.Core.Path.{_≡_, refl, sym, _∙_, ap, subst}
 use mathlib.Core.Logic.{_↔_}
 use mathlib.Core.Bool.{Bool, true, false, cond, true≢false}
 use mathlib.Core.Option.{Option, none, some, Option·some-inj}
-use mathlib.Core.List.{List, [], _∷_, _++_}
+use mathlib.Core.List.{List, [], _∷_}
 use Prim.Native.Nat.{ℕ, _-_, _≤_}
 use native.Mathlib.Omega.{arith}
 use lib.ListN.{length, length-append}
@@ -12,15 +12,13 @@ use borrow.Author.Tests.{ltb-false, le-ltb}
 use Rattle.laws.specs.Search.{when}
 use Rattle.laws.proofs.SearchLaws.{no-some}
 use Rattle.answer.specs.Limits.{maxRequest}
-use Rattle.answer.specs.Told.{Told, tell, Answer, answered, refused}
+use Rattle.answer.specs.Told.{tell, Answer, answered, refused}
 use Rattle.answer.specs.declared.Written.{Written}
-use Rattle.iosa.specs.Model.{Comp, Model}
-use Rattle.iosa.specs.WellFormed.{WellFormed}
+use Rattle.iosa.specs.Model.{Model}
 use Rattle.iosa.specs.Reading.{Got, got, readOf}
 use Rattle.iosa.specs.Settle.{settleOf}
-use Rattle.iosa.specs.Report.{Request, requestLine, requestText, requestOf, shortEnough, refusedLine, answerLines, reportOf}
+use Rattle.iosa.specs.Report.{Request, requestLine, requestText, requestOf, shortEnough, answerLines, reportOf}
 use Rattle.iosa.specs.InOrder.{_▹_, Gives, room}
-use Rattle.iosa.specs.Answers.{ReadAnswer}
 use Rattle.iosa.specs.Lent.{Fills}
 use Rattle.iosa.specs.Printed.{Asks, Prints, is9, no-model, runs}
 use Rattle.iosa.proofs.Reading.ReadOfText.{read-exactly}

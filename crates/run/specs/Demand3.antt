@@ -3,11 +3,10 @@ use mathlib.Core.Path.{_≡_}
 use mathlib.Core.Bool.{Bool}
 use mathlib.Core.List.{List, _∷_}
 use Prim.Native.Nat.{ℕ}
-use lib.ListN.{length}
 use Rattle.answer.specs.State.{partsOf, withParts}
 use Rattle.answer.specs.declared.State.{State}
 use Rattle.answer.specs.declared.Settled.{Settled}
-use Rattle.iosa.specs.Model.{Comp, Model}
+use Rattle.iosa.specs.Model.{Comp}
 use Rattle.iosa.specs.Automaton.{Conforming, Joinable, AllConfluent}
 use Rattle.iosa.specs.Product.{product, stateOf, Within}
 use Rattle.iosa.specs.Settle.{Settling}

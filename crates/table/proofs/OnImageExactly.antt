@@ -9,13 +9,13 @@ use lib.ListN.{length}
 use lib.Dec.{ltb}
 use borrow.Author.Tests.{ltb-true, ltb-false, lt-ltb, le-ltb}
 use Rattle.laws.specs.Search.{when}
-use Rattle.answer.specs.Told.{Answer, refused}
+use Rattle.answer.specs.Told.{Answer}
 use Rattle.iosa.specs.Model.{Comp, Model}
 use Rattle.iosa.specs.WellFormed.{WellFormed}
 use Rattle.iosa.specs.InOrder.{Leaves, room}
 use Rattle.iosa.proofs.Answers.InOrder.{Decided, leaves-exactly, test-decided}
 use Rattle.layout.specs.Layout.{imageWords}
-use Rattle.layout.specs.Image.{Image, modelOf, noImage}
+use Rattle.layout.specs.Image.{Image, modelOf}
 use Rattle.layout.specs.Lent.{tableTooShort}
 use Rattle.layout.specs.OnImage.{Holds, OnImage, is20, of-model, bytesOf, imageBytes}
 use Rattle.layout.proofs.RowsOfRange.{image-front, well-formed}

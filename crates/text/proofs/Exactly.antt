@@ -2,13 +2,13 @@
 use mathlib.Core.Path.{_≡_, refl, sym, _∙_, ap, subst}
 use mathlib.Core.Logic.{_↔_}
 use mathlib.Core.Bool.{Bool, true, false}
-use mathlib.Core.Option.{Option, none, some}
-use mathlib.Core.List.{List, [], _∷_, _++_}
+use mathlib.Core.Option.{some}
+use mathlib.Core.List.{List, [], _∷_}
 use Prim.Native.Nat.{ℕ}
-use lib.ListN.{length, drop}
+use lib.ListN.{length}
 use lib.Dec.{ltb}
 use Rattle.laws.specs.Search.{when}
-use Rattle.answer.specs.Told.{Told, tell, Answer, answered, refused, saysWritten}
+use Rattle.answer.specs.Told.{tell, Answer, answered, refused}
 use Rattle.answer.specs.declared.Checked.{Checked}
 use Rattle.answer.specs.declared.Written.{Written}
 use Rattle.iosa.specs.Model.{Comp, Model}
@@ -22,7 +22,7 @@ use Rattle.iosa.proofs.Settling.Called.{no-answer, same-answer}
 use Rattle.iosa.proofs.Answers.InOrder.{refusedOr, check-exactly, gives-exactly, leaves-exactly, room-decided}
 use Rattle.iosa.proofs.Answers.Texts.{read-text-exactly}
 use Rattle.layout.specs.Layout.{imageWords}
-use Rattle.layout.specs.Image.{modelOf, noImage}
+use Rattle.layout.specs.Image.{modelOf}
 use Rattle.layout.specs.Lent.{tableTooShort}
 use Rattle.layout.specs.OnImage.{FillsTable, bytesOf, imageBytes}
 use Rattle.table.specs.IsImage.{isImage}

@@ -1,5 +1,5 @@
 -- Bytes at the front of a lent buffer, and their number, as one answer.
-use mathlib.Core.Path.{_≡_, refl, sym, _∙_, ap}
+use mathlib.Core.Path.{_≡_}
 use mathlib.Core.Logic.{_↔_}
 use mathlib.Core.Option.{some}
 use mathlib.Core.List.{List, _++_}

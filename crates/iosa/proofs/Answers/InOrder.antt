@@ -1,11 +1,10 @@
 -- Refusals in their order: a check that is decided, before what comes after it.
 use mathlib.Core.Path.{_≡_, refl, sym, _∙_, ap, subst}
 use mathlib.Core.Logic.{_↔_}
-use mathlib.Core.Bool.{Bool, true, false, false≢true, true≢false}
+use mathlib.Core.Bool.{Bool, true, false, true≢false}
 use mathlib.Core.Option.{Option, none, some, Option·some-inj}
-use mathlib.Core.List.{List, [], _∷_}
+use mathlib.Core.List.{[], _∷_}
 use Prim.Native.Nat.{ℕ, _≤_, _<_}
-use native.Mathlib.Omega.{arith}
 use lib.Dec.{ltb}
 use borrow.Author.Tests.{ltb-true, ltb-false, lt-ltb, le-ltb}
 use Rattle.laws.specs.Search.{when, orElse}
@@ -13,7 +12,6 @@ use Rattle.laws.proofs.SearchLaws.{no-some}
 use Rattle.answer.specs.Told.{Told, tell, Answer, answered, refused}
 use Rattle.iosa.specs.Step.{unless}
 use Rattle.iosa.specs.InOrder.{Check, _▹_, refuses, passes, Gives, gives, Leaves, needs, room}
-use Rattle.iosa.proofs.Settling.Called.{same-answer}
 
 -- o is some t exactly where k refuses with t, and nothing exactly where it passes
 pub record Decided (k : Check) (o : Option Told) : Type 0 where

@@ -1,23 +1,21 @@
 -- The step lines of a report are as many as its steps, and each is of the product's row: the lines do not end before the run does.
 use mathlib.Core.Path.{_≡_, refl, sym, _∙_, ap}
 use mathlib.Core.Logic.{_↔_}
-use mathlib.Core.Option.{Option, none, some}
+use mathlib.Core.Option.{none, some}
 use mathlib.Core.List.{List, [], _∷_, _++_}
 use Prim.Native.Nat.{ℕ, suc}
-use native.Mathlib.Omega.{arith}
 use lib.ListN.{length}
-use Rattle.answer.specs.Told.{Answer, answered, refused}
+use Rattle.answer.specs.Told.{Answer}
 use Rattle.iosa.specs.Model.{Comp}
 use Rattle.iosa.specs.WellFormed.{WellFormed}
 use Rattle.iosa.specs.Automaton.{Conforming, Joinable}
-use Rattle.iosa.specs.Product.{product, stateOf, Within}
+use Rattle.iosa.specs.Product.{product, Within}
 use Rattle.iosa.specs.Step.{Gone, urgentStep}
 use Rattle.iosa.specs.Settle.{Settling}
-use Rattle.iosa.specs.Stepped.{StepsBy}
-use Rattle.iosa.specs.Orders.{OurRun, Called}
-use Rattle.iosa.specs.InOrder.{refuses, passes, Gives, gives}
+use Rattle.iosa.specs.Orders.{OurRun}
+use Rattle.iosa.specs.InOrder.{refuses, passes, gives}
 use Rattle.iosa.specs.Answers.{SettleAnswer}
-use Rattle.iosa.specs.Report.{stepLine, stepLines, lastLine, refusedLine, answerLines}
+use Rattle.iosa.specs.Report.{stepLine, stepLines, lastLine, answerLines}
 use Rattle.iosa.specs.Printed.{lined, StepLines, no-step, step-line, RunPrinted, AnswerPrinted}
 use Rattle.iosa.proofs.Settling.Descent.{Run, stop, then}
 use Rattle.iosa.proofs.Settling.Steps.{step-is-a-row, steps-exactly}

@@ -1,9 +1,9 @@
 -- Merging, of any model that is the product's: there is one such, and it is what computes.
-use mathlib.Core.Path.{_≡_, refl, sym, _∙_, ap, subst}
+use mathlib.Core.Path.{_≡_, sym, _∙_, ap, subst}
 use mathlib.Core.Logic.{_↔_, ⊎-elim}
 use mathlib.Core.Bool.{true≢false}
-use mathlib.Core.Option.{Option, none, some}
-use mathlib.Core.List.{List, [], _∷_, List·Memᴰ as In}
+use mathlib.Core.Option.{Option, none}
+use mathlib.Core.List.{List, _∷_, List·Memᴰ as In}
 use Prim.Native.Nat.{ℕ, suc, _*_, _<_}
 use native.Mathlib.Omega.{arith}
 use lib.ListN.{length}
@@ -14,10 +14,9 @@ use Rattle.laws.proofs.SetLaws.{in-or, or-in-l, or-in-r, same-members}
 use Rattle.laws.proofs.TestLaws.{apart-cases}
 use Rattle.laws.proofs.ListLaws.{in-at, at-in, joined-length, joined-before, joined-here, joined-after, pairwise-from, pairwise-next}
 use Rattle.laws.proofs.OrderedLaws.{one-ordered-list}
-use Rattle.answer.specs.Told.{Told, Answer, answered, refused}
-use Rattle.iosa.specs.Model.{Row, Comp, Model, noRow, noComp, rowAt, compAt, guardSet, inputs, outputs, urgents, rowCount}
+use Rattle.answer.specs.Told.{Told, Answer, answered}
+use Rattle.iosa.specs.Model.{Row, Comp, Model, noRow, noComp, rowAt, compAt, guardSet, inputs, outputs, urgents}
 use Rattle.iosa.specs.WellFormed.{WellComp, WellFormed}
-use Rattle.iosa.specs.Text.{textOf}
 use Rattle.iosa.specs.Automaton.{Leads, autoOf, Conditions, Compatible, Conforming, Joinable}
 use Rattle.iosa.specs.Checks.{acceptOf}
 use Rattle.iosa.specs.Merge.{productRows, merged, mergedAt, neighbourFault, sizeFault, mergeOf}

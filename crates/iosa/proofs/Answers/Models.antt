@@ -5,7 +5,6 @@ use mathlib.Core.Bool.{not}
 use mathlib.Core.Option.{Option, none, some}
 use mathlib.Core.List.{List, [], _∷_}
 use Prim.Native.Nat.{ℕ, _≤_}
-use native.Mathlib.Omega.{arith}
 use lib.ListN.{length}
 use lib.Dec.{ltb}
 use borrow.Author.Tests.{ltb-false, le-ltb, not-false}
@@ -21,19 +20,19 @@ use Rattle.iosa.specs.Checks.{acceptOf, clashAmong, confluentOf}
 use Rattle.iosa.specs.Step.{Gone, named, lowest, urgentStep, inRange, stateFault, unless, Stepping, taken, takenBy, stepOf, stepByOf}
 use Rattle.iosa.specs.Settle.{Settling, settle, budgetFault, traceFault, play, settleOf, settleListOf}
 use Rattle.iosa.specs.Stepped.{StepsByRule, StepsByName, follows}
-use Rattle.iosa.specs.Orders.{OneEnd, Called, CalledByList}
-use Rattle.iosa.specs.InOrder.{Check, _▹_, refuses, passes, Gives, gives, needs, room, accepted, confluent}
+use Rattle.iosa.specs.Orders.{OneEnd, Called}
+use Rattle.iosa.specs.InOrder.{_▹_, refuses, passes, Gives, gives, needs, room, accepted, confluent}
 use Rattle.iosa.specs.Answers.{Fine, stateOk, AcceptAnswer, ConfluentAnswer, StepAnswer, Enabled, StepByAnswer}
 use Rattle.iosa.specs.Answers.{SettleAnswer, ListAnswer, is23, is-series, SettleListAnswer}
 use Rattle.iosa.proofs.Acceptance.Accepted.{accepted-exactly}
 use Rattle.iosa.proofs.Acceptance.Refused.{refused-exactly}
-use Rattle.iosa.proofs.Acceptance.Clashes.{decides-clashes, clash-exactly}
+use Rattle.iosa.proofs.Acceptance.Clashes.{clash-exactly}
 use Rattle.iosa.proofs.Acceptance.ConfluentExactly.{confluent-exactly}
 use Rattle.iosa.proofs.Settling.Range.{range-exactly}
 use Rattle.iosa.proofs.Settling.Steps.{row-is-a-step, steps-exactly, step-is-a-row}
 use Rattle.iosa.proofs.Settling.Demand3.{demand-3}
 use Rattle.iosa.proofs.Settling.Listed.{list-that-is-a-series, list-that-is-no-series}
-use Rattle.iosa.proofs.Settling.Called.{one-end, no-answer}
+use Rattle.iosa.proofs.Settling.Called.{one-end}
 use Rattle.iosa.proofs.Settling.StepCalled.{rule-taken, taken-rule}
 use Rattle.iosa.proofs.Answers.InOrder.{Decided, refusedOr, either, or-refused, unless-refused}
 use Rattle.iosa.proofs.Answers.InOrder.{check-exactly, gives-exactly, needs-decided, room-decided}

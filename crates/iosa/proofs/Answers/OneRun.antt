@@ -3,19 +3,18 @@ use mathlib.Core.Path.{_≡_, refl, sym, _∙_, ap}
 use mathlib.Core.Logic.{_↔_, ⊎-elim}
 use mathlib.Core.Bool.{Bool, true, false, true≢false}
 use mathlib.Core.Option.{Option, none, some}
-use mathlib.Core.List.{List, [], _∷_}
+use mathlib.Core.List.{List, _∷_}
 use Prim.Native.Nat.{ℕ, zero, suc, _≤_, _<_}
 use native.Mathlib.Omega.{arith}
 use lib.ListN.{length}
-use Rattle.laws.specs.Sets.{_∪_}
 use Rattle.laws.proofs.SearchLaws.{no-some}
 use Rattle.iosa.specs.Model.{Comp}
 use Rattle.iosa.specs.WellFormed.{WellFormed}
-use Rattle.iosa.specs.Automaton.{Automaton, UrgentRow, Conforming, Joinable, Stable}
+use Rattle.iosa.specs.Automaton.{UrgentRow, Conforming, Joinable}
 use Rattle.iosa.specs.Product.{product, stateOf, Within}
 use Rattle.iosa.specs.Step.{Gone, Went, lowest, urgentStep}
 use Rattle.iosa.specs.Settle.{Settling, resting, after, settle}
-use Rattle.iosa.specs.Orders.{GoesOn, LowestSeries, rest, take, OurRun}
+use Rattle.iosa.specs.Orders.{LowestSeries, rest, take, OurRun}
 use Rattle.iosa.proofs.Settling.Descent.{Stuck}
 use Rattle.iosa.proofs.Settling.Rule.{Bounded, LowRun, stay, low, lowest-none}
 use Rattle.iosa.proofs.Settling.Parts.{within-length}

@@ -1,16 +1,16 @@
 -- What computes is exactly each call's relation: of the timed step, and of reading a text.
-use mathlib.Core.Path.{_≡_, refl, sym, _∙_, ap, subst}
+use mathlib.Core.Path.{_≡_, sym, _∙_, ap, subst}
 use mathlib.Core.Logic.{_↔_}
-use mathlib.Core.List.{List, [], _∷_}
-use Prim.Native.Nat.{ℕ, _≤_}
+use mathlib.Core.List.{List, _∷_}
+use Prim.Native.Nat.{ℕ}
 use lib.IntN.{ℤ}
 use Rattle.laws.specs.Search.{orElse}
-use Rattle.answer.specs.Told.{Told, tell, Answer, answered, refused}
+use Rattle.answer.specs.Told.{Answer}
 use Rattle.iosa.specs.Model.{Comp, Model}
 use Rattle.iosa.specs.WellFormed.{WellFormed}
 use Rattle.iosa.specs.Checks.{acceptOf}
 use Rattle.iosa.specs.Reading.{readOf}
-use Rattle.iosa.specs.Faulty.{Reply, is-model, is-too-long, is-empty, has-fault, FaultAt}
+use Rattle.iosa.specs.Faulty.{Reply, is-model, is-too-long, is-empty, has-fault}
 use Rattle.iosa.specs.Step.{stateFault}
 use Rattle.iosa.specs.Timed.{Timing, unstableFault, valuesFault, enablingAll, timedFrom, timedOf}
 use Rattle.iosa.specs.TimedExactly.{TimedAnswer}

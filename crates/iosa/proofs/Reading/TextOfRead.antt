@@ -21,7 +21,6 @@ use Rattle.iosa.specs.WellFormed.{before, WellComp, WellFormed}
 use Rattle.iosa.specs.Reading.{Entry, comp-entry, act-entry, clk-entry, row-entry, Progress, newComp, withAct, withClk, withRow, rowOf, takeIn, readOf}
 use Rattle.iosa.specs.Line.{lineOf}
 use Rattle.iosa.specs.Faulty.{InTurn, After, Faultless, Reaches, first-line, next-line}
-use Rattle.iosa.proofs.Reading.Lines.{entry-exact}
 use Rattle.iosa.proofs.Reading.Faults.{model-read}
 use Rattle.iosa.proofs.Reading.Kinds.{FourApart, well-with-no-row}
 use Rattle.iosa.proofs.Reading.GrowActs.{act-kept, act-acts, act-text, act-well, bare-text}
