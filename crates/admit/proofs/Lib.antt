@@ -4,3 +4,4 @@ pub mod EachInTurn
 pub mod Recognised
 pub mod AfterAccept
 pub mod Together
+pub mod Answers

@@ -1,2 +1,3 @@
 pub mod Admit
 pub mod Together
+pub mod AdmitExactly

@@ -5,3 +5,4 @@ pub mod Thesis
 pub mod Reading
 pub mod Merging
 pub mod Timing
+pub mod Answers

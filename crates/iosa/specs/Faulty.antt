@@ -3,7 +3,7 @@ use mathlib.Core.Path.{_≡_}
 use mathlib.Core.Logic.{_⊎_}
 use mathlib.Core.Option.{Option, none, some}
 use mathlib.Core.Bool.{true}
-use mathlib.Core.List.{List, [], _∷_}
+use mathlib.Core.List.{List, [], _∷_, _++_}
 use Prim.Native.Nat.{ℕ, suc, _≤_, _<_}
 use lib.ListN.{length}
 use Rattle.laws.specs.Sets.{_∈_}
@@ -11,7 +11,8 @@ use Rattle.answer.specs.Limits.{maxComponents, maxRows, maxStates, maxActions, 
 use Rattle.answer.specs.Told.{tell, Answer, answered, refused}
 use Rattle.iosa.specs.Model.{Comp, Model, acts, rowCount}
 use Rattle.iosa.specs.WellFormed.{before}
-use Rattle.iosa.specs.Reading.{got, Entry, comp-entry, act-entry, clk-entry, row-entry, entry, Progress, current, atStart, turn, rowOf, takeIn}
+use Rattle.iosa.specs.Reading.{Entry, comp-entry, act-entry, clk-entry, row-entry, Progress, current, atStart, turn, rowOf, takeIn}
+use Rattle.iosa.specs.Line.{lineOf, LineFits}
 
 -- each number of a list; the clock of a guard, if it has one
 abbrev pub Each : (ℕ → Type 0) → List ℕ → Type 0
@@ -84,20 +85,26 @@ pub record Faultless (p : Progress) (e : Entry) : Type 0 where
   pub in-order : InOrder (p .last) e
   pub room : Room (p .comps) e
 
+-- ---- lines as they are printed
+-- the bytes bs begin with the line e, its numbers of 1 to 5 digits, and cs is behind it
+pub record LineAt (bs : List ℕ) (e : Entry) (cs : List ℕ) : Type 0 where
+  pub fits : LineFits e
+  pub printed : bs ≡ lineOf e ++ cs
+
 -- ---- the faults of the line at the front of the bytes bs, by their numbers
 pub data Fault (p : Progress) (bs : List ℕ) (n : ℕ) : Type 0 where
   -- 2 "line of wrong shape, or last line without LF"
-  wrong-shape : n ≡ 2 → entry bs ≡ none → Fault p bs n
+  wrong-shape : n ≡ 2 → ((e : Entry) (cs : List ℕ) → LineAt bs e cs → ⊥) → Fault p bs n
   -- 3 "line before any `comp`, or kinds out of turn"
-  out-of-turn : {e : Entry} {cs : List ℕ} → n ≡ 3 → entry bs ≡ got e cs → ¬ InTurn (p .last) e → Fault p bs n
+  out-of-turn : {e : Entry} {cs : List ℕ} → n ≡ 3 → LineAt bs e cs → ¬ InTurn (p .last) e → Fault p bs n
   -- 4 "number outside its range"
-  out-of-range : {e : Entry} {cs : List ℕ} → n ≡ 4 → entry bs ≡ got e cs → ¬ InRange (current p) e → Fault p bs n
+  out-of-range : {e : Entry} {cs : List ℕ} → n ≡ 4 → LineAt bs e cs → ¬ InRange (current p) e → Fault p bs n
   -- 5 "row names an action or clock its component lacks"
-  lacking : {e : Entry} {cs : List ℕ} → n ≡ 5 → entry bs ≡ got e cs → ¬ Named (current p) e → Fault p bs n
+  lacking : {e : Entry} {cs : List ℕ} → n ≡ 5 → LineAt bs e cs → ¬ Named (current p) e → Fault p bs n
   -- 6 "lines of one kind, or clocks in a resets field, not strictly ascending"
-  out-of-order : {e : Entry} {cs : List ℕ} → n ≡ 6 → entry bs ≡ got e cs → ¬ InOrder (p .last) e → Fault p bs n
+  out-of-order : {e : Entry} {cs : List ℕ} → n ≡ 6 → LineAt bs e cs → ¬ InOrder (p .last) e → Fault p bs n
   -- 7 "17th component or 1,025th row"
-  too-many : {e : Entry} {cs : List ℕ} → n ≡ 7 → entry bs ≡ got e cs → ¬ Room (p .comps) e → Fault p bs n
+  too-many : {e : Entry} {cs : List ℕ} → n ≡ 7 → LineAt bs e cs → ¬ Room (p .comps) e → Fault p bs n
 
 -- "within a line 2 to 7": n is the line's lowest fault
 pub record Lowest (p : Progress) (bs : List ℕ) (n : ℕ) : Type 0 where
@@ -112,7 +119,8 @@ taken p e = record { comps = takeIn (p .comps) e; last = some e }
 -- the lines of t before line k are faultless, each in its turn; p stands before line k, and the bytes bs are left
 pub data Reaches (t : List ℕ) : ℕ → Progress → List ℕ → Type 0 where
   first-line : Reaches t 1 atStart t
-  next-line : {k : ℕ} {p : Progress} {bs : List ℕ} {e : Entry} {cs : List ℕ} → Reaches t k p bs → entry bs ≡ got e cs → Faultless p e → Reaches t (suc k) (taken p e) cs
+  next-line : {k : ℕ} {p : Progress} {bs : List ℕ} {e : Entry} {cs : List ℕ} → Reaches t k p bs → LineAt bs e cs → Faultless p e
+      → Reaches t (suc k) (taken p e) cs
 
 -- t, not too long, has a line k, the lines before it are faultless, and n is its lowest fault
 pub record FaultAt (t : List ℕ) (n k : ℕ) : Type 0 where

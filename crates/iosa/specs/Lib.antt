@@ -12,6 +12,7 @@ pub mod Faults
 pub mod Greatest
 pub mod Step
 pub mod Settle
+pub mod Orders
 pub mod Demand3
 pub mod Stepped
 pub mod Timed
@@ -21,3 +22,8 @@ pub mod Examples
 pub mod LooksRight
 pub mod MergedExactly
 pub mod TimedExactly
+pub mod MergedAs
+pub mod InOrder
+pub mod Answers
+pub mod Lent
+pub mod Printed

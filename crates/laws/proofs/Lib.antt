@@ -10,3 +10,4 @@ pub mod RangeLaws
 pub mod GrowLaws
 pub mod TabLaws
 pub mod UnionLaws
+pub mod OrderedLaws

@@ -4,3 +4,4 @@ pub mod Ranges
 pub mod Laid
 pub mod Words
 pub mod Lent
+pub mod OnImage

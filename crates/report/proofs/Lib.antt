@@ -7,3 +7,4 @@ pub mod RequestExact
 pub mod Front
 pub mod NoReportIsLonger
 pub mod LongestReport
+pub mod Exactly

@@ -1,2 +1,3 @@
 pub mod Reported
 pub mod Longest
+pub mod ReportExactly

@@ -1,65 +1,77 @@
--- Demand 3 holds of whatever the promise of `settle` allows.
-use mathlib.Core.Path.{_≡_, refl, sym, _∙_, ap, subst}
-use mathlib.Core.Bool.{Bool, true, false}
-use mathlib.Core.Option.{Option, none, some, Option·some-inj}
-use mathlib.Core.List.{List, [], _∷_}
-use Prim.Native.Nat.{ℕ, _≤_}
+-- Demand 3 holds of whatever the promises of `settle` and `settle_list` allow.
+use mathlib.Core.Path.{_≡_, sym, _∙_}
+use mathlib.Core.Bool.{Bool}
+use mathlib.Core.Option.{Option, some}
+use mathlib.Core.List.{List}
+use Prim.Native.Nat.{ℕ}
 use native.Mathlib.Omega.{arith}
 use lib.ListN.{length}
 use Rattle.answer.specs.Told.{Told, Answer, answered, refused, saysVerdict}
-use Rattle.answer.specs.State.{partsOf, withParts}
+use Rattle.answer.specs.State.{partsOf}
 use Rattle.answer.specs.declared.State.{State}
 use Rattle.answer.specs.declared.Settled.{Settled}
-use Rattle.iosa.specs.Model.{Comp, Model}
-use Rattle.iosa.specs.WellFormed.{WellFormed}
-use Rattle.iosa.specs.Settle.{Settling, settleOf}
-use Rattle.iosa.specs.Demand3.{Called}
-use Rattle.iosa.proofs.Settling.Called.{demand-3-of-the-call}
-use Rattle.layout.specs.Image.{Image, modelOf, noImage}
-use Rattle.layout.proofs.RowsOfRange.{well-formed}
-use Rattle.settling.specs.Gives.{SettleAnswers, SettlingGives, traced}
-use Rattle.table.specs.IsImage.{isImage}
-use Rattle.table.specs.OnTable.{onTable}
-use Rattle.table.proofs.OnTableLaws.{on-image, on-no-image}
-use Rattle.table.proofs.ImageExactly.{image-exactly}
-use Rattle.run.specs.Calls.{SettleCall, settleOn, traceAfter}
-use Rattle.run.specs.Demand3.{SettledOn}
+use Rattle.iosa.specs.Settle.{Settling}
+use Rattle.iosa.specs.InOrder.{refuses, passes, gives}
+use Rattle.iosa.specs.Answers.{SettleAnswer, SettleListAnswer, is23, is-series}
+use Rattle.layout.specs.OnImage.{OnImage, is20, of-model}
+use Rattle.settling.specs.Gives.{SettleAnswers, SettlingGives}
+use Rattle.run.specs.Calls.{SettleCall, SettleListCall}
+use Rattle.run.specs.RunExactly.{SettleLeaves}
+use Rattle.run.specs.Demand3.{SettledOn, ListedOn}
+use Rattle.run.proofs.Exactly.{settle-answers-exactly, settle-list-answers-exactly}
 
--- an answer that says a verdict comes of a settling, not of a refusal
-settling-of : (v : Answer (Settling (List ℕ))) (x : State) (r : Settled) (b : Bool) → SettleAnswers v x r → saysVerdict (r .verdict) ≡ some (answered b)
-    → (d : Settling (List ℕ)) × (v ≡ answered d) × SettlingGives d x r × (d .stable ≡ b)
-settling-of (answered d) x r b g e = let s : some (answered (d .stable)) ≡ some (answered b) = sym (g .verdict) ∙ e in let q : d .stable ≡ b = cc in (d, refl, g, q)
-settling-of (refused f) x r b g e = let z : _≡_ {A = ℕ} 0 1 = cc in absurd (omega arith)
+module _ (t : List ℕ) (x : State) (r : Settled) (b : Bool) (says : saysVerdict (r .verdict) ≡ some (answered b)) where
+  -- beside a verdict there is no refusal, and the verdict is that of the settling
+  refusal : {P : Type 0} {f : Told} → SettleAnswers (refused f) x r → P
+  refusal {f = f} l =
+      let e : _≡_ {A = Option (Answer Bool)} (some (answered b)) (some (refused f)) = sym says ∙ l .0 in
+      let z : _≡_ {A = ℕ} 0 1 = cc in absurd (omega arith)
 
--- the call was made on an image
-made-on : {A : Type 0} (t : List ℕ) (f : Model → Answer A) (d : A) → onTable t f ≡ answered d → (isImage t ≡ true) × (f (modelOf t) ≡ answered d)
-made-on t f d e = go (isImage t) refl
-  where
-    go : (b : Bool) → isImage t ≡ b → (isImage t ≡ true) × (f (modelOf t) ≡ answered d)
-    go true h = (h, sym (on-image t f h) ∙ e)
-    go false h = let k = on-no-image t f h in let z : _≡_ {A = ℕ} 0 1 = cc in absurd (omega arith)
+  verdict : {d : Settling (List ℕ)} → SettlingGives d x r → d .stable ≡ b
+  verdict {d} g = let e : _≡_ {A = Option (Answer Bool)} (some (answered (d .stable))) (some (answered b)) = sym (g .verdict) ∙ says in cc
 
-pub demand-3-of-settle : (t : List ℕ) (x : State) (budget : ℕ) (old new : List ℕ) (r : Settled) → SettleCall t x budget old new r
-    → (b : Bool) → saysVerdict (r .verdict) ≡ some (answered b) → SettledOn t x budget old new r b
-demand-3-of-settle t x budget old new r call b says =
-    let s = settling-of (settleOn t x budget old) x r b (call .answer) says in
-    let m = made-on t (λ m. settleOf m (partsOf x) budget (length old)) (s .0) (s .1) in
-    let im = image-exactly t .0 (m .0) in
-    go im (s .0) (s .2) (s .3) (call .trace ∙ ap (λ v. traceAfter v old) (s .1)) (modelOf t) refl (well-formed t im) (m .1)
-  where
-    go : Image t → (d : Settling (List ℕ)) → SettlingGives d x r → d .stable ≡ b → new ≡ traced (d .trace) old → (k : Model) → modelOf t ≡ k → WellFormed k
-        → settleOf k (partsOf x) budget (length old) ≡ answered d → SettledOn t x budget old new r b
-    go im d g e tr [] is w a = absurd (omega (arith, w .some))
-    go im d g e tr (c ∷ cs) is w a = record {
-      image = im;
-      first = c;
-      others = cs;
-      model = is;
-      said = d;
-      called = demand-3-of-the-call c cs w (partsOf x) budget (length old) d a;
-      stable = e;
-      steps = g .steps;
-      resets = g .resets;
-      state = g .state;
-      trace = tr;
-    }
+  module _ (budget : ℕ) (old new : List ℕ) where
+    settled : {a : Answer (Settling (List ℕ))} → OnImage t (λ c cs. SettleAnswer c cs (partsOf x) budget (length old)) a
+        → SettleLeaves x old new r a → SettledOn t x budget old new r b
+    settled (is20 n) l = refusal (l .answer)
+    settled (of-model h (refuses q)) l = refusal (l .answer)
+    settled (of-model h (passes k (refuses q))) l = refusal (l .answer)
+    settled (of-model h (passes k (passes al (refuses q)))) l = refusal (l .answer)
+    settled (of-model h (passes k (passes al (passes w (refuses q))))) l = refusal (l .answer)
+    settled (of-model h (passes k (passes al (passes w (passes n (refuses q)))))) l = refusal (l .answer)
+    settled (of-model {c = c} {cs = cs} h (passes k (passes al (passes w (passes n (passes m (gives {x = d} g))))))) l =
+        record {
+          from = record { first = c; others = cs; holds = h; conforming = k .0; joinable = k .1; confluent = al; within = w; orders = g .orders };
+          said = d;
+          called = g;
+          stable = verdict (l .answer);
+          steps = l .answer .steps;
+          resets = l .answer .resets;
+          state = l .answer .state;
+          trace = l .trace;
+        }
+
+    pub demand-3-of-settle : SettleCall t x budget old new r → SettledOn t x budget old new r b
+    demand-3-of-settle call = let e = settle-answers-exactly t x budget old new r .0 call in settled (e .right) (e .left)
+
+  module _ (l : List ℕ) where
+    listed : {a : Answer (Settling (List ℕ))} → OnImage t (λ c cs. SettleListAnswer c cs (partsOf x) l) a → SettleAnswers a x r → ListedOn t x l r b
+    listed (is20 n) g = refusal g
+    listed (of-model h (refuses q)) g = refusal g
+    listed (of-model h (passes k (refuses q))) g = refusal g
+    listed (of-model h (passes k (passes al (refuses q)))) g = refusal g
+    listed (of-model h (passes k (passes al (passes w (refuses q))))) g = refusal g
+    listed (of-model h (passes k (passes al (passes w (passes n (is23 q)))))) g = refusal g
+    listed (of-model {c = c} {cs = cs} h (passes k (passes al (passes w (passes n (is-series {d = d} s)))))) g =
+        record {
+          from = record { first = c; others = cs; holds = h; conforming = k .0; joinable = k .1; confluent = al; within = w; orders = s .orders };
+          said = d;
+          called = s;
+          stable = verdict g;
+          steps = g .steps;
+          resets = g .resets;
+          state = g .state;
+        }
+
+    pub demand-3-of-settle-list : SettleListCall t x l r → ListedOn t x l r b
+    demand-3-of-settle-list call = let e = settle-list-answers-exactly t x l r .0 call in listed (e .right) (e .left)

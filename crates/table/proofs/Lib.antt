@@ -6,3 +6,5 @@ pub mod ImageOfTests
 pub mod TestsOfImage
 pub mod ImageExactly
 pub mod CheckedLaws
+pub mod OnImageExactly
+pub mod Recognised

@@ -1,3 +1,4 @@
 pub mod Rows
 pub mod IsImage
 pub mod OnTable
+pub mod RecogniseExactly

@@ -3,3 +3,5 @@ pub mod WriteLaws
 pub mod WriteDetermined
 pub mod ReadBack
 pub mod RoundTrip
+pub mod Filling
+pub mod Exactly

@@ -1,3 +1,4 @@
 pub mod Determined
 pub mod Called
 pub mod Exactly
+pub mod Answers

@@ -1,1 +1,2 @@
 pub mod TimedStep
+pub mod TimedStepExactly

@@ -20,7 +20,7 @@ use Rattle.iosa.proofs.Merging.Labels.{kinds-apart, merged-inputs, merg
 use Rattle.iosa.proofs.Merging.Product.{row-is-a-pair}
 use Rattle.iosa.proofs.Merging.Ascend.{Before, merged-rows-ascend}
 
-apart-without : (s t : ℕ) → Apart (s ∖ t) t
+pub apart-without : (s t : ℕ) → Apart (s ∖ t) t
 apart-without s t x h k = true≢false (sym k ∙ in-without s t x h .1)
 
 -- two parts with nothing in common, each split in two
@@ -28,16 +28,16 @@ module _ (s t u v : ℕ) (h : Apart (s ∪ t) (u ∪ v)) where
   left-part : (a b x : ℕ) → x ∈ a ∖ b → x ∈ a ∪ b
   left-part a b x m = or-in-l a b x (in-without a b x m .0)
 
-  apart-left : Apart (s ∖ t) (u ∖ v)
+  pub apart-left : Apart (s ∖ t) (u ∖ v)
   apart-left x m n = h x (left-part s t x m) (left-part u v x n)
 
-  apart-outer : Apart (s ∖ t) v
+  pub apart-outer : Apart (s ∖ t) v
   apart-outer x m n = h x (left-part s t x m) (or-in-r u v x n)
 
-  apart-inner : Apart t (u ∖ v)
+  pub apart-inner : Apart t (u ∖ v)
   apart-inner x m n = h x (or-in-r s t x m) (left-part u v x n)
 
-  apart-right : Apart t v
+  pub apart-right : Apart t v
   apart-right x m n = h x (or-in-r s t x m) (or-in-r u v x n)
 
 module _ (c d : Comp) (wc : WellComp c) (wd : WellComp d) (oc : Conditions (autoOf c)) (od : Conditions (autoOf d)) (j : Compatible (autoOf c) (autoOf d)) where

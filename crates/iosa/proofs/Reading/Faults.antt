@@ -13,13 +13,16 @@ use Rattle.answer.specs.Told.{Told, tell, Answer, answered, refused}
 use Rattle.iosa.specs.Model.{Comp, Model}
 use Rattle.iosa.specs.Reading.{Got, Entry, comp-entry, act-entry, clk-entry, row-entry, entry, Progress, atStart, turn, faultOf, rowOf, withAct, withClk, withRow, onLast, takeIn, finish, linesFrom, readOf}
 use Rattle.iosa.specs.Faulty.{InTurn, Lowest, taken, Reaches, first-line, next-line, FaultAt, Reply, is-model, is-too-long, is-empty, has-fault}
+use Rattle.iosa.proofs.Reading.Lines.{line-exactly}
 use Rattle.iosa.proofs.Reading.LowestFault.{no-fault, fault-some, fault-none, none-fault, one-lowest, fault-number, shapeless}
 use Rattle.iosa.proofs.Reading.LinesFrom.{entry-shortens, lines-end, lines-shapeless, lines-fault, lines-next}
 
 -- ---- the lines in their turn
 pub reading-goes-on : {t : List ℕ} {k : ℕ} {p : Progress} {bs : List ℕ} → Reaches t k p bs → linesFrom (length t) 1 atStart t ≡ linesFrom (length bs) k p bs
 reading-goes-on first-line = refl
-reading-goes-on (next-line {k} {p} {bs} {e} {cs} r read h) = reading-goes-on r ∙ lines-next k p e cs (length bs) (length cs) bs (omega arith) (omega arith) read (none-fault p e h)
+reading-goes-on (next-line {k} {p} {bs} {e} {cs} r read h) =
+    reading-goes-on r
+    ∙ lines-next k p e cs (length bs) (length cs) bs (omega arith) (omega arith) (line-exactly bs e cs .1 read) (none-fault p e h)
 
 -- how reading ends: behind the last line, or at the first line that has a fault
 data End (t : List ℕ) (a : Answer Model) : Type 0 where
@@ -55,7 +58,8 @@ reading-ends (suc f) {t} {k} {p} (b ∷ bs) r l = go (λ q cs r h. reading-ends 
     go ih (line-faultless g read h) =
         let s = entry-shortens (b ∷ bs) g read in
         subst (End t) (sym (lines-next k p (g .value) (g .rest) (suc f) f (b ∷ bs) l (omega arith) read h))
-        (ih (taken p (g .value)) (g .rest) (next-line r read (fault-none p (b ∷ bs) (g .value) (g .rest) read h)) (omega arith))
+        (ih (taken p (g .value)) (g .rest) (next-line r (line-exactly (b ∷ bs) (g .value) (g .rest) .0 read)
+        (fault-none p (b ∷ bs) (g .value) (g .rest) read h)) (omega arith))
 
 -- a line that has a fault is refused with its lowest
 line-refused : (k : ℕ) (p : Progress) (bs : List ℕ) (n : ℕ) → ¬ (bs ≡ []) → Lowest p bs n → linesFrom (length bs) k p bs ≡ refused (tell n (k ∷ []))

@@ -1,5 +1,6 @@
 -- Each line is scanned as it is printed, and printed as it was scanned.
 use mathlib.Core.Path.{_≡_, refl, sym, _∙_, ap, subst}
+use mathlib.Core.Logic.{_↔_}
 use mathlib.Core.Option.{Option, none, some, Option·some-inj}
 use mathlib.Core.List.{List, [], _∷_, _++_, append-assoc}
 use Prim.Native.Nat.{ℕ}
@@ -7,6 +8,7 @@ use Rattle.laws.proofs.SearchLaws.{no-some}
 use Rattle.iosa.specs.Text.{tab, lf, compWord, actWord, clkWord, rowWord, Kind, kindWord, decimal, guardField, fieldsAfter}
 use Rattle.iosa.specs.Reading.{Got, got, then, exactly, theByte, field, ended, number, guardOrDash, numbersOrDash, kind, guardOf, Entry, comp-entry, act-entry, clk-entry, row-entry, compEntry, actEntry, clkEntry, rowEntry, entry}
 use Rattle.iosa.specs.Line.{Fits, AllFit, GuardFits, listField, lineOf, LineFits, Ends, Any, Exact}
+use Rattle.iosa.specs.Faulty.{LineAt}
 use Rattle.iosa.proofs.Reading.Fields.{then-some, exactly-scanned, number-exact, kind-exact, guard-exact, list-exact}
 
 -- ---- a field behind a tab, and the line's end
@@ -191,3 +193,17 @@ entry-scanned bs g e = go (exactly compWord bs) refl (exactly actWord bs) refl (
 
 pub entry-exact : Exact entry lineOf LineFits Any
 entry-exact = record { printed = λ e bs h _. entry-printed e bs h; scanned = entry-scanned }
+
+-- ---- what is scanned is the line at the front
+pub line-exactly : (bs : List ℕ) (e : Entry) (cs : List ℕ) → (entry bs ≡ got e cs) ↔ LineAt bs e cs
+line-exactly bs e cs = (
+  λ h. let p = entry-exact .scanned bs (record { value = e; rest = cs }) h in record { fits = p .1; printed = p .0 },
+  λ l. ap entry (l .printed) ∙ entry-exact .printed e cs (l .fits) tt,
+)
+
+pub no-line-exactly : (bs : List ℕ) → (entry bs ≡ none) ↔ ((e : Entry) (cs : List ℕ) → LineAt bs e cs → ⊥)
+no-line-exactly bs = (λ h e cs l. no-some h (line-exactly bs e cs .1 l), λ f. go f (entry bs) refl)
+  where
+    go : ((e : Entry) (cs : List ℕ) → LineAt bs e cs → ⊥) → (o : Option (Got Entry)) → entry bs ≡ o → o ≡ none
+    go f none h = refl
+    go f (some g) h = absurd (f (g .value) (g .rest) (line-exactly bs (g .value) (g .rest) .0 h))

@@ -9,17 +9,22 @@ use Rattle.laws.specs.Search.{when, orElse}
 use Rattle.laws.proofs.SearchLaws.{no-some}
 use Rattle.laws.proofs.TestLaws.{apart-cases}
 use Rattle.iosa.specs.Reading.{Got, got, Entry, entry, Progress, current, outOfTurn, outOfRange, lacks, outOfOrder, tooMany, faultOf}
-use Rattle.iosa.specs.Faulty.{InTurn, InRange, Named, InOrder, Room, Faultless, Fault, wrong-shape, out-of-turn, out-of-range, lacking, out-of-order, too-many, Lowest}
+use Rattle.iosa.specs.Faulty.{InTurn, InRange, Named, InOrder, Room, Faultless, LineAt}
+use Rattle.iosa.specs.Faulty.{Fault, wrong-shape, out-of-turn, out-of-range, lacking, out-of-order, too-many, Lowest}
+use Rattle.iosa.proofs.Reading.Lines.{line-exactly, no-line-exactly}
 use Rattle.iosa.proofs.Reading.Tests.{turn-decided, range-decided, names-decided, order-decided, room-decided}
 
 module _ (p : Progress) (bs : List ℕ) (e : Entry) (cs : List ℕ) (read : entry bs ≡ got e cs) where
-  same-line : {d : Entry} {ds : List ℕ} → entry bs ≡ got d ds → e ≡ d
-  same-line h = ap (λ (g : Got Entry). g .value) (Option·some-inj .0 (sym read ∙ h))
+  same-line : {d : Entry} {ds : List ℕ} → LineAt bs d ds → e ≡ d
+  same-line {d} {ds} h = ap (λ (g : Got Entry). g .value) (Option·some-inj .0 (sym read ∙ line-exactly bs d ds .1 h))
+
+  here : LineAt bs e cs
+  here = line-exactly bs e cs .0 read
 
   -- a line of good shape has no fault m where what m would deny holds
   pub no-fault : (m : ℕ) → (m ≡ 3 → InTurn (p .last) e) → (m ≡ 4 → InRange (current p) e) → (m ≡ 5 → Named (current p) e) → (m ≡ 6 → InOrder (p .last) e) → (m ≡ 7 → Room (p .comps) e)
       → Fault p bs m → ⊥
-  no-fault m a b c d f (wrong-shape n h) = no-some h read
+  no-fault m a b c d f (wrong-shape n h) = h e cs here
   no-fault m a b c d f (out-of-turn n h w) = w (subst (InTurn (p .last)) (same-line h) (a n))
   no-fault m a b c d f (out-of-range n h w) = w (subst (InRange (current p)) (same-line h) (b n))
   no-fault m a b c d f (lacking n h w) = w (subst (Named (current p)) (same-line h) (c n))
@@ -51,31 +56,31 @@ module _ (p : Progress) (bs : List ℕ) (e : Entry) (cs : List ℕ) (read : entr
   lowest true b c d f ea eb ec ed ef n h =
       let z : 3 ≡ n = Option·some-inj .0 h in
       record {
-        fault = out-of-turn (sym z) read (λ w. true≢false (sym ea ∙ turn-decided (p .last) e .1 w));
+        fault = out-of-turn (sym z) here (λ w. true≢false (sym ea ∙ turn-decided (p .last) e .1 w));
         least = λ m l. no-fault m (λ q. absurd (omega arith)) (λ q. absurd (omega arith)) (λ q. absurd (omega arith)) (λ q. absurd (omega arith)) (λ q. absurd (omega arith));
       }
   lowest false true c d f ea eb ec ed ef n h =
       let z : 4 ≡ n = Option·some-inj .0 h in
       record {
-        fault = out-of-range (sym z) read (λ w. true≢false (sym eb ∙ range-decided (current p) e .1 w));
+        fault = out-of-range (sym z) here (λ w. true≢false (sym eb ∙ range-decided (current p) e .1 w));
         least = λ m l. no-fault m (λ q. turn-decided (p .last) e .0 ea) (λ q. absurd (omega arith)) (λ q. absurd (omega arith)) (λ q. absurd (omega arith)) (λ q. absurd (omega arith));
       }
   lowest false false true d f ea eb ec ed ef n h =
       let z : 5 ≡ n = Option·some-inj .0 h in
       record {
-        fault = lacking (sym z) read (λ w. true≢false (sym ec ∙ names-decided (current p) e .1 w));
+        fault = lacking (sym z) here (λ w. true≢false (sym ec ∙ names-decided (current p) e .1 w));
         least = λ m l. no-fault m (λ q. turn-decided (p .last) e .0 ea) (λ q. range-decided (current p) e .0 eb) (λ q. absurd (omega arith)) (λ q. absurd (omega arith)) (λ q. absurd (omega arith));
       }
   lowest false false false true f ea eb ec ed ef n h =
       let z : 6 ≡ n = Option·some-inj .0 h in
       record {
-        fault = out-of-order (sym z) read (λ w. true≢false (sym ed ∙ order-decided (p .last) e .1 w));
+        fault = out-of-order (sym z) here (λ w. true≢false (sym ed ∙ order-decided (p .last) e .1 w));
         least = λ m l. no-fault m (λ q. turn-decided (p .last) e .0 ea) (λ q. range-decided (current p) e .0 eb) (λ q. names-decided (current p) e .0 ec) (λ q. absurd (omega arith)) (λ q. absurd (omega arith));
       }
   lowest false false false false true ea eb ec ed ef n h =
       let z : 7 ≡ n = Option·some-inj .0 h in
       record {
-        fault = too-many (sym z) read (λ w. true≢false (sym ef ∙ room-decided (p .comps) e .1 w));
+        fault = too-many (sym z) here (λ w. true≢false (sym ef ∙ room-decided (p .comps) e .1 w));
         least = λ m l. no-fault m (λ q. turn-decided (p .last) e .0 ea) (λ q. range-decided (current p) e .0 eb) (λ q. names-decided (current p) e .0 ec) (λ q. order-decided (p .last) e .0 ed) (λ q. absurd (omega arith));
       }
   lowest false false false false false ea eb ec ed ef n h = absurd (no-some refl h)
@@ -110,4 +115,4 @@ fault-number (out-of-order e h w) = (omega arith, omega arith)
 fault-number (too-many e h w) = (omega arith, omega arith)
 
 pub shapeless : (p : Progress) (bs : List ℕ) → entry bs ≡ none → Lowest p bs 2
-shapeless p bs e = record { fault = wrong-shape refl e; least = λ m h w. omega (arith, fault-number w .0) }
+shapeless p bs e = record { fault = wrong-shape refl (no-line-exactly bs .0 e); least = λ m h w. omega (arith, fault-number w .0) }

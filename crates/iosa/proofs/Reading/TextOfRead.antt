@@ -21,7 +21,6 @@ use Rattle.iosa.specs.WellFormed.{before, WellComp, WellFormed}
 use Rattle.iosa.specs.Reading.{Entry, comp-entry, act-entry, clk-entry, row-entry, Progress, newComp, withAct, withClk, withRow, rowOf, takeIn, readOf}
 use Rattle.iosa.specs.Line.{lineOf}
 use Rattle.iosa.specs.Faulty.{InTurn, After, Faultless, Reaches, first-line, next-line}
-use Rattle.iosa.proofs.Reading.Lines.{entry-exact}
 use Rattle.iosa.proofs.Reading.Faults.{model-read}
 use Rattle.iosa.proofs.Reading.Kinds.{FourApart, well-with-no-row}
 use Rattle.iosa.proofs.Reading.GrowActs.{act-kept, act-acts, act-text, act-well, bare-text}
@@ -192,7 +191,7 @@ sound-step {t} (c ∷ m) (some d) (row-entry s g a r u) {bs} {cs} h e f =
 reaches-sound : {t : List ℕ} {k : ℕ} {p : Progress} {bs : List ℕ} → Reaches t k p bs → Sound t (p .comps) (p .last) bs
 unfolding textOf rowCount
 reaches-sound first-line = record { text = refl; many = omega arith; each = tt; rows = omega arith; last = tt }
-reaches-sound (next-line {p = p} {bs} {e} {cs} r read f) = sound-step (p .comps) (p .last) e (reaches-sound r) (entry-exact .scanned bs (record { value = e; rest = cs }) read .0) f
+reaches-sound (next-line {p = p} {bs} {e} {cs} r read f) = sound-step (p .comps) (p .last) e (reaches-sound r) (read .printed) f
 
 -- ---- the whole text
 pub text-of-read : (t : List ℕ) (m : Model) → readOf t ≡ answered m → WellFormed m × (textOf m ≡ t)

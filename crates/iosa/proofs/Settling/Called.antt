@@ -15,11 +15,12 @@ use Rattle.answer.specs.Limits.{maxBudget}
 use Rattle.answer.specs.Told.{Told, tell, Answer, answered, refused}
 use Rattle.iosa.specs.Model.{Comp, Model}
 use Rattle.iosa.specs.WellFormed.{WellFormed}
-use Rattle.iosa.specs.Product.{Within}
+use Rattle.iosa.specs.Product.{product, stateOf, Within}
 use Rattle.iosa.specs.Checks.{confluentOf}
 use Rattle.iosa.specs.Step.{urgentStep, inRange, stateFault}
 use Rattle.iosa.specs.Settle.{Settling, settle, budgetFault, traceFault, play, settleOf, settleListOf}
-use Rattle.iosa.specs.Demand3.{Called}
+use Rattle.iosa.specs.Orders.{OneEnd, Called}
+use Rattle.iosa.specs.Demand3.{Demand3}
 use Rattle.iosa.proofs.Acceptance.Accepted.{accepted-exactly}
 use Rattle.iosa.proofs.Acceptance.ConfluentExactly.{confluent-accepted}
 use Rattle.iosa.proofs.Settling.Range.{range-exactly}
@@ -55,11 +56,11 @@ state-faultless m s = (
   λ w. rw (range-exactly m s .1 w),
 )
 
-budget-faultless : (n : ℕ) → (budgetFault n ≡ none) ↔ (n ≤ maxBudget)
+pub budget-faultless : (n : ℕ) → (budgetFault n ≡ none) ↔ (n ≤ maxBudget)
 unfolding budgetFault
 budget-faultless n = (λ e. ltb-false maxBudget n (when-none (ltb maxBudget n) (tell 22 (0 ∷ [])) e), λ h. rw (le-ltb maxBudget n h))
 
-trace-faultless : (n room : ℕ) → (traceFault n room ≡ none) ↔ (n ≤ room)
+pub trace-faultless : (n room : ℕ) → (traceFault n room ≡ none) ↔ (n ≤ room)
 unfolding traceFault
 trace-faultless n room = (λ e. ltb-false room n (when-none (ltb room n) (tell 24 (n ∷ [])) e), λ h. rw (le-ltb room n h))
 
@@ -101,6 +102,14 @@ unfolding settleListOf
 settle-list-plays m s l e w h =
     not-refused (orElse (confluentOf m) (orElse (stateFault m s) (budgetFault (length l)))) (play m 0 l s) (simp (e, state-faultless m s .1 w, budget-faultless (length l) .1 h))
 
+-- demand 3 without what settling says
+pub one-end : {c : Comp} {cs : List Comp} {s : List ℕ} → Demand3 c cs s → OneEnd (product c cs) (stateOf c cs s)
+one-end t = record {
+  ends = t .ends;
+  longest = λ run st other. t .stops run st .longest other;
+  same = λ run st other st′. t .stops run st .same other st′;
+}
+
 pub demand-3-of-the-call : (c : Comp) (cs : List Comp) → WellFormed (c ∷ cs) → (s : List ℕ) (budget room : ℕ) (d : Settling (List ℕ))
     → settleOf (c ∷ cs) s budget room ≡ answered d → Called c cs s budget d
 demand-3-of-the-call c cs well s budget room d e =
@@ -108,6 +117,7 @@ demand-3-of-the-call c cs well s budget room d e =
     let k = accepted-exactly (c ∷ cs) well .0 (confluent-accepted (c ∷ cs) (p .0)) in
     let t = demand-3 c cs well (p .0) s (p .1) in
     rw (← p .4) (record {
+      orders = one-end t;
       run = our-run-is-a-series c cs well (k .0) (k .1) s (p .1) budget;
       enough = λ run st h. t .stops run st .enough budget h;
       short = λ run st h. t .stops run st .short budget h;

@@ -22,23 +22,23 @@ use Rattle.iosa.proofs.Settling.Steps.{step-is-a-row, row-is-a-step, st
 use Rattle.iosa.proofs.Settling.Called.{state-faultless, answers-exactly, not-refused, same-answer, no-answer}
 
 module _ {S : Type 0} (step : S → ℕ → Option (Gone S)) where
-  stuck-lowest : (s : S) → ((a : ℕ) → step s a ≡ none) → lowest step s ≡ none
+  pub stuck-lowest : (s : S) → ((a : ℕ) → step s a ≡ none) → lowest step s ≡ none
   unfolding lowest
   stuck-lowest s st = none-seek (λ a. named a (step s a)) 0 maxActions (λ a h k. rw (st a))
 
-  some-lowest : (s : S) (a : ℕ) (g : Gone S) → a < maxActions → step s a ≡ some g → ((b : ℕ) → b < a → step s b ≡ none) → lowest step s ≡ some (record { action = a; gone = g })
+  pub some-lowest : (s : S) (a : ℕ) (g : Gone S) → a < maxActions → step s a ≡ some g → ((b : ℕ) → b < a → step s b ≡ none) → lowest step s ≡ some (record { action = a; gone = g })
   unfolding lowest
   some-lowest s a g h e f = some-seek (λ b. named b (step s b)) 0 maxActions (record { place = a; from = omega arith; below = h; here = rw e; least = λ b p q. rw (f b q) })
 
 module _ (c : Comp) (cs : List Comp) (well : WellFormed (c ∷ cs)) (conf : Conforming (c ∷ cs)) (join : Joinable (c ∷ cs)) (s : List ℕ) (w : Within (c ∷ cs) s) where
-  rule-taken : (o : Option (Went (List ℕ))) → lowest (urgentStep (c ∷ cs)) s ≡ o → StepsByRule c cs s (taken s o)
+  pub rule-taken : (o : Option (Went (List ℕ))) → lowest (urgentStep (c ∷ cs)) s ≡ o → StepsByRule c cs s (taken s o)
   rule-taken none e = rests (stuck-stable c cs well conf join s w (lowest-none (urgentStep (c ∷ cs)) s (steps-are-bounded c cs well conf join) e))
   rule-taken (some v) e =
       let q = lowest-some (urgentStep (c ∷ cs)) s v e in
       let p = step-is-a-row c cs well conf join s w (v .action) (v .gone) (q .0) in
       moves (record { row = p .0; range = p .1 }) (λ b C Q y h r. no-some (q .1 b h) (row-is-a-step c cs well conf join s w y r .step))
 
-  taken-rule : {x : Stepping} → StepsByRule c cs s x → taken s (lowest (urgentStep (c ∷ cs)) s) ≡ x
+  pub taken-rule : {x : Stepping} → StepsByRule c cs s x → taken s (lowest (urgentStep (c ∷ cs)) s) ≡ x
   taken-rule (rests st) = ap (taken s) (stuck-lowest (urgentStep (c ∷ cs)) s (stable-stuck c cs well conf join s w st))
   taken-rule (moves {a = a} {R = R} {t = t} p f) =
       let g : Gone (List ℕ) = record { resets = R; after = t } in
@@ -46,11 +46,11 @@ module _ (c : Comp) (cs : List Comp) (well : WellFormed (c ∷ cs)) (conf : Conf
       ap (taken s) (some-lowest (urgentStep (c ∷ cs)) s a g (steps-are-bounded c cs well conf join s a g e) e
       (λ b h. no-row-no-step c cs well conf join s w b (λ C Q y r. f b C Q y h r)))
 
-  by-name : (a : ℕ) (o : Option (Gone (List ℕ))) (x : Stepping) → urgentStep (c ∷ cs) s a ≡ o → takenBy (named a o) ≡ answered x → StepsByName c cs s a x
+  pub by-name : (a : ℕ) (o : Option (Gone (List ℕ))) (x : Stepping) → urgentStep (c ∷ cs) s a ≡ o → takenBy (named a o) ≡ answered x → StepsByName c cs s a x
   by-name a none x e h = absurd (no-answer h)
   by-name a (some g) x e h = let p = step-is-a-row c cs well conf join s w a g e in rw (← same-answer h) (follows (record { row = p .0; range = p .1 }))
 
-  name-by : (a : ℕ) {x : Stepping} → StepsByName c cs s a x → takenBy (named a (urgentStep (c ∷ cs) s a)) ≡ answered x
+  pub name-by : (a : ℕ) {x : Stepping} → StepsByName c cs s a x → takenBy (named a (urgentStep (c ∷ cs) s a)) ≡ answered x
   name-by a (follows {R = R} {t = t} p) = ap (λ o. takenBy (named a o)) (steps-exactly c cs well conf join s w a (record { resets = R; after = t }) .1 (p .row, p .range))
 
 unless-exactly : {A : Type 0} (o : Option Told) (x y : A) → (unless o x ≡ answered y) ↔ (o ≡ none) × (x ≡ y)

@@ -18,6 +18,7 @@ use Rattle.iosa.specs.Checks.{acceptOf, confluentOf}
 use Rattle.iosa.specs.Reading.{readOf}
 use Rattle.iosa.specs.Step.{urgentStep, isStable}
 use Rattle.iosa.specs.Settle.{Settling, settle, play, settleOf}
+use Rattle.iosa.specs.Orders.{OneEnd, Called, Listed, CalledByList}
 use Rattle.iosa.specs.Demand3.{Demand3, SettledAs, Same, Unsettled}
 use Rattle.iosa.specs.Examples.{M, loop, bytesOf, reply}
 use Rattle.iosa.proofs.Acceptance.Accepted.{accepted-exactly}
@@ -159,6 +160,34 @@ pub orders-that-differ : (play (T₀ ∷ T₁ ∷ clashing ∷ []) 0 (0 ∷ 1 �
     × (play (T₀ ∷ T₁ ∷ clashing ∷ []) 0 (1 ∷ 0 ∷ []) (0 ∷ 0 ∷ 0 ∷ []) ≡ answered (ended 2 3 (1 ∷ 1 ∷ 2 ∷ [])))
 unfolding reply T₀ T₁ clashing
 orders-that-differ = (refl, refl)
+
+-- so demand 3 does not hold of it, and no answer of settling from there has what `Called` asks, whatever its budget
+pub differing-orders-have-no-one-end : OneEnd (product T₀ (T₁ ∷ clashing ∷ [])) (stateOf T₀ (T₁ ∷ clashing ∷ []) (0 ∷ 0 ∷ 0 ∷ [])) → ⊥
+unfolding reply T₀ T₁ clashing
+differing-orders-have-no-one-end o =
+    let e : _≡_ {A = ℕ} 2 1 = ap (λ x. x .1) (o .same (one .series) (one .stable .0 refl) (other .series) (other .stable .0 refl) .end) in omega arith
+  where
+    k : Conforming (T₀ ∷ T₁ ∷ clashing ∷ []) × Joinable (T₀ ∷ T₁ ∷ clashing ∷ [])
+    k = accepted-exactly (T₀ ∷ T₁ ∷ clashing ∷ []) clashing-well .0 (two-inputs-that-clash .1)
+
+    starts : Within (T₀ ∷ T₁ ∷ clashing ∷ []) (0 ∷ 0 ∷ 0 ∷ [])
+    starts = range-exactly (T₀ ∷ T₁ ∷ clashing ∷ []) (0 ∷ 0 ∷ 0 ∷ []) .0 refl
+
+    one : Listed T₀ (T₁ ∷ clashing ∷ []) (0 ∷ 0 ∷ 0 ∷ []) (0 ∷ 1 ∷ []) (ended 2 3 (1 ∷ 1 ∷ 1 ∷ []))
+    one =
+        list-that-is-a-series T₀ (T₁ ∷ clashing ∷ []) clashing-well (k .0) (k .1) (0 ∷ 0 ∷ 0 ∷ []) starts (0 ∷ 1 ∷ [])
+        (ended 2 3 (1 ∷ 1 ∷ 1 ∷ [])) .0 (orders-that-differ .0)
+
+    other : Listed T₀ (T₁ ∷ clashing ∷ []) (0 ∷ 0 ∷ 0 ∷ []) (1 ∷ 0 ∷ []) (ended 2 3 (1 ∷ 1 ∷ 2 ∷ []))
+    other =
+        list-that-is-a-series T₀ (T₁ ∷ clashing ∷ []) clashing-well (k .0) (k .1) (0 ∷ 0 ∷ 0 ∷ []) starts (1 ∷ 0 ∷ [])
+        (ended 2 3 (1 ∷ 1 ∷ 2 ∷ [])) .0 (orders-that-differ .1)
+
+pub differing-orders-settle-as-nothing : (budget : ℕ) (d : Settling (List ℕ)) → Called T₀ (T₁ ∷ clashing ∷ []) (0 ∷ 0 ∷ 0 ∷ []) budget d → ⊥
+differing-orders-settle-as-nothing budget d r = differing-orders-have-no-one-end (r .orders)
+
+pub differing-orders-are-listed-as-nothing : (l : List ℕ) (d : Settling (List ℕ)) → CalledByList T₀ (T₁ ∷ clashing ∷ []) (0 ∷ 0 ∷ 0 ∷ []) l d → ⊥
+differing-orders-are-listed-as-nothing l d r = differing-orders-have-no-one-end (r .orders)
 
 -- ---- where no series stops: the paper's loop, "One state, one `uout` loop"
 unfoldable pub looping : Comp

@@ -1,0 +1,91 @@
+-- Any two outcomes that the contract of a C function allows are equal: the words, and every lent buffer.
+use mathlib.Core.Path.{_≡_, sym, _∙_}
+use mathlib.Core.Bool.{Bool}
+use mathlib.Core.List.{List}
+use Prim.Native.Nat.{ℕ}
+use lib.IntN.{ℤ}
+use Rattle.answer.specs.Told.{Answer, doneOf}
+use Rattle.answer.specs.declared.State.{State}
+use Rattle.iosa.specs.Reading.{readOf}
+use Rattle.iosa.specs.Step.{Stepping}
+use Rattle.iosa.specs.Settle.{Settling}
+use Rattle.layout.specs.Lent.{tableAfter}
+use Rattle.table.specs.IsImage.{isImage}
+use Rattle.reading.specs.Read.{readOn}
+use Rattle.text.specs.Write.{writeOn, textAfter}
+use Rattle.merge.specs.Merging.{mergeOn}
+use Rattle.report.specs.Reported.{lengthTold, reportIn}
+use Rattle.run.specs.Calls.{stepOn, stepByOn, settleOn, settleListOn, traceAfter}
+use Rattle.words.specs.Words.{checkedWords, writtenWords}
+use Rattle.words.specs.Bytes.{stateOf}
+use Rattle.floodneedle.specs.Told.{acceptOn, confluentOn, timedOn, TimingTold, StepTold, AdvanceTold, SettlingTold}
+
+-- one value for two that are it
+one : {A : Type 0} {x y z : A} → x ≡ z → y ≡ z → x ≡ y
+one e f = e ∙ sym f
+
+step-told : (v : Answer Stepping) (x : State) (b d p q : List ℕ) → StepTold v x b p → StepTold v x d q → (b ≡ d) × (p ≡ q)
+step-told v x b d p q g h = (one (g .state) (h .state), one (g .words) (h .words))
+
+settling-told : (v : Answer (Settling (List ℕ))) (x : State) (b d p q : List ℕ) → SettlingTold v x b p → SettlingTold v x d q → (b ≡ d) × (p ≡ q)
+settling-told v x b d p q g h = (one (g .state) (h .state), one (g .words) (h .words))
+
+-- the answer's words p and q, the bytes or words b and d that a buffer holds after the call
+module _ (t : List ℕ) (p q b d : List ℕ) where
+  pub floodneedle_recognise-determined : (r s : Bool) → r ≡ isImage t → s ≡ isImage t → r ≡ s
+  floodneedle_recognise-determined r s e f = one e f
+
+  pub floodneedle_check_text-determined : p ≡ checkedWords (doneOf (readOf t)) → q ≡ checkedWords (doneOf (readOf t)) → p ≡ q
+  floodneedle_check_text-determined e f = one e f
+
+  pub floodneedle_accept-determined : p ≡ checkedWords (acceptOn t) → q ≡ checkedWords (acceptOn t) → p ≡ q
+  floodneedle_accept-determined e f = one e f
+
+  pub floodneedle_confluent-determined : p ≡ checkedWords (confluentOn t) → q ≡ checkedWords (confluentOn t) → p ≡ q
+  floodneedle_confluent-determined e f = one e f
+
+  module _ (old : List ℕ) where
+    pub floodneedle_read-determined : (p ≡ checkedWords (doneOf (readOn t old))) × (b ≡ tableAfter (readOn t old) old)
+        → (q ≡ checkedWords (doneOf (readOn t old))) × (d ≡ tableAfter (readOn t old) old) → (p ≡ q) × (b ≡ d)
+    floodneedle_read-determined e f = (one (e .0) (f .0), one (e .1) (f .1))
+
+    pub floodneedle_write-determined : (p ≡ writtenWords (writeOn t old)) × (b ≡ textAfter (writeOn t old) t old)
+        → (q ≡ writtenWords (writeOn t old)) × (d ≡ textAfter (writeOn t old) t old) → (p ≡ q) × (b ≡ d)
+    floodneedle_write-determined e f = (one (e .0) (f .0), one (e .1) (f .1))
+
+    pub floodneedle_report-determined : (p ≡ writtenWords (lengthTold t old)) × (b ≡ reportIn t old)
+        → (q ≡ writtenWords (lengthTold t old)) × (d ≡ reportIn t old) → (p ≡ q) × (b ≡ d)
+    floodneedle_report-determined e f = (one (e .0) (f .0), one (e .1) (f .1))
+
+    pub floodneedle_merge-determined : (i : ℕ) → (p ≡ checkedWords (doneOf (mergeOn t i old))) × (b ≡ tableAfter (mergeOn t i old) old)
+        → (q ≡ checkedWords (doneOf (mergeOn t i old))) × (d ≡ tableAfter (mergeOn t i old) old) → (p ≡ q) × (b ≡ d)
+    floodneedle_merge-determined i e f = (one (e .0) (f .0), one (e .1) (f .1))
+
+  -- s is the state that was lent
+  module _ (s : List ℕ) where
+    pub floodneedle_step-determined : StepTold (stepOn t (stateOf s)) (stateOf s) b p → StepTold (stepOn t (stateOf s)) (stateOf s) d q → (b ≡ d) × (p ≡ q)
+    floodneedle_step-determined g h = step-told (stepOn t (stateOf s)) (stateOf s) b d p q g h
+
+    pub floodneedle_step_by-determined : (a : ℕ) → StepTold (stepByOn t (stateOf s) a) (stateOf s) b p
+        → StepTold (stepByOn t (stateOf s) a) (stateOf s) d q → (b ≡ d) × (p ≡ q)
+    floodneedle_step_by-determined a g h = step-told (stepByOn t (stateOf s) a) (stateOf s) b d p q g h
+
+    pub floodneedle_advance-determined : AdvanceTold (stepOn t (stateOf s)) s b p → AdvanceTold (stepOn t (stateOf s)) s d q → (b ≡ d) × (p ≡ q)
+    floodneedle_advance-determined g h = (one (g .state) (h .state), one (g .words) (h .words))
+
+    pub floodneedle_settle_list-determined : (l : List ℕ) → SettlingTold (settleListOn t (stateOf s) l) (stateOf s) b p
+        → SettlingTold (settleListOn t (stateOf s) l) (stateOf s) d q → (b ≡ d) × (p ≡ q)
+    floodneedle_settle_list-determined l g h = settling-told (settleListOn t (stateOf s) l) (stateOf s) b d p q g h
+
+    -- u and v are the trace after the call
+    pub floodneedle_settle-determined : (budget : ℕ) (old u v : List ℕ)
+        → SettlingTold (settleOn t (stateOf s) budget old) (stateOf s) b p × (u ≡ traceAfter (settleOn t (stateOf s) budget old) old)
+        → SettlingTold (settleOn t (stateOf s) budget old) (stateOf s) d q × (v ≡ traceAfter (settleOn t (stateOf s) budget old) old)
+        → (b ≡ d) × (p ≡ q) × (u ≡ v)
+    floodneedle_settle-determined budget old u v g h =
+        let r = settling-told (settleOn t (stateOf s) budget old) (stateOf s) b d p q (g .0) (h .0) in (r .0, r .1, one (g .1) (h .1))
+
+    -- u and v are the clock values after the call
+    pub floodneedle_timed_step-determined : (was u v : List ℤ) → TimingTold (timedOn t (stateOf s) was) (stateOf s) was u b p
+        → TimingTold (timedOn t (stateOf s) was) (stateOf s) was v d q → (b ≡ d) × (p ≡ q) × (u ≡ v)
+    floodneedle_timed_step-determined was u v g h = (one (g .state) (h .state), one (g .words) (h .words), one (g .values) (h .values))

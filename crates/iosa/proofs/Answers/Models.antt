@@ -1,0 +1,208 @@
+-- What computes is exactly each call's relation: of `accept`, `confluent`, `step`, `step_by`, `settle` and `settle_list`, on any well-formed model.
+use mathlib.Core.Path.{_≡_, refl, sym, _∙_, ap, subst}
+use mathlib.Core.Logic.{_↔_}
+use mathlib.Core.Bool.{not}
+use mathlib.Core.Option.{Option, none, some}
+use mathlib.Core.List.{List, [], _∷_}
+use Prim.Native.Nat.{ℕ, _≤_}
+use lib.ListN.{length}
+use lib.Dec.{ltb}
+use borrow.Author.Tests.{ltb-false, le-ltb, not-false}
+use Rattle.laws.specs.Search.{orElse}
+use Rattle.laws.proofs.SearchLaws.{no-some}
+use Rattle.answer.specs.Limits.{maxBudget}
+use Rattle.answer.specs.Told.{Told, tell, Answer, answered, refused, moved}
+use Rattle.iosa.specs.Model.{Comp, Model}
+use Rattle.iosa.specs.WellFormed.{WellFormed}
+use Rattle.iosa.specs.Automaton.{UrgentRow, Conforming, Joinable, AllConfluent}
+use Rattle.iosa.specs.Product.{product, stateOf, Within}
+use Rattle.iosa.specs.Checks.{acceptOf, clashAmong, confluentOf}
+use Rattle.iosa.specs.Step.{Gone, named, lowest, urgentStep, inRange, stateFault, unless, Stepping, taken, takenBy, stepOf, stepByOf}
+use Rattle.iosa.specs.Settle.{Settling, settle, budgetFault, traceFault, play, settleOf, settleListOf}
+use Rattle.iosa.specs.Stepped.{StepsByRule, StepsByName, follows}
+use Rattle.iosa.specs.Orders.{OneEnd, Called}
+use Rattle.iosa.specs.InOrder.{_▹_, refuses, passes, Gives, gives, needs, room, accepted, confluent}
+use Rattle.iosa.specs.Answers.{Fine, stateOk, AcceptAnswer, ConfluentAnswer, StepAnswer, Enabled, StepByAnswer}
+use Rattle.iosa.specs.Answers.{SettleAnswer, ListAnswer, is23, is-series, SettleListAnswer}
+use Rattle.iosa.proofs.Acceptance.Accepted.{accepted-exactly}
+use Rattle.iosa.proofs.Acceptance.Refused.{refused-exactly}
+use Rattle.iosa.proofs.Acceptance.Clashes.{clash-exactly}
+use Rattle.iosa.proofs.Acceptance.ConfluentExactly.{confluent-exactly}
+use Rattle.iosa.proofs.Settling.Range.{range-exactly}
+use Rattle.iosa.proofs.Settling.Steps.{row-is-a-step, steps-exactly, step-is-a-row}
+use Rattle.iosa.proofs.Settling.Demand3.{demand-3}
+use Rattle.iosa.proofs.Settling.Listed.{list-that-is-a-series, list-that-is-no-series}
+use Rattle.iosa.proofs.Settling.Called.{one-end}
+use Rattle.iosa.proofs.Settling.StepCalled.{rule-taken, taken-rule}
+use Rattle.iosa.proofs.Answers.InOrder.{Decided, refusedOr, either, or-refused, unless-refused}
+use Rattle.iosa.proofs.Answers.InOrder.{check-exactly, gives-exactly, needs-decided, room-decided}
+use Rattle.iosa.proofs.Answers.OneRun.{our-run-exactly}
+
+-- ---- the checks are decided
+pub accepted-decided : (m : Model) → WellFormed m → Decided (accepted m) (acceptOf m)
+accepted-decided m w = record { told = refused-exactly m w; fine = accepted-exactly m w }
+
+pub confluent-decided : (m : Model) → WellFormed m → Conforming m × Joinable m → Decided (confluent m) (clashAmong 0 m)
+unfolding confluentOf
+confluent-decided m w k =
+    let ok = accepted-exactly m w .1 k in
+    record { told = λ t. rw ok at (clash-exactly m w ok t); fine = rw ok at (confluent-exactly m w ok) }
+
+pub state-decided : (c : Comp) (cs : List Comp) (s : List ℕ) → Decided (stateOk c cs s) (stateFault (c ∷ cs) s)
+unfolding stateFault
+state-decided c cs s = needs-decided 21 (Within (c ∷ cs) s) (not (inRange (c ∷ cs) s)) (
+  λ e. range-exactly (c ∷ cs) s .0 (not-false (inRange (c ∷ cs) s) e),
+  λ w. rw (range-exactly (c ∷ cs) s .1 w),
+)
+
+budget-decided : (n : ℕ) → Decided (needs 22 (n ≤ maxBudget)) (budgetFault n)
+unfolding budgetFault
+budget-decided n = needs-decided 22 (n ≤ maxBudget) (ltb maxBudget n) (ltb-false maxBudget n, le-ltb maxBudget n)
+
+trace-decided : (n bytes : ℕ) → Decided (room n bytes) (traceFault n bytes)
+unfolding traceFault
+trace-decided n bytes = room-decided n bytes
+
+abbrev done : Unit {0}
+done = tt
+
+unit-exactly : (a : Answer (Unit {0})) → (answered done ≡ a) ↔ Fine a
+unit-exactly = gives-exactly done (λ _. Unit {0}) (λ y. (λ e. tt, λ u. refl))
+
+module _ (c : Comp) (cs : List Comp) (well : WellFormed (c ∷ cs)) where
+  abbrev m : Model
+  m = c ∷ cs
+
+  pub accept-model-exactly : (a : Answer (Unit {0})) → (unless (acceptOf m) tt ≡ a) ↔ AcceptAnswer c cs a
+  accept-model-exactly a = rw (unless-refused (acceptOf m) done) (
+      check-exactly (accepted m) (acceptOf m) (accepted-decided m well) (answered done) Fine (λ p. unit-exactly) a)
+
+  pub confluent-model-exactly : (a : Answer (Unit {0})) → (unless (confluentOf m) tt ≡ a) ↔ ConfluentAnswer c cs a
+  unfolding confluentOf
+  confluent-model-exactly a = rw (unless-refused (orElse (acceptOf m) (clashAmong 0 m)) done ∙ or-refused (acceptOf m) (clashAmong 0 m) (answered done)) (
+      check-exactly (accepted m) (acceptOf m) (accepted-decided m well) (refusedOr (clashAmong 0 m) (answered done)) (confluent m ▹ Fine) (λ k.
+      check-exactly (confluent m) (clashAmong 0 m) (confluent-decided m well k) (answered done) Fine (λ p. unit-exactly)) a)
+
+  module _ (s : List ℕ) where
+    pub step-model-exactly : (a : Answer Stepping) → (stepOf m s ≡ a) ↔ StepAnswer c cs s a
+    unfolding stepOf
+    step-model-exactly a =
+        let x = taken s (lowest (urgentStep m) s) in
+        rw (unless-refused (orElse (acceptOf m) (stateFault m s)) x ∙ or-refused (acceptOf m) (stateFault m s) (answered x)) (
+        check-exactly (accepted m) (acceptOf m) (accepted-decided m well) (refusedOr (stateFault m s) (answered x))
+        (stateOk c cs s ▹ Gives (StepsByRule c cs s)) (λ k.
+        check-exactly (stateOk c cs s) (stateFault m s) (state-decided c cs s) (answered x) (Gives (StepsByRule c cs s)) (λ w.
+        gives-exactly x (StepsByRule c cs s) (λ v. (
+          λ e. subst (StepsByRule c cs s) e (rule-taken c cs well (k .0) (k .1) s w (lowest (urgentStep m) s) refl),
+          taken-rule c cs well (k .0) (k .1) s w,
+        )))) a)
+
+    -- 23, or the named step
+    module _ (k : Conforming m × Joinable m) (w : Within m s) (b : ℕ) where
+      by-named : (o : Option (Gone (List ℕ))) → urgentStep m s b ≡ o → (a : Answer Stepping)
+          → (takenBy (named b o) ≡ a) ↔ (needs 23 (Enabled c cs s b) ▹ Gives (StepsByName c cs s b)) a
+      by-named none h a = (λ e. subst (needs 23 (Enabled c cs s b) ▹ Gives (StepsByName c cs s b)) e (refuses (disabled, refl)), back)
+        where
+          disabled : Enabled c cs s b → ⊥
+          disabled e = no-some h (row-is-a-step c cs well (k .0) (k .1) s w (e .2) (e .3) .step)
+
+          back : {a : Answer Stepping} → (needs 23 (Enabled c cs s b) ▹ Gives (StepsByName c cs s b)) a → takenBy (named b none) ≡ a
+          back (refuses p) = ap refused (sym (p .1))
+          back (passes e r) = absurd (disabled e)
+      by-named (some g) h a = (λ e. subst (needs 23 (Enabled c cs s b) ▹ Gives (StepsByName c cs s b)) e (passes enabled (gives by-row)), back)
+        where
+          p : UrgentRow (product c cs) (stateOf c cs s) 0 b (g .resets) (stateOf c cs (g .after)) × Within m (g .after)
+          p = step-is-a-row c cs well (k .0) (k .1) s w b g h
+
+          by-row : StepsByName c cs s b (record { step = moved b (g .resets); state = g .after })
+          by-row = follows (record { row = p .0; range = p .1 })
+
+          enabled : Enabled c cs s b
+          enabled = (0, g .resets, stateOf c cs (g .after), p .0)
+
+          one : {v : Stepping} → StepsByName c cs s b v → takenBy (named b (some g)) ≡ answered v
+          one (follows {R = R} {t = t} q) =
+              ap (λ o. takenBy (named b o)) (sym h ∙ steps-exactly c cs well (k .0) (k .1) s w b (record { resets = R; after = t }) .1 (q .row, q .range))
+
+          back : {a : Answer Stepping} → (needs 23 (Enabled c cs s b) ▹ Gives (StepsByName c cs s b)) a → takenBy (named b (some g)) ≡ a
+          back (refuses q) = absurd (q .0 enabled)
+          back (passes e (gives q)) = one q
+
+    pub step-by-model-exactly : (b : ℕ) (a : Answer Stepping) → (stepByOf m s b ≡ a) ↔ StepByAnswer c cs s b a
+    unfolding stepByOf
+    step-by-model-exactly b a =
+        let x = takenBy (named b (urgentStep m s b)) in
+        let R = needs 23 (Enabled c cs s b) ▹ Gives (StepsByName c cs s b) in
+        rw (either (orElse (acceptOf m) (stateFault m s)) x ∙ or-refused (acceptOf m) (stateFault m s) x) (
+        check-exactly (accepted m) (acceptOf m) (accepted-decided m well) (refusedOr (stateFault m s) x) (stateOk c cs s ▹ R) (λ k.
+        check-exactly (stateOk c cs s) (stateFault m s) (state-decided c cs s) x R (λ w. by-named k w b (urgentStep m s b) refl)) a)
+
+    -- ---- settling
+    module _ (k : Conforming m × Joinable m) (al : AllConfluent m) (w : Within m s) where
+      confluent-none : confluentOf m ≡ none
+      confluent-none = confluent-exactly m well (accepted-exactly m well .1 k) .1 al
+
+      pub orders-agree : OneEnd (product c cs) (stateOf c cs s)
+      orders-agree = one-end (demand-3 c cs well confluent-none s w)
+
+      called-exactly : (budget : ℕ) (d : Settling (List ℕ)) → (settle (urgentStep m) budget s ≡ d) ↔ Called c cs s budget d
+      called-exactly budget d =
+          let t = demand-3 c cs well confluent-none s w in
+          let o = our-run-exactly c cs well (k .0) (k .1) s w budget d in (
+            λ e. record {
+              orders = orders-agree;
+              run = o .0 e;
+              enough = λ run st h. rw (← e) (t .stops run st .enough budget h);
+              short = λ run st h. rw (← e) (t .stops run st .short budget h);
+              never = λ f. rw (← e) (t .never f budget);
+            },
+            λ r. o .1 (r .run),
+          )
+
+      list-exactly : (l : List ℕ) (a : Answer (Settling (List ℕ))) → (play m 0 l s ≡ a) ↔ ListAnswer c cs s l a
+      list-exactly l a = (λ e. there (play m 0 l s) refl e, back)
+        where
+          there : (x : Answer (Settling (List ℕ))) → play m 0 l s ≡ x → {a : Answer (Settling (List ℕ))} → x ≡ a → ListAnswer c cs s l a
+          there (answered d) h e = subst (ListAnswer c cs s l) e
+              (is-series (record { orders = orders-agree; listed = list-that-is-a-series c cs well (k .0) (k .1) s w l d .0 h }))
+          there (refused t) h e =
+              let p = list-that-is-no-series c cs well (k .0) (k .1) s w l t .0 h in
+              subst (ListAnswer c cs s l) (ap refused (sym (p .1)) ∙ e) (is23 (p .2))
+
+          back : {a : Answer (Settling (List ℕ))} → ListAnswer c cs s l a → play m 0 l s ≡ a
+          back (is23 {i = i} n) = list-that-is-no-series c cs well (k .0) (k .1) s w l (tell 23 (i ∷ [])) .1 (i, refl, n)
+          back (is-series {d = d} r) = list-that-is-a-series c cs well (k .0) (k .1) s w l d .1 (r .listed)
+
+    -- what `confluent` refuses, then 21, then the call's own
+    after-21 : {A : Type 0} (p : Option Told) (x : Answer A) (R : Answer A → Type 0)
+        → (Conforming m × Joinable m → AllConfluent m → Within m s → (a : Answer A) → (refusedOr p x ≡ a) ↔ R a)
+        → (a : Answer A) → ((elim (orElse (confluentOf m) (orElse (stateFault m s) p)) as (λ _. Answer A) [ some t ↦ refused t | none ↦ x ]) ≡ a)
+        ↔ (accepted m ▹ confluent m ▹ stateOk c cs s ▹ R) a
+    unfolding confluentOf
+    after-21 p x R f a =
+        let y = refusedOr p x in
+        let z = refusedOr (stateFault m s) y in
+        let e = or-refused (orElse (acceptOf m) (clashAmong 0 m)) (orElse (stateFault m s) p) x in
+        let g = ap (refusedOr (orElse (acceptOf m) (clashAmong 0 m))) (or-refused (stateFault m s) p x) in
+        rw (either (orElse (confluentOf m) (orElse (stateFault m s) p)) x ∙ e ∙ g ∙ or-refused (acceptOf m) (clashAmong 0 m) z) (
+        check-exactly (accepted m) (acceptOf m) (accepted-decided m well) (refusedOr (clashAmong 0 m) z) (confluent m ▹ stateOk c cs s ▹ R) (λ k.
+        check-exactly (confluent m) (clashAmong 0 m) (confluent-decided m well k) z (stateOk c cs s ▹ R) (λ al.
+        check-exactly (stateOk c cs s) (stateFault m s) (state-decided c cs s) y R (λ w. f k al w))) a)
+
+    pub settle-model-exactly : (budget trace : ℕ) (a : Answer (Settling (List ℕ))) → (settleOf m s budget trace ≡ a) ↔ SettleAnswer c cs s budget trace a
+    unfolding settleOf
+    settle-model-exactly budget trace a =
+        let x : Answer (Settling (List ℕ)) = answered (settle (urgentStep m) budget s) in
+        let b = budgetFault budget in
+        let t = traceFault budget trace in
+        after-21 (orElse b t) x (needs 22 (budget ≤ maxBudget) ▹ room budget trace ▹ Gives (Called c cs s budget)) (λ k al w a. rw (or-refused b t x) (
+        check-exactly (needs 22 (budget ≤ maxBudget)) b (budget-decided budget) (refusedOr t x) (room budget trace ▹ Gives (Called c cs s budget)) (λ h.
+        check-exactly (room budget trace) t (trace-decided budget trace) x (Gives (Called c cs s budget)) (λ i.
+        gives-exactly (settle (urgentStep m) budget s) (Called c cs s budget) (called-exactly k al w budget))) a)) a
+
+    pub settle-list-model-exactly : (l : List ℕ) (a : Answer (Settling (List ℕ))) → (settleListOf m s l ≡ a) ↔ SettleListAnswer c cs s l a
+    unfolding settleListOf
+    settle-list-model-exactly l a =
+        after-21 (budgetFault (length l)) (play m 0 l s) (needs 22 (length l ≤ maxBudget) ▹ ListAnswer c cs s l) (λ k al w.
+        check-exactly (needs 22 (length l ≤ maxBudget)) (budgetFault (length l)) (budget-decided (length l)) (play m 0 l s) (ListAnswer c cs s l) (λ h.
+        list-exactly k al w l)) a

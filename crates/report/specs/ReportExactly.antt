@@ -1,0 +1,12 @@
+-- What `report` answers, said of what the program prints, and what it leaves in the lent buffer.
+use mathlib.Core.List.{List}
+use Prim.Native.Nat.{ℕ}
+use lib.ListN.{length}
+use Rattle.answer.specs.declared.Written.{Written}
+use Rattle.iosa.specs.InOrder.{_▹_, Gives, Leaves, room}
+use Rattle.iosa.specs.Lent.{Fills}
+use Rattle.iosa.specs.Printed.{Prints}
+use Rattle.steplines.specs.Run.{mostBytes}
+
+abbrev pub ReportExactly : List ℕ → List ℕ → List ℕ → Written → Type 0
+ReportExactly input old new r = Leaves (room mostBytes (length old) ▹ Gives (Prints input)) (Fills old new r)
