@@ -77,7 +77,8 @@ Bytes input_for(Random& random, const Aim& aim, const Drawn& drawn) {
 
 std::uint64_t number_for(Random& random, const Aim& aim, const Drawn& drawn, const Bytes& list) {
   const unsigned number = number_of(aim);
-  if (aim.call == &calls::merge) return number == 25 ? second::generate_index(random, drawn.model) : random.below(drawn.model.components.size());
+  if (aim.call == &calls::merge || aim.call == &calls::component)
+    return number == 25 ? second::generate_index(random, drawn.model) : random.below(drawn.model.components.size());
   if (aim.call == &calls::step_by) return number == 23 ? random.below(second::members) : drawing::action(random, list);
   if (number == 22) return second::generate_odd_budget(random);
   return number == 24 ? 1 + random.below(second::max_budget) : second::generate_budget(random);
