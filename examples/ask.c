@@ -1,0 +1,156 @@
+/* One call of the C library from the command line: it reads a model text from standard input, makes the call and prints its answer on one line.
+ * usage: ask VERB WORDS.. < MODEL
+ *   accept | confluent | start                 no words
+ *   component I | merge I                      a component's number
+ *   compatible                                 no words
+ *   step STATE | by STATE ACTION               a state is numbers joined by commas
+ *   settle STATE BUDGET | list STATE ACTIONS   actions are numbers joined by commas, or - for none
+ *   timed STATE VALUES                         the values of clocks 0, 1, .. joined by commas; the others are 0
+ *   write BYTES                                the text into a buffer of so many bytes
+ *   nothing                                    accept, on a table of zeros
+ * A refusal is printed as the program `settle` prints it. */
+#include <stdio.h>
+#include <stdlib.h>
+#include <string.h>
+#include <unistd.h>
+
+#include "floodneedle.h"
+
+enum { most = 8192 };
+
+static uint8_t text[FLOODNEEDLE_TEXT + 1];
+static uint64_t table[FLOODNEEDLE_TABLE], merged[FLOODNEEDLE_TABLE];
+static int64_t clocks[FLOODNEEDLE_CLOCKS], numbers[most];
+static uint8_t state[most], list[most], after[FLOODNEEDLE_STATE], trace[FLOODNEEDLE_BUDGET];
+static struct floodneedle_answer answer;
+
+static int usage(void) {
+  fprintf(stderr, "ask: see the first lines of examples/ask.c\n");
+  return 2;
+}
+
+/* Reads numbers joined by commas, and answers how many; `-` is none. */
+static size_t numbers_of(const char *word) {
+  size_t n = 0;
+  if (strcmp(word, "-") == 0) return 0;
+  for (char *end; n < most; word = end + 1) {
+    numbers[n++] = strtoll(word, &end, 10);
+    if (*end != ',') break;
+  }
+  return n;
+}
+
+/* The same as bytes; a number that is no byte becomes 255, which no state and no action is. */
+static size_t bytes_of(const char *word, uint8_t *to) {
+  size_t n = numbers_of(word);
+  for (size_t i = 0; i < n; ++i) to[i] = numbers[i] < 0 || numbers[i] > 255 ? 255 : (uint8_t)numbers[i];
+  return n;
+}
+
+static size_t read_text(void) {
+  size_t length = 0;
+  ssize_t got;
+  while (length < sizeof text && (got = read(0, text + length, sizeof text - length)) > 0) length += (size_t)got;
+  return length;
+}
+
+static void print_state(const uint8_t *parts, size_t n) {
+  for (size_t i = 0; i < n; ++i) printf("%s%u", i == 0 ? "\t" : ",", parts[i]);
+}
+
+static void print_set(uint64_t set) {
+  const char *before = "\t";
+  if (set == 0) printf("\t-");
+  for (unsigned x = 0; x < 64; ++x)
+    if (set >> x & 1) {
+      printf("%s%u", before, x);
+      before = ",";
+    }
+}
+
+/* The answer's line. n: how many parts the state has. */
+static void print_answer(size_t n) {
+  switch (answer.kind) {
+    case FLOODNEEDLE_REFUSED:
+      printf("refused\t%llu", (unsigned long long)answer.number);
+      for (uint64_t i = 0; i < answer.places; ++i) printf("%s%llu", i == 0 ? "\t" : ",", (unsigned long long)answer.place[i]);
+      break;
+    case FLOODNEEDLE_DONE: printf("done"); break;
+    case FLOODNEEDLE_MOVED:
+      printf("moved\t%llu", (unsigned long long)answer.action);
+      print_set(answer.resets);
+      print_state(after, n);
+      break;
+    case FLOODNEEDLE_FIRED:
+      printf("fired\t%llu\t%llu", (unsigned long long)answer.ticks, (unsigned long long)answer.action);
+      print_set(answer.resets);
+      print_state(after, n);
+      break;
+    case FLOODNEEDLE_QUIET: printf("quiet"); break;
+    default:
+      printf(answer.kind == FLOODNEEDLE_STABLE ? "stable" : "unsettled");
+      printf("\t%llu", (unsigned long long)answer.count);
+      print_set(answer.resets);
+      print_state(after, n);
+  }
+  printf("\n");
+}
+
+static int merge(uint64_t i) {
+  floodneedle_merge(table, FLOODNEEDLE_TABLE, i, merged, FLOODNEEDLE_TABLE, &answer);
+  if (answer.kind != FLOODNEEDLE_DONE) return 0;
+  floodneedle_write(merged, FLOODNEEDLE_TABLE, text, sizeof text, &answer);
+  fwrite(text, 1, (size_t)answer.count, stdout);
+  return 1;
+}
+
+static int timed(size_t n, const char *values) {
+  size_t count = numbers_of(values);
+  for (size_t x = 0; x < count && x < FLOODNEEDLE_CLOCKS; ++x) clocks[x] = numbers[x];
+  floodneedle_timed_step(table, FLOODNEEDLE_TABLE, state, n, clocks, FLOODNEEDLE_CLOCKS, after, &answer);
+  return 0;
+}
+
+/* Makes the call; answers whether its answer is printed already, or -1 where the words are no call. */
+static int call(int words, char **word, size_t *n) {
+  const char *verb = word[1];
+  if (words == 2 && strcmp(verb, "accept") == 0) return floodneedle_accept(table, FLOODNEEDLE_TABLE, &answer), 0;
+  if (words == 2 && strcmp(verb, "confluent") == 0) return floodneedle_confluent(table, FLOODNEEDLE_TABLE, &answer), 0;
+  if (words == 2 && strcmp(verb, "compatible") == 0) return floodneedle_compatible(table, FLOODNEEDLE_TABLE, &answer), 0;
+  if (words == 3 && strcmp(verb, "component") == 0)
+    return floodneedle_component(table, FLOODNEEDLE_TABLE, strtoull(word[2], 0, 10), &answer), 0;
+  if (words == 3 && strcmp(verb, "merge") == 0) return merge(strtoull(word[2], 0, 10));
+  if (words == 3 && strcmp(verb, "write") == 0) {
+    size_t room = strtoull(word[2], 0, 10);
+    return floodneedle_write(table, FLOODNEEDLE_TABLE, text, room < sizeof text ? room : sizeof text, &answer), 0;
+  }
+  if (words < 3) return -1;
+  *n = bytes_of(word[2], state);
+  if (words == 3 && strcmp(verb, "step") == 0) return floodneedle_step(table, FLOODNEEDLE_TABLE, state, *n, after, &answer), 0;
+  if (words == 4 && strcmp(verb, "by") == 0)
+    return floodneedle_step_by(table, FLOODNEEDLE_TABLE, state, *n, strtoull(word[3], 0, 10), after, &answer), 0;
+  if (words == 4 && strcmp(verb, "settle") == 0)
+    return floodneedle_settle(table, FLOODNEEDLE_TABLE, state, *n, strtoull(word[3], 0, 10), trace, sizeof trace, after, &answer), 0;
+  if (words == 4 && strcmp(verb, "list") == 0) {
+    size_t length = bytes_of(word[3], list);
+    return floodneedle_settle_list(table, FLOODNEEDLE_TABLE, state, *n, list, length, after, &answer), 0;
+  }
+  if (words == 4 && strcmp(verb, "timed") == 0) return timed(*n, word[3]);
+  return -1;
+}
+
+int main(int words, char **word) {
+  size_t n = 0;
+  int printed;
+  if (words < 2) return usage();
+  if (strcmp(word[1], "nothing") == 0) {
+    floodneedle_accept(table, FLOODNEEDLE_TABLE, &answer);
+  } else {
+    floodneedle_read(text, read_text(), table, FLOODNEEDLE_TABLE, &answer);
+    printed = answer.kind == FLOODNEEDLE_DONE ? call(words, word, &n) : 0;
+    if (printed < 0) return usage();
+    if (printed > 0) return 0;
+  }
+  print_answer(n);
+  return 0;
+}
