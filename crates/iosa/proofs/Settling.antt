@@ -19,3 +19,4 @@ pub mod Listed
 pub mod WellFormedTest
 pub mod Witness
 pub mod StepCalled
+pub mod Start

@@ -1,6 +1,7 @@
 pub mod Model
 pub mod Automaton
 pub mod Product
+pub mod Start
 pub mod Text
 pub mod WellFormed
 pub mod Reading
