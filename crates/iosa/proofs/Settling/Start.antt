@@ -62,7 +62,7 @@ module _ (c : Comp) (cs : List Comp) where
         let v = start-in-range (c ∷ cs) w in
         let s : b .state ≡ startAll (c ∷ cs) =
         state-is-one-list c cs (b .state) (startAll (c ∷ cs)) (within-length (c ∷ cs) (b .state) (h .within)) (within-length (c ∷ cs) (startAll (c ∷ cs)) v)
-            (h .state ∙ sym (start-of-the-product .0)) in
+        (h .state ∙ sym (start-of-the-product .0)) in
         let k = h .started ∙ sym (start-of-the-product .1) in
         λ i. record { state = s i; started = k i },
     λ e. rw e (record { state = start-of-the-product .0; within = start-in-range (c ∷ cs) w; started = start-of-the-product .1 }),

@@ -47,8 +47,7 @@ loop-again c =
     let l = c .before .before .before .loop in
     let s0 = c .before .before .before .before .before .before in
     let n = c .before .before .before .before .count-of .result in
-    let f = join (now (s0 .args .t)) (s0 .args .k) in
-    (
+    let f = join (now (s0 .args .t)) (s0 .args .k) in (
       omega arith,
       ap (over f (l .i + 1) n) (c .union .ensures ∙ ap (λ w. l .set ∪ w) (c .before .block-word .ensures))
           ∙ sym (over-next f (l .i) n (l .set) (search needs)) ∙ l .inv .1,
