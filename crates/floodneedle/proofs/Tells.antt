@@ -6,25 +6,48 @@ use mathlib.Core.List.{List}
 use Prim.Native.Nat.{ℕ}
 use lib.IntN.{ℤ}
 use lib.ListN.{length}
-use Rattle.answer.specs.Told.{Answer, answered, refused, Step, moved, stable, Shot, saysOutcome, saysVerdict, saysFiring}
+use Rattle.answer.specs.Told.{Answer, answered, refused, doneOf, saysChecked, Step, moved, stable, Shot, saysOutcome, saysVerdict, saysFiring}
 use Rattle.answer.specs.declared.Outcome.{Outcome}
 use Rattle.answer.specs.declared.State.{State}
 use Rattle.answer.specs.declared.Stepped.{Stepped}
 use Rattle.answer.specs.declared.Settled.{Settled}
 use Rattle.answer.specs.declared.Timed.{Timed}
+use Rattle.iosa.specs.Start.{Beginning}
 use Rattle.iosa.specs.Step.{Stepping}
 use Rattle.iosa.specs.Settle.{Settling}
 use Rattle.iosa.specs.Timed.{Timing}
 use Rattle.firing.specs.Shots.{TimingAnswers}
 use Rattle.settling.specs.Gives.{StepAnswers, SettleAnswers}
+use Rattle.outset.specs.declared.Outset.{Outset}
+use Rattle.outset.specs.Start.{startOn, startedIn, stateIn, StartCall}
 use Rattle.panel.specs.Advance.{AdvanceCall, outcomeOf, movedTo, stateAfter}
 use Rattle.panel.proofs.Lengths.{step-keeps-length}
 use Rattle.run.specs.Calls.{stepOn}
 use Rattle.words.specs.Bytes.{stateOf, laidOver}
 use Rattle.words.proofs.Laid.{laid-own, laid-with}
-use Rattle.words.specs.Words.{steppedWords, settledWords, firedWords}
-use Rattle.floodneedle.specs.Told.{StepTold, AdvanceTold, bytesMoved, bytesAfter, SettlingTold, TimingTold}
+use Rattle.words.specs.Words.{startedWords, steppedWords, settledWords, firedWords}
+use Rattle.floodneedle.specs.Told.{StartTold, StepTold, AdvanceTold, bytesMoved, bytesAfter, SettlingTold, TimingTold}
 
+-- ---- where a system begins
+begins-told : (v : Answer Beginning) (r : Outset) (w : List ℕ) → saysChecked (r .checked) ≡ some (doneOf v) → r .started ≡ startedIn v → r .state ≡ stateIn v
+    → ((a : Answer (Unit {0})) → saysChecked (r .checked) ≡ some a → w ≡ startedWords a (r .state .count) (r .started)) → StartTold v (r .state .parts) w
+unfolding stateOf
+begins-told (answered b) r w e k x h =
+    record {
+      words = h (answered tt) e ∙ ap₂ (startedWords (answered tt)) (ap (λ (y : State). y .count) x) k;
+      state = ap (λ (y : State). y .parts) x;
+    }
+begins-told (refused f) r w e k x h =
+    record {
+      words = h (refused f) e ∙ ap₂ (startedWords (refused f)) (ap (λ (y : State). y .count) x) k;
+      state = ap (λ (y : State). y .parts) x;
+    }
+
+pub start-told : (t : List ℕ) (r : Outset) (w : List ℕ) → StartCall t r
+    → ((a : Answer (Unit {0})) → saysChecked (r .checked) ≡ some a → w ≡ startedWords a (r .state .count) (r .started)) → StartTold (startOn t) (r .state .parts) w
+start-told t r w g h = begins-told (startOn t) r w (g .checked) (g .started) (g .state) h
+
+-- ---- steps
 pub step-told : (v : Answer Stepping) (x : State) (r : Stepped) (w : List ℕ) → StepAnswers v x r
     → ((a : Answer Step) → saysOutcome (r .outcome) ≡ some a → w ≡ steppedWords a) → StepTold v x (r .state .parts) w
 step-told (answered v) x r w g h = record { words = h (answered (v .step)) (g .outcome); state = ap (λ s. s .parts) (g .state) }

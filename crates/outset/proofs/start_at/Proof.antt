@@ -1,20 +1,25 @@
+-- `outset::start_at` meets its contract: where there is no component its block is zero.
+use mathlib.Core.Path.{_∙_}
+use native.Mathlib.Omega.{arith}
+use borrow.Author.Needs.{needs}
+use denote.Ref.{now}
+use Rattle.layout.proofs.ImageIsSane.{image-long}
+use Rattle.outset.proofs.Called.{start-word, start-small}
 use Rattle.outset.proofs.start_at.Statement.{statement}
 use Rattle.outset.proofs.start_at.Tie as tie
-use Rattle.outset.proofs.start_at.Reads as reads
-use Rattle.outset.proofs.start_at.Lts as lts
-use Rattle.layout.proofs.block_word.Reads as block-word-reads
 
--- src/lib.rt:27:5
 block-word-requires : tie.Need-block-word-requires
-block-word-requires c κs = ?
+block-word-requires c κs = let pre = c .before .pre in (image-long _ (pre .0), pre .1, search needs)
 
--- src/lib.rt:27:5
 cast-result : tie.Need-cast-result
-cast-result c = ?
+cast-result c =
+    let s0 = c .before .before in
+    omega (arith, c .block-word .ensures, start-small (now (s0 .args .t)) (s0 .pre .0) (s0 .args .i) (s0 .pre .1))
 
--- src/lib.rt:23:1
 returns : tie.Need-returns
-returns c = ?
+returns c =
+    let s0 = c .before .before in
+    c .block-word .ensures ∙ start-word (now (s0 .args .t)) (s0 .pre .0) (s0 .args .i) (s0 .pre .1)
 
 pub start-at-spec : {M : Type 1} → statement M
 start-at-spec = tie.close (tie.spec block-word-requires cast-result returns)

@@ -1,47 +1,61 @@
+-- `outset::start_state` meets its contract: the places passed hold the starts of the components.
+use mathlib.Core.Path.{_≡_, refl, sym, _∙_, ap}
+use mathlib.Core.List.{List}
+use Prim.Native.Nat.{ℕ, _-_, _<_, _≤_}
+use native.Mathlib.Omega.{arith}
+use borrow.Author.Needs.{needs}
+use denote.Ref.{now}
+use lib.ListN.{length, getD, length-set}
+use Rattle.answer.specs.Limits.{maxComponents}
+use Rattle.answer.specs.declared.State.{State}
+use Rattle.iosa.specs.Start.{startAll}
+use Rattle.layout.specs.Image.{modelOf}
+use Rattle.layout.proofs.ImageIsSane.{image-long}
+use Rattle.words.proofs.Filled.{filled, made}
+use Rattle.outset.proofs.Called.{as-many}
 use Rattle.outset.proofs.start_state.Statement.{statement}
 use Rattle.outset.proofs.start_state.Tie as tie
-use Rattle.outset.proofs.start_state.Reads as reads
-use Rattle.outset.proofs.start_state.Lts as lts
-use Rattle.layout.proofs.count_of.Reads as count-of-reads
-use Rattle.outset.proofs.start_at.Reads as start-at-reads
 
 abbrev Inv-loop : tie.InvT-loop
-Inv-loop t parts₀ i₀ parts i = ?
+Inv-loop t parts₀ i₀ parts i = (i ≤ maxComponents) × (length parts ≡ maxComponents) × ((k : ℕ) → k < i → getD parts k 0 ≡ getD (startAll (modelOf t)) k 0)
 
 abbrev μ-loop : tie.MeasureT-loop
-μ-loop t parts₀ i₀ parts i = ?
+μ-loop t parts₀ i₀ parts i = maxComponents - i
 
--- src/lib.rt:37:5
 loop-holds : tie.Need-loop-holds Inv-loop μ-loop
-loop-holds c = ?
+loop-holds c = (omega arith, refl, λ k l. absurd (omega arith))
 
--- src/lib.rt:38:20
 start-at-requires : tie.Need-start-at-requires Inv-loop μ-loop
-start-at-requires c κs = ?
+start-at-requires c κs = (c .before .before .before .pre, search needs)
 
--- src/lib.rt:38:9
 array-write-parts : tie.Need-array-write-parts Inv-loop μ-loop
-array-write-parts c = ?
+array-write-parts c = search needs
 
--- src/lib.rt:39:9
 add-i : tie.Need-add-i Inv-loop μ-loop
-add-i c = ?
+add-i c = omega arith
 
--- src/lib.rt:37:5
 loop-less : tie.Need-loop-less Inv-loop μ-loop
-loop-less c = ?
+loop-less c = omega arith
 
--- src/lib.rt:37:5
 loop-again : tie.Need-loop-again Inv-loop μ-loop
-loop-again c = ?
+loop-again c =
+    let at = c .before .before .loop in
+    let starts = startAll (modelOf (now (c .before .before .before .before .args .t))) in (
+      omega arith,
+      length-set (at .parts) (at .i) (c .start-at .result) ∙ at .inv .1,
+      filled starts (at .parts) (at .i) (c .start-at .result) (omega (arith, at .inv .1)) (c .start-at .ensures) (at .inv .2),
+    )
 
--- src/lib.rt:42:16
 count-of-requires : tie.Need-count-of-requires Inv-loop μ-loop
-count-of-requires c κs = ?
+count-of-requires c κs = image-long _ (c .before .before .before .pre)
 
--- src/lib.rt:31:1
 returns : tie.Need-returns Inv-loop μ-loop
-returns c = ?
+returns c =
+    let at = c .before .before .loop in
+    let s0 = c .before .before .before .before in
+    let t = now (s0 .args .t) in
+    ap (λ (n : ℕ). record { count = n; parts = at .parts }) (c .count-of .ensures ∙ sym (as-many t (s0 .pre)))
+    ∙ made (startAll (modelOf t)) (at .parts) (at .i) (at .inv .1) (omega arith) (at .inv .2)
 
 pub start-state-spec : {M : Type 1} → statement M
 start-state-spec =
