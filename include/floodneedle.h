@@ -6,18 +6,12 @@
  * is not defined here.
  *
  * The answer is always written. Where its kind is FLOODNEEDLE_REFUSED, `number` and the first `places` of `place` tell why and where
- * (enum floodneedle_refusal; docs/REFUSALS.md has each number, its place and what to do about it), every other field is 0, `after` is
- * zeros, and no other lent byte has changed.
+ * (docs/REFUSALS.md), every other field is 0, `after` is zeros, and no other lent byte has changed.
  *
- * A model is a text (docs/MODEL.md). A table is 64-bit words at the front of a buffer, which floodneedle_read makes of a text; no caller
- * need know what stands where (docs/TABLE.md says it); what lies behind the image is neither read nor changed.
+ * A model is a text (docs/MODEL.md). A table is what floodneedle_read makes of it, 64-bit words at the front of a buffer; what lies behind
+ * the image is neither read nor changed. No caller need know what stands where in it, though docs/TABLE.md says it.
  * A set of clocks or actions is one 64-bit number, bit x for member x.
  * A composed state is one byte for each component, in order; a wrong length or range is refused with 21.
- *
- * The archive is compiled for x86-64 and nothing else. Of a C library it needs memcpy and memset alone. Calls may be made from several
- * threads at once.
- * Stack: 8 KiB are enough for every call but floodneedle_report, which keeps a table of its own there and needs 4 KiB besides it
- * (docs/BENCHMARK.md has what was measured for each call).
  */
 #ifndef FLOODNEEDLE_H
 #define FLOODNEEDLE_H
@@ -29,12 +23,6 @@
 #ifdef __cplusplus
 extern "C" {
 #endif
-
-/* The version, as the file VERSION has it. MAJOR changes where a call's promise or a size does in a way that a caller must know, MINOR where
- * calls are added, PATCH else (docs/CHANGELOG.md); before 1.0.0 a new MINOR may do what a new MAJOR does. */
-#define FLOODNEEDLE_VERSION_MAJOR 0
-#define FLOODNEEDLE_VERSION_MINOR 2
-#define FLOODNEEDLE_VERSION_PATCH 0
 
 /* Sizes: words of a table, bytes of the longest text, bytes of a state, the largest budget, which is also the longest list or trace, the
  * number of clock values, and bytes of the longest report there can be. */
@@ -80,7 +68,7 @@ enum floodneedle_refusal {
   FLOODNEEDLE_TOO_MANY_STEPS = 22,       /* a budget or a list over FLOODNEEDLE_BUDGET */
   FLOODNEEDLE_NOT_ENABLED = 23,          /* an action that was named or listed is no enabled urgent output */
   FLOODNEEDLE_BUFFER_TOO_SHORT = 24,     /* the place is the number of bytes needed */
-  FLOODNEEDLE_COMPONENT_ABSENT = 25,     /* no component has this index, or to be merged the next one */
+  FLOODNEEDLE_COMPONENT_ABSENT = 25,     /* no component has this index, or none the next one in merging */
   FLOODNEEDLE_MERGED_TOO_LARGE = 26,     /* the merged model would exceed a limit */
   FLOODNEEDLE_NOT_STABLE = 27,           /* timed: an urgent output is enabled */
   FLOODNEEDLE_VALUES_MISFIT = 28,        /* timed: not FLOODNEEDLE_CLOCKS values, or one outside -2^40 to 2^40 */
@@ -90,10 +78,10 @@ enum floodneedle_refusal {
 
 struct floodneedle_answer {
   uint64_t kind;     /* an enum floodneedle_kind */
-  uint64_t number;   /* an enum floodneedle_refusal where refused, else 0 */
+  uint64_t number;   /* of the refusal, else 0 */
   uint64_t places;   /* how many values the refusal's place has, 1 to 4 */
   uint64_t place[4];
-  uint64_t count;    /* bytes written, steps taken, or components */
+  uint64_t count;    /* bytes written, or steps taken */
   uint64_t action;
   uint64_t resets;   /* a set of clocks */
   uint64_t ticks;
@@ -105,6 +93,12 @@ static_assert(sizeof(struct floodneedle_answer) == 88, "an answer is eleven 64-b
 #elif !defined(__cplusplus) && defined(__STDC_VERSION__) && __STDC_VERSION__ >= 201112L
 _Static_assert(sizeof(struct floodneedle_answer) == 88, "an answer is eleven 64-bit words");
 #endif
+
+/* The version, as the file VERSION has it. MAJOR changes where a call's promise or a size does in a way that a caller must know, MINOR where
+ * calls are added, PATCH else (docs/CHANGELOG.md); before 1.0.0 a new MINOR may do what a new MAJOR does. */
+#define FLOODNEEDLE_VERSION_MAJOR 0
+#define FLOODNEEDLE_VERSION_MINOR 2
+#define FLOODNEEDLE_VERSION_PATCH 0
 
 /* The version that was linked: major * 1,000,000 + minor * 1,000 + patch. */
 uint64_t floodneedle_version(void);

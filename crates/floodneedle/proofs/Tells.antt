@@ -6,7 +6,7 @@ use mathlib.Core.List.{List}
 use Prim.Native.Nat.{ℕ}
 use lib.IntN.{ℤ}
 use lib.ListN.{length}
-use Rattle.answer.specs.Told.{Answer, answered, refused, doneOf, saysChecked, Step, moved, stable, Shot, saysOutcome, saysVerdict, saysFiring}
+use Rattle.answer.specs.Told.{Answer, answered, refused, saysChecked, Step, moved, stable, Shot, saysOutcome, saysVerdict, saysFiring}
 use Rattle.answer.specs.declared.Outcome.{Outcome}
 use Rattle.answer.specs.declared.State.{State}
 use Rattle.answer.specs.declared.Stepped.{Stepped}
@@ -19,7 +19,7 @@ use Rattle.iosa.specs.Timed.{Timing}
 use Rattle.firing.specs.Shots.{TimingAnswers}
 use Rattle.settling.specs.Gives.{StepAnswers, SettleAnswers}
 use Rattle.outset.specs.declared.Outset.{Outset}
-use Rattle.outset.specs.Start.{startOn, startedIn, stateIn, StartCall}
+use Rattle.outset.specs.Start.{StartLeaves}
 use Rattle.panel.specs.Advance.{AdvanceCall, outcomeOf, movedTo, stateAfter}
 use Rattle.panel.proofs.Lengths.{step-keeps-length}
 use Rattle.run.specs.Calls.{stepOn}
@@ -29,23 +29,19 @@ use Rattle.words.specs.Words.{startedWords, steppedWords, settledWords, firedWo
 use Rattle.floodneedle.specs.Told.{StartTold, StepTold, AdvanceTold, bytesMoved, bytesAfter, SettlingTold, TimingTold}
 
 -- ---- where a system begins
-begins-told : (v : Answer Beginning) (r : Outset) (w : List ℕ) → saysChecked (r .checked) ≡ some (doneOf v) → r .started ≡ startedIn v → r .state ≡ stateIn v
+pub start-told : (v : Answer Beginning) (r : Outset) (w : List ℕ) → StartLeaves r v
     → ((a : Answer (Unit {0})) → saysChecked (r .checked) ≡ some a → w ≡ startedWords a (r .state .count) (r .started)) → StartTold v (r .state .parts) w
 unfolding stateOf
-begins-told (answered b) r w e k x h =
+start-told (answered b) r w g h =
     record {
-      words = h (answered tt) e ∙ ap₂ (startedWords (answered tt)) (ap (λ (y : State). y .count) x) k;
-      state = ap (λ (y : State). y .parts) x;
+      words = h (answered tt) (g .checked) ∙ ap₂ (startedWords (answered tt)) (ap (λ (y : State). y .count) (g .state)) (g .started);
+      state = ap (λ (y : State). y .parts) (g .state);
     }
-begins-told (refused f) r w e k x h =
+start-told (refused f) r w g h =
     record {
-      words = h (refused f) e ∙ ap₂ (startedWords (refused f)) (ap (λ (y : State). y .count) x) k;
-      state = ap (λ (y : State). y .parts) x;
+      words = h (refused f) (g .checked) ∙ ap₂ (startedWords (refused f)) (ap (λ (y : State). y .count) (g .state)) (g .started);
+      state = ap (λ (y : State). y .parts) (g .state);
     }
-
-pub start-told : (t : List ℕ) (r : Outset) (w : List ℕ) → StartCall t r
-    → ((a : Answer (Unit {0})) → saysChecked (r .checked) ≡ some a → w ≡ startedWords a (r .state .count) (r .started)) → StartTold (startOn t) (r .state .parts) w
-start-told t r w g h = begins-told (startOn t) r w (g .checked) (g .started) (g .state) h
 
 -- ---- steps
 pub step-told : (v : Answer Stepping) (x : State) (r : Stepped) (w : List ℕ) → StepAnswers v x r

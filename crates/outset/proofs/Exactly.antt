@@ -71,5 +71,5 @@ module _ (t : List ℕ) (r : Outset) (says : StartCall t r) where
           places = state ∙ ap stateOf (sym numbers);
         }
 
-  pub start-answers-exactly : (r .checked ≡ Fine) ↔ BeginsAs t r
-  start-answers-exactly = (λ e. let im = fine-image e in begins im (modelOf t) refl, λ b. image-fine (b .image))
+  pub start-fine-exactly : (r .checked ≡ Fine) ↔ BeginsAs t r
+  start-fine-exactly = (λ e. let im = fine-image e in begins im (modelOf t) refl, λ b. image-fine (b .image))

@@ -27,10 +27,14 @@ abbrev pub stateIn : Answer Beginning → State
 stateIn (answered b) = stateOf (b .state)
 stateIn (refused f) = noState
 
-pub record StartCall (t : List ℕ) (r : Outset) : Type 0 where
-  pub checked : saysChecked (r .checked) ≡ some (doneOf (startOn t))
-  pub started : r .started ≡ startedIn (startOn t)
-  pub state : r .state ≡ stateIn (startOn t)
+-- r says this answer, with its clocks and its state
+pub record StartLeaves (r : Outset) (a : Answer Beginning) : Type 0 where
+  pub checked : saysChecked (r .checked) ≡ some (doneOf a)
+  pub started : r .started ≡ startedIn a
+  pub state : r .state ≡ stateIn a
+
+abbrev pub StartCall : List ℕ → Outset → Type 0
+StartCall t r = StartLeaves r (startOn t)
 
 -- the table is the image of a model; its product begins in the state answered, whose places past the last component are 0, and sets the clocks answered
 pub record BeginsAs (t : List ℕ) (r : Outset) : Type 0 where
