@@ -32,15 +32,6 @@ acceptOn t = checkOn t acceptOf
 abbrev pub confluentOn : List ℕ → Answer (Unit {0})
 confluentOn t = checkOn t confluentOf
 
--- done, with the number of components and the clocks set at the start; the start state stands beside it, and zeros beside a refusal
-abbrev pub startWords : Answer Beginning → List ℕ
-startWords (answered b) = startedWords (answered tt) (length (b .state)) (b .started)
-startWords (refused t) = startedWords (refused t) 0 0
-
-pub record StartTold (v : Answer Beginning) (after told : List ℕ) : Type 0 where
-  pub words : told ≡ startWords v
-  pub state : after ≡ stateIn v .parts
-
 -- "it answers the outcome and, unless refused, the state": beside a refusal the sixteen bytes are 0
 abbrev pub stepBytes : State → Answer Stepping → List ℕ
 stepBytes x (answered v) = withParts x (v .state) .parts
@@ -97,3 +88,12 @@ pub record TimingTold (v : Answer Timing) (x : State) (was vs : List ℤ) (after
   pub words : told ≡ firedWords (shotSaid v)
   pub state : after ≡ timingBytes x v
   pub values : vs ≡ timingValues was v
+
+-- done, with the number of components and the clocks set at the start; the start state stands beside it, and zeros beside a refusal
+abbrev pub startWords : Answer Beginning → List ℕ
+startWords (answered b) = startedWords (answered tt) (length (b .state)) (b .started)
+startWords (refused t) = startedWords (refused t) 0 0
+
+pub record StartTold (v : Answer Beginning) (after told : List ℕ) : Type 0 where
+  pub words : told ≡ startWords v
+  pub state : after ≡ stateIn v .parts
