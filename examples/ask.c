@@ -1,6 +1,6 @@
 /* One call of the C library from the command line: it reads a model text from standard input, makes the call and prints its answer on one line.
  * usage: ask VERB WORDS.. < MODEL
- *   accept | confluent | start                 no words
+ *   accept | confluent | start                 no words; of the start its state and the clocks set there are told
  *   component I | merge I                      a component's number
  *   compatible                                 no words
  *   step STATE | by STATE ACTION               a state is numbers joined by commas
@@ -8,6 +8,7 @@
  *   timed STATE VALUES                         the values of clocks 0, 1, .. joined by commas; the others are 0
  *   write BYTES                                the text into a buffer of so many bytes
  *   nothing                                    accept, on a table of zeros
+ *   version                                    the version that was linked; no model is read
  * A refusal is printed as the program `settle` prints it. */
 #include <stdio.h>
 #include <stdlib.h>
@@ -68,14 +69,20 @@ static void print_set(uint64_t set) {
     }
 }
 
-/* The answer's line. n: how many parts the state has. */
+/* The answer's line. n: how many parts the state has; where done, how many the start has, and else 0. */
 static void print_answer(size_t n) {
   switch (answer.kind) {
     case FLOODNEEDLE_REFUSED:
       printf("refused\t%llu", (unsigned long long)answer.number);
       for (uint64_t i = 0; i < answer.places; ++i) printf("%s%llu", i == 0 ? "\t" : ",", (unsigned long long)answer.place[i]);
       break;
-    case FLOODNEEDLE_DONE: printf("done"); break;
+    case FLOODNEEDLE_DONE:
+      printf("done");
+      if (n > 0) {
+        print_set(answer.resets);
+        print_state(after, n);
+      }
+      break;
     case FLOODNEEDLE_MOVED:
       printf("moved\t%llu", (unsigned long long)answer.action);
       print_set(answer.resets);
@@ -115,6 +122,11 @@ static int timed(size_t n, const char *values) {
 static int call(int words, char **word, size_t *n) {
   const char *verb = word[1];
   if (words == 2 && strcmp(verb, "accept") == 0) return floodneedle_accept(table, FLOODNEEDLE_TABLE, &answer), 0;
+  if (words == 2 && strcmp(verb, "start") == 0) {
+    floodneedle_start(table, FLOODNEEDLE_TABLE, after, &answer);
+    *n = (size_t)answer.count;
+    return 0;
+  }
   if (words == 2 && strcmp(verb, "confluent") == 0) return floodneedle_confluent(table, FLOODNEEDLE_TABLE, &answer), 0;
   if (words == 2 && strcmp(verb, "compatible") == 0) return floodneedle_compatible(table, FLOODNEEDLE_TABLE, &answer), 0;
   if (words == 3 && strcmp(verb, "component") == 0)
@@ -143,6 +155,10 @@ int main(int words, char **word) {
   size_t n = 0;
   int printed;
   if (words < 2) return usage();
+  if (strcmp(word[1], "version") == 0) {
+    printf("%llu\n", (unsigned long long)floodneedle_version());
+    return 0;
+  }
   if (strcmp(word[1], "nothing") == 0) {
     floodneedle_accept(table, FLOODNEEDLE_TABLE, &answer);
   } else {

@@ -9,8 +9,6 @@
 #include "floodneedle.h"
 
 enum { budget = 100, turns = 8 };
-/* Words of a component's block in the table (docs/TABLE.md). */
-enum { blocks_at = 1, block_words = 73, start_word = 1, started_word = 7 };
 
 static uint8_t text[FLOODNEEDLE_TEXT + 1];
 static uint64_t table[FLOODNEEDLE_TABLE];
@@ -37,19 +35,19 @@ static void store_samples(uint64_t resets) {
     if (resets >> x & 1) clocks[x] = sample();
 }
 
-/* Every component in its start state, and a sample for each clock that is set there. */
-static void begin(void) {
-  parts = (size_t)table[0];
-  for (size_t c = 0; c < parts; ++c) {
-    const uint64_t *block = table + blocks_at + block_words * c;
-    state[c] = (uint8_t)block[start_word];
-    store_samples(block[started_word]);
-  }
-}
-
 static int refused(const struct floodneedle_answer *answer) {
   if (answer->kind != FLOODNEEDLE_REFUSED) return 0;
   printf("refused\t%llu at %llu\n", (unsigned long long)answer->number, (unsigned long long)answer->place[0]);
+  return 1;
+}
+
+/* Every component in its start state, and a sample for each clock that is set there. */
+static int begin(void) {
+  struct floodneedle_answer answer;
+  floodneedle_start(table, FLOODNEEDLE_TABLE, state, &answer);
+  if (refused(&answer)) return 0;
+  parts = (size_t)answer.count;
+  store_samples(answer.resets);
   return 1;
 }
 
@@ -106,8 +104,7 @@ int main(void) {
   setvbuf(stdout, printed, _IOFBF, sizeof printed);
   floodneedle_read(text, read_text(), table, FLOODNEEDLE_TABLE, &answer);
   if (refused(&answer)) return 1;
-  begin();
-  if (!check() || !confluent()) return 1;
+  if (!begin() || !check() || !confluent()) return 1;
   for (unsigned turn = 0; turn < turns; ++turn)
     if (!settle() || !timed_step()) return 1;
   return settle() ? 0 : 1;

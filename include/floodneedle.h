@@ -3,10 +3,12 @@
  * The library is compiled for x86-64 alone, with the calling convention that Linux has there. Of a C library it needs memcpy and memset.
  *
  * Every call takes any input whatever and returns. It keeps nothing between calls, allocates nothing and prints nothing. Every buffer is
- * lent by the caller, with its length behind its pointer, and no two of one call may overlap. A buffer of length 0 still needs a pointer.
+ * lent by the caller, with its length behind its pointer. A pointer may not be NULL, also where the length is 0; a length may not be more
+ * than the buffer has; and no two buffers of one call may overlap. A call cannot see whether that is so, and what it does where it is not
+ * is not defined here.
  *
  * `answer` and, where a call has it, `after` are the answer: both are always written, all of their bytes. Where the kind is
- * FLOODNEEDLE_REFUSED, `number` and the first `places` of `place` tell why and where (paper 01's table of refusal numbers), every other
+ * FLOODNEEDLE_REFUSED, `number` and the first `places` of `place` tell why and where (docs/REFUSALS.md), every other
  * field is 0, `after` is zeros, and nothing is stored to any other lent buffer. Where nothing is refused, `number`, `places` and `place` are
  * 0, and so is every field that the answer does not use.
  *
@@ -18,7 +20,8 @@
  *   recognise 240, check_text 560, read 704, write 400, accept 1888, confluent 2064, merge 2080, step 2208, advance 2320, step_by 2048,
  *   settle 2320, settle_list 2336, timed_step 2144, report 44464 (it keeps a table of its own).
  *
- * A table is 64-bit words at the front of a buffer (docs/TABLE.md); what lies behind the image is neither read nor changed.
+ * A model is a text (docs/MODEL.md). A table is what floodneedle_read makes of it, 64-bit words at the front of a buffer; what lies behind
+ * the image is neither read nor changed. No caller need know what stands where in it, though docs/TABLE.md says it.
  * A set of clocks or actions is one 64-bit number, bit x for member x.
  * A composed state is one byte for each component, in order; a wrong length or range is refused with 21.
  */
@@ -52,16 +55,65 @@ enum floodneedle_kind {
   FLOODNEEDLE_QUIET = 6
 };
 
+/* Refusal numbers. docs/REFUSALS.md has for each its place, what to do about it, and an input that earns it. */
+enum floodneedle_refusal {
+  FLOODNEEDLE_TEXT_TOO_LONG = 1,         /* over FLOODNEEDLE_TEXT bytes */
+  FLOODNEEDLE_LINE_MISSHAPEN = 2,        /* a line is not of the shape of its kind, or the last has no LF */
+  FLOODNEEDLE_LINE_OUT_OF_TURN = 3,      /* a line before the first comp, or act, clk, row not in this order */
+  FLOODNEEDLE_NUMBER_OUT_OF_RANGE = 4,   /* a number in a line is outside its range */
+  FLOODNEEDLE_NOT_DECLARED = 5,          /* a row names an action or a clock that its component did not declare */
+  FLOODNEEDLE_NOT_ASCENDING = 6,         /* lines of one kind, or clocks of a resets field, do not ascend */
+  FLOODNEEDLE_TOO_MANY = 7,              /* a component or a row too many */
+  FLOODNEEDLE_NO_COMPONENT = 8,          /* the text is empty */
+  FLOODNEEDLE_REQUEST_MISSHAPEN = 9,     /* the program's request line, which no call here answers */
+  FLOODNEEDLE_GUARD_MISFITS = 10,        /* an out row without a clock, or another row with one */
+  FLOODNEEDLE_GUARD_TWICE = 11,          /* a clock guards two rows that leave one state */
+  FLOODNEEDLE_INPUT_MISSING = 12,        /* a state has no row for an input */
+  FLOODNEEDLE_INPUT_TWICE = 13,          /* a state has two rows for one input or urgent output */
+  FLOODNEEDLE_CLOCK_NOT_SET = 14,        /* a clock may be waited for without having been set */
+  FLOODNEEDLE_OUTPUT_SHARED = 15,        /* two components output one action */
+  FLOODNEEDLE_CLOCK_SHARED = 16,         /* two components have one clock */
+  FLOODNEEDLE_URGENCY_DIFFERS = 17,      /* an action is urgent in one component and not in another */
+  FLOODNEEDLE_NOT_CONFLUENT = 18,        /* the order of two urgent actions of a component matters */
+  FLOODNEEDLE_NO_IMAGE = 20,             /* the table is not the image of a model */
+  FLOODNEEDLE_STATE_MISFITS = 21,        /* a state of wrong length or range */
+  FLOODNEEDLE_TOO_MANY_STEPS = 22,       /* a budget or a list over FLOODNEEDLE_BUDGET */
+  FLOODNEEDLE_NOT_ENABLED = 23,          /* an action that was named or listed is no enabled urgent output */
+  FLOODNEEDLE_BUFFER_TOO_SHORT = 24,     /* the place is the number of bytes needed */
+  FLOODNEEDLE_COMPONENT_ABSENT = 25,     /* no component has this index, or none the next one in merging */
+  FLOODNEEDLE_MERGED_TOO_LARGE = 26,     /* the merged model would exceed a limit */
+  FLOODNEEDLE_NOT_STABLE = 27,           /* timed: an urgent output is enabled */
+  FLOODNEEDLE_VALUES_MISFIT = 28,        /* timed: not FLOODNEEDLE_CLOCKS values, or one outside -2^40 to 2^40 */
+  FLOODNEEDLE_CLOCK_BELOW_ZERO = 29,     /* timed: an enabling clock is below zero */
+  FLOODNEEDLE_CLOCKS_TIE = 30            /* timed: two enabling clocks share the least value */
+};
+
 struct floodneedle_answer {
   uint64_t kind;     /* an enum floodneedle_kind */
   uint64_t number;   /* of the refusal, else 0 */
   uint64_t places;   /* how many values the refusal's place has, 1 to 4; 0 where nothing is refused */
   uint64_t place[4];
-  uint64_t count;    /* bytes written (write, report), or steps taken (settle, settle_list), else 0 */
+  uint64_t count;    /* bytes written (write, report), steps taken (settle, settle_list), components (start); else 0 */
   uint64_t action;   /* where moved or fired, else 0 */
-  uint64_t resets;   /* a set of clocks: where moved or fired, and of a settling; else 0 */
+  uint64_t resets;   /* a set of clocks: where moved or fired, of a settling, and those set at the start (start); else 0 */
   uint64_t ticks;    /* where fired, else 0 */
 };
+
+/* The calls write eleven words there. */
+#if defined(__cplusplus) && __cplusplus >= 201103L
+static_assert(sizeof(struct floodneedle_answer) == 88, "an answer is eleven 64-bit words");
+#elif !defined(__cplusplus) && defined(__STDC_VERSION__) && __STDC_VERSION__ >= 201112L
+_Static_assert(sizeof(struct floodneedle_answer) == 88, "an answer is eleven 64-bit words");
+#endif
+
+/* The version, as the file VERSION has it. MAJOR changes where a call's promise or a size does in a way that a caller must know, MINOR where
+ * calls are added, PATCH else (docs/CHANGELOG.md); before 1.0.0 a new MINOR may do what a new MAJOR does. */
+#define FLOODNEEDLE_VERSION_MAJOR 0
+#define FLOODNEEDLE_VERSION_MINOR 2
+#define FLOODNEEDLE_VERSION_PATCH 0
+
+/* The version that was linked: major * 1,000,000 + minor * 1,000 + patch. */
+uint64_t floodneedle_version(void);
 
 /* Whether the table's front is the image of a model. It is not exactly where any other call on it refuses with 20. */
 bool floodneedle_recognise(const uint64_t *table, size_t table_words);
@@ -77,6 +129,11 @@ void floodneedle_read(const uint8_t *text, size_t text_bytes, uint64_t *table, s
 /* Writes the one text of the table's model to the buffer's front; `count` is its length. Reading it again gives the same image.
  * Refuses: 20, 24 (bytes needed). */
 void floodneedle_write(const uint64_t *table, size_t table_words, uint8_t *text, size_t text_bytes, struct floodneedle_answer *answer);
+
+/* Where the system begins: done, `count` the number of components, `resets` the clocks set at the start, `after` the start state, whose
+ * places past the components are 0. So for every model, accepted or not.
+ * Refuses: 20. */
+void floodneedle_start(const uint64_t *table, size_t table_words, uint8_t after[FLOODNEEDLE_STATE], struct floodneedle_answer *answer);
 
 /* Done exactly where component i, counted from 0, meets (a) to (f) and the house rule by itself, whatever the other components are. Places
  * are those that accept tells: rows count over the whole model.

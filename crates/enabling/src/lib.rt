@@ -26,10 +26,5 @@ pub fn declared(t: &[u64]) -> u64
     requires { ⌜ Image (now t) ⌝ }
     ensures { λ r. ⌜ r ≡ declared (modelOf (now (t .entry))) ⌝ }
 {
-    let n = layout::count_of(t) as usize;
-    let mut set = 0u64;
-    for i in 0..n {
-        set = sets::union(set, layout::block_word(t, i, layout::CLOCKS));
-    }
-    set
+    layout::joined(t, layout::CLOCKS)
 }

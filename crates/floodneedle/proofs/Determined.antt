@@ -18,7 +18,8 @@ use Rattle.report.specs.Reported.{lengthTold, reportIn}
 use Rattle.run.specs.Calls.{stepOn, stepByOn, settleOn, settleListOn, traceAfter}
 use Rattle.words.specs.Words.{checkedWords, writtenWords}
 use Rattle.words.specs.Bytes.{stateOf}
-use Rattle.floodneedle.specs.Told.{acceptOn, confluentOn, timedOn, TimingTold, StepTold, AdvanceTold, SettlingTold}
+use Rattle.outset.specs.Start.{startOn}
+use Rattle.floodneedle.specs.Told.{componentOn, compatibleOn, acceptOn, confluentOn, timedOn, TimingTold, StartTold, StepTold, AdvanceTold, SettlingTold}
 
 -- one value for two that are it
 one : {A : Type 0} {x y z : A} → x ≡ z → y ≡ z → x ≡ y
@@ -37,6 +38,15 @@ module _ (t : List ℕ) (p q b d : List ℕ) where
 
   pub floodneedle_check_text-determined : p ≡ checkedWords (doneOf (readOf t)) → q ≡ checkedWords (doneOf (readOf t)) → p ≡ q
   floodneedle_check_text-determined e f = one e f
+
+  pub floodneedle_start-determined : StartTold (startOn t) b p → StartTold (startOn t) d q → (b ≡ d) × (p ≡ q)
+  floodneedle_start-determined e f = (one (e .state) (f .state), one (e .words) (f .words))
+
+  pub floodneedle_component-determined : (i : ℕ) → p ≡ checkedWords (componentOn t i) → q ≡ checkedWords (componentOn t i) → p ≡ q
+  floodneedle_component-determined i e f = one e f
+
+  pub floodneedle_compatible-determined : p ≡ checkedWords (compatibleOn t) → q ≡ checkedWords (compatibleOn t) → p ≡ q
+  floodneedle_compatible-determined e f = one e f
 
   pub floodneedle_accept-determined : p ≡ checkedWords (acceptOn t) → q ≡ checkedWords (acceptOn t) → p ≡ q
   floodneedle_accept-determined e f = one e f

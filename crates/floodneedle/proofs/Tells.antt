@@ -6,27 +6,46 @@ use mathlib.Core.List.{List}
 use Prim.Native.Nat.{ℕ}
 use lib.IntN.{ℤ}
 use lib.ListN.{length}
-use Rattle.answer.specs.Told.{Answer, answered, refused, Step, moved, stable, Shot, saysOutcome, saysVerdict, saysFiring}
+use Rattle.answer.specs.Told.{Answer, answered, refused, saysChecked, Step, moved, stable, Shot, saysOutcome, saysVerdict, saysFiring}
 use Rattle.answer.specs.declared.Outcome.{Outcome}
 use Rattle.answer.specs.declared.Outcome.the-variants.{Moved, Stable, Refused}
 use Rattle.answer.specs.declared.State.{State}
 use Rattle.answer.specs.declared.Stepped.{Stepped}
 use Rattle.answer.specs.declared.Settled.{Settled}
 use Rattle.answer.specs.declared.Timed.{Timed}
+use Rattle.iosa.specs.Start.{Beginning}
 use Rattle.iosa.specs.Step.{Stepping}
 use Rattle.iosa.specs.Settle.{Settling}
 use Rattle.iosa.specs.Timed.{Timing}
 use Rattle.firing.specs.Shots.{TimingAnswers}
 use Rattle.settling.specs.Gives.{StepAnswers, SettleAnswers}
+use Rattle.outset.specs.declared.Outset.{Outset}
+use Rattle.outset.specs.Start.{StartLeaves}
 use Rattle.panel.specs.Advance.{AdvanceCall, outcomeOf, movedTo, stateAfter}
 use Rattle.panel.proofs.AsStep.{state-stays-where-stable, state-stays-where-refused}
 use Rattle.panel.proofs.Lengths.{step-keeps-length}
 use Rattle.run.specs.Calls.{stepOn}
 use Rattle.words.specs.Bytes.{stateOf, laidOver, movedOver}
 use Rattle.words.proofs.Laid.{laid-own, laid-with}
-use Rattle.words.specs.Words.{steppedWords, settledWords, firedWords}
-use Rattle.floodneedle.specs.Told.{StepTold, AdvanceTold, bytesMoved, bytesAfter, SettlingTold, TimingTold}
+use Rattle.words.specs.Words.{startedWords, steppedWords, settledWords, firedWords}
+use Rattle.floodneedle.specs.Told.{StartTold, StepTold, AdvanceTold, bytesMoved, bytesAfter, SettlingTold, TimingTold}
 
+-- ---- where a system begins
+pub start-told : (v : Answer Beginning) (r : Outset) (w : List ℕ) → StartLeaves r v
+    → ((a : Answer (Unit {0})) → saysChecked (r .checked) ≡ some a → w ≡ startedWords a (r .state .count) (r .started)) → StartTold v (r .state .parts) w
+unfolding stateOf
+start-told (answered b) r w g h =
+    record {
+      words = h (answered tt) (g .checked) ∙ ap₂ (startedWords (answered tt)) (ap (λ (y : State). y .count) (g .state)) (g .started);
+      state = ap (λ (y : State). y .parts) (g .state);
+    }
+start-told (refused f) r w g h =
+    record {
+      words = h (refused f) (g .checked) ∙ ap₂ (startedWords (refused f)) (ap (λ (y : State). y .count) (g .state)) (g .started);
+      state = ap (λ (y : State). y .parts) (g .state);
+    }
+
+-- ---- steps
 pub step-told : (v : Answer Stepping) (x : State) (r : Stepped) (w : List ℕ) → StepAnswers v x r
     → ((a : Answer Step) → saysOutcome (r .outcome) ≡ some a → w ≡ steppedWords a) → StepTold v x (r .state .parts) w
 step-told (answered v) x r w g h = record { words = h (answered (v .step)) (g .outcome); state = ap (λ s. s .parts) (g .state) }

@@ -2,18 +2,21 @@
 use mathlib.Core.Path.{_≡_}
 use mathlib.Core.List.{List}
 use Prim.Native.Nat.{ℕ}
+use lib.ListN.{length}
 use Rattle.answer.specs.Limits.{noState}
 use lib.IntN.{ℤ}
 use Rattle.answer.specs.State.{partsOf, withParts}
 use Rattle.answer.specs.Told.{Answer, answered, refused, Step, moved, stable, Shot}
 use Rattle.answer.specs.declared.State.{State}
 use Rattle.iosa.specs.Checks.{componentOf, compatibleOf, acceptOf, confluentOf}
+use Rattle.iosa.specs.Start.{Beginning}
 use Rattle.iosa.specs.Step.{Stepping}
 use Rattle.iosa.specs.Settle.{Settling}
 use Rattle.iosa.specs.Timed.{Timing, timedOf}
+use Rattle.outset.specs.Start.{stateIn}
 use Rattle.panel.specs.Advance.{outcomeOf}
 use Rattle.table.specs.OnTable.{onTable, checkOn}
-use Rattle.words.specs.Words.{steppedWords, settledWords, firedWords}
+use Rattle.words.specs.Words.{startedWords, steppedWords, settledWords, firedWords}
 
 -- "one call for a component's own conditions, another for the compatibility of several" (02, 10/13)
 abbrev pub componentOn : List ℕ → ℕ → Answer (Unit {0})
@@ -85,3 +88,12 @@ pub record TimingTold (v : Answer Timing) (x : State) (was vs : List ℤ) (after
   pub words : told ≡ firedWords (shotSaid v)
   pub state : after ≡ timingBytes x v
   pub values : vs ≡ timingValues was v
+
+-- done, with the number of components and the clocks set at the start; the start state stands beside it, and zeros beside a refusal
+abbrev pub startWords : Answer Beginning → List ℕ
+startWords (answered b) = startedWords (answered tt) (length (b .state)) (b .started)
+startWords (refused t) = startedWords (refused t) 0 0
+
+pub record StartTold (v : Answer Beginning) (after told : List ℕ) : Type 0 where
+  pub words : told ≡ startWords v
+  pub state : after ≡ stateIn v .parts

@@ -5,7 +5,9 @@ use words::Words;
 ghost use mathlib.Core.Path.{_≡_};
 ghost use Rattle.answer.specs.Told.{doneOf};
 ghost use Rattle.words.specs.Words.{checkedWords, writtenWords};
+ghost use Rattle.words.specs.Version.{versionNumber};
 ghost use Rattle.layout.specs.Lent.{tableAfter};
+ghost use Rattle.outset.specs.Start.{startOn};
 ghost use Rattle.reading.specs.Read.{readOn};
 ghost use Rattle.text.specs.Write.{writeOn, textAfter};
 ghost use Rattle.merge.specs.Merging.{mergeOn};
@@ -13,8 +15,16 @@ ghost use Rattle.report.specs.Reported.{lengthTold, reportIn};
 ghost use Rattle.iosa.specs.Reading.{readOf};
 ghost use Rattle.table.specs.IsImage.{isImage};
 ghost use Rattle.words.specs.Bytes.{stateOf};
-ghost use Rattle.floodneedle.specs.Told.{componentOn, compatibleOn, acceptOn, confluentOn, timedOn, TimingTold, StepTold, AdvanceTold, SettlingTold};
+ghost use Rattle.floodneedle.specs.Told.{componentOn, compatibleOn, acceptOn, confluentOn, timedOn, StartTold, TimingTold, StepTold, AdvanceTold, SettlingTold};
 ghost use Rattle.run.specs.Calls.{stepOn, stepByOn, settleOn, settleListOn, traceAfter};
+
+// The version as one number.
+#[no_mangle]
+pub extern "C" fn floodneedle_version() -> u64
+    ensures { λ r. ⌜ r ≡ versionNumber ⌝ }
+{
+    words::version()
+}
 
 // Whether the buffer's front is the image of a model.
 #[no_mangle]
@@ -55,6 +65,24 @@ pub extern "C" fn floodneedle_write(
 {
     let written = text::write(table, text);
     *answer = words::written_words(written);
+}
+
+// Where the system of the table's model begins.
+#[no_mangle]
+pub extern "C" fn floodneedle_start(
+    table: &[u64],
+    after: &mut [u8; State::PARTS],
+    answer: &mut [u64; Words::COUNT],
+)
+    ensures { λ _. ⌜ StartTold (startOn (now (table .entry))) (now (after .exit)) (now (answer .exit)) ⌝ }
+{
+    let r = outset::start(table);
+    let checked = r.checked;
+    let state = r.state;
+    let count = state.count;
+    let parts = state.parts;
+    *after = parts;
+    *answer = words::started_words(checked, count, r.started);
 }
 
 // Whether component i of the table's model meets (a) to (f) and the house rule.

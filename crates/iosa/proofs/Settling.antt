@@ -20,3 +20,4 @@ pub mod Listed
 pub mod WellFormedTest
 pub mod Witness
 pub mod StepCalled
+pub mod Start

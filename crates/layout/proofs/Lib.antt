@@ -1,5 +1,6 @@
 pub mod Bridge
 pub mod ModelOf
+pub mod JoinedInModel
 pub mod ReadBack
 pub mod RowsAscend
 pub mod UpwardRanges

@@ -2,6 +2,8 @@
 use mathlib.Core.List.{List}
 use Prim.Native.Nat.{ℕ, suc, _+_, _*_}
 use lib.ListN.{getD}
+use Rattle.laws.specs.Sets.{_∪_}
+use Rattle.laws.specs.Fold.{over}
 use Rattle.answer.specs.Limits.{maxComponents, maxRows, maxStates}
 
 -- the words of a block before first[0]: states, start, ins, outs, uins, uouts, clocks, started
@@ -31,6 +33,10 @@ countOf t = getD t 0 0
 -- word k of the block of component i
 unfoldable pub blockWord : List ℕ → ℕ → ℕ → ℕ
 blockWord t i k = getD t (1 + blockWords * i + k) 0
+
+-- word k of every component's block, joined as sets
+unfoldable pub joinedWord : List ℕ → ℕ → ℕ
+joinedWord t k = over (λ i s. s ∪ blockWord t i k) 0 (countOf t) 0
 
 -- first[s] of component i: the number, over the system, of the first row that leaves s or a later state
 unfoldable pub firstOf : List ℕ → ℕ → ℕ → ℕ

@@ -1,4 +1,4 @@
-// The table: what stands where (docs/TABLE.md). Each function reads one word, and asks only that the table is long enough and the index in range.
+// The table: what stands where (docs/TABLE.md). Each function reads one word, or joins a few, and asks only that the table is long enough and the index in range.
 use answer::Model;
 ghost use mathlib.Core.Path.{_≡_};
 ghost use Prim.Native.Nat.{ℕ, _≤_, _<_};
@@ -6,7 +6,7 @@ ghost use lib.ListN.{length};
 ghost use Rattle.answer.specs.Limits.{maxComponents, maxStates, maxRows};
 ghost use Rattle.iosa.specs.Model.{acts};
 ghost use Rattle.layout.specs.Image.{compOf};
-ghost use Rattle.layout.specs.Layout.{blockWords, imageWords, countOf, blockWord, firstOf, actionAt, guardAt, resetsAt, targetAt};
+ghost use Rattle.layout.specs.Layout.{blockWords, imageWords, countOf, blockWord, joinedWord, firstOf, actionAt, guardAt, resetsAt, targetAt};
 
 // The words of a block before first[0].
 pub const STATES: usize = 0;
@@ -51,6 +51,19 @@ pub fn block_word(t: &[u64], i: usize, k: usize) -> u64
     ensures { λ r. ⌜ r ≡ blockWord (now (t .entry)) i k ⌝ }
 {
     t[1 + BLOCK * i + k]
+}
+
+// Word k of all blocks, joined as sets.
+pub fn joined(t: &[u64], k: usize) -> u64
+    requires { ⌜ (imageWords ≤ length (now t)) × (countOf (now t) ≤ maxComponents) × (k < blockWords) ⌝ }
+    ensures { λ r. ⌜ r ≡ joinedWord (now (t .entry)) k ⌝ }
+{
+    let n = count_of(t) as usize;
+    let mut set = 0u64;
+    for i in 0..n {
+        set = sets::union(set, block_word(t, i, k));
+    }
+    set
 }
 
 // The actions of component i.

@@ -26,6 +26,11 @@ few bs h =
     let q : i < length bs = omega (arith, l) in
     getD-take (length bs) (partsOf (places bs)) i 0 q ∙ parts-at (places bs) i (omega arith))
 
+-- where there are no more bytes than places, they are the state's numbers
+pub state-numbers : (bs : List ℕ) → length bs ≤ maxComponents → partsOf (stateOf bs) ≡ bs
+unfolding stateOf partsOf
+state-numbers bs h = parts-front (stateOf bs) (omega (arith, parts-length (places bs))) ∙ few bs h
+
 own : (bs : List ℕ) (b : Bool) → ltb maxComponents (length bs) ≡ b → take (length bs) (partsOf (places bs)) ++ drop (length (partsOf (places bs))) bs ≡ bs
 own bs false h =
     let less = ltb-false maxComponents (length bs) h in

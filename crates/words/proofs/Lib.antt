@@ -1,3 +1,4 @@
 pub mod Tells
 pub mod WordsFix
 pub mod Laid
+pub mod Filled

@@ -31,6 +31,10 @@ saidWords f (refused t) = toldWords (t .number) (t .place)
 unfoldable pub checkedWords : Answer (Unit {0}) → List ℕ
 checkedWords = saidWords (λ _. givenWords 1 0 0 0 0)
 
+-- done, with a number of components and the clocks set at the start
+unfoldable pub startedWords : Answer (Unit {0}) → ℕ → ℕ → List ℕ
+startedWords a count started = saidWords (λ _. givenWords 1 count 0 started 0) a
+
 -- done, with the number of bytes
 unfoldable pub writtenWords : Answer ℕ → List ℕ
 writtenWords = saidWords (λ n. givenWords 1 n 0 0 0)

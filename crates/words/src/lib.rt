@@ -13,8 +13,9 @@ ghost use Prim.Native.Nat.{ℕ};
 ghost use lib.ListN.{getD};
 ghost use mathlib.Core.Bool.{Bool};
 ghost use Rattle.answer.specs.Told.{Answer, Step, Shot, saysChecked, saysWritten, saysOutcome, saysVerdict, saysFiring};
-ghost use Rattle.words.specs.Words.{wordsOf, refusalWords, checkedWords, writtenWords, steppedWords, settledWords, firedWords};
+ghost use Rattle.words.specs.Words.{wordsOf, refusalWords, checkedWords, startedWords, writtenWords, steppedWords, settledWords, firedWords};
 ghost use Rattle.words.specs.Bytes.{stateOf, laidOver, movedOver};
+ghost use Rattle.words.specs.Version.{versionNumber};
 
 // The layout of an answer: how many words, and what the first of them says.
 pub struct Words {}
@@ -35,6 +36,27 @@ impl Words {
     pub const FIRED: u64 = 5;
 
     pub const QUIET: u64 = 6;
+}
+
+// The version: MAJOR changes where a call's promise does, MINOR where calls are added, PATCH where neither (docs/CHANGELOG.md).
+pub struct Release {}
+
+impl Release {
+    pub const MAJOR: u64 = 0;
+
+    pub const MINOR: u64 = 2;
+
+    pub const PATCH: u64 = 0;
+
+    // How many numbers MINOR and PATCH have each.
+    pub const EACH: u64 = 1000;
+}
+
+// The version as one number.
+pub fn version() -> u64
+    ensures { λ r. ⌜ r ≡ versionNumber ⌝ }
+{
+    (Release::MAJOR * Release::EACH + Release::MINOR) * Release::EACH + Release::PATCH
 }
 
 // A refusal's words, from its number and the values of its place.
@@ -105,8 +127,15 @@ fn refusal_words(r: Refusal) -> [u64; Words::COUNT]
 pub fn checked_words(r: Checked) -> [u64; Words::COUNT]
     ensures { λ w. ⌜ ((a : Answer (Unit {0})) → saysChecked r ≡ some a → w ≡ checkedWords a) ⌝ }
 {
+    started_words(r, 0, 0)
+}
+
+// What the start answers; its state stands beside it.
+pub fn started_words(r: Checked, count: usize, started: u64) -> [u64; Words::COUNT]
+    ensures { λ w. ⌜ ((a : Answer (Unit {0})) → saysChecked r ≡ some a → w ≡ startedWords a count started) ⌝ }
+{
     match r {
-        Checked::Fine => given(Words::DONE, 0, 0, 0, 0),
+        Checked::Fine => given(Words::DONE, count as u64, 0, started, 0),
         Checked::Refused(f) => refusal_words(f),
     }
 }
