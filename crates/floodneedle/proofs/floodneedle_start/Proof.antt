@@ -14,7 +14,7 @@ started-words-requires c κs = search needs
 returns : tie.Need-returns
 returns c =
     let args = c .before .before .before .before .before .args in
-    let call = c .before .before .start in
+    let call = c .before .before .before .start in
     start-told (startOn (args .table .now)) (call .result) (c .started-words .result) (call .ensures) (c .started-words .ensures)
 
 pub floodneedle-start-spec : {M : Type 1} → statement M
