@@ -81,8 +81,8 @@ fn read_some(fd: i32, buf: &mut [u8], from: usize) -> Moved
     Moved::Failed(EAGAIN)
 }
 
-// Reads until a buffer is full or the input ends, and answers how many bytes stand at its front, or the error that came before.
-pub fn read(fd: i32, buf: &mut [u8]) -> Moved
+// Reads until a buffer is full or the input ends.
+fn fill(fd: i32, buf: &mut [u8]) -> Moved
     ensures { λ r. ⌜ Within (length (now (buf .exit))) r ⌝ }
 {
     let mut done = 0;
@@ -98,6 +98,12 @@ pub fn read(fd: i32, buf: &mut [u8]) -> Moved
         }
     }
     Moved::Bytes(done)
+}
+
+fn less(a: usize, b: usize) -> usize
+    ensures { λ r. ⌜ r ≡ a - b ⌝ }
+{
+    if a < b { 0 } else { a - b }
 }
 
 // Reads on to the end of the input, or for so many bytes, and keeps none.
@@ -119,10 +125,20 @@ fn skip(fd: i32, most: usize) -> Moved {
     Moved::Bytes(0)
 }
 
-fn less(a: usize, b: usize) -> usize
-    ensures { λ r. ⌜ r ≡ a - b ⌝ }
+// Reads the input to its end, and answers how many of its bytes stand at the front of a buffer, or the error at which it stopped.
+// What no longer fits is read too, so that whoever sends it can end: up to BEHIND bytes, since not every input ends.
+pub fn read(fd: i32, buf: &mut [u8]) -> Moved
+    ensures { λ r. ⌜ Within (length (now (buf .exit))) r ⌝ }
 {
-    if a < b { 0 } else { a - b }
+    let front = fill(fd, buf);
+    if let Moved::Bytes(n) = front {
+        if n == buf.len() {
+            if let Moved::Failed(e) = skip(fd, BEHIND) {
+                return Moved::Failed(e);
+            }
+        }
+    }
+    front
 }
 
 // One write of a buffer from a place on.

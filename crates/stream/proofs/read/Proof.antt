@@ -1,78 +1,75 @@
--- `stream::read` meets its contract: the count never passes the buffer's end. The measure is the room that is left.
-use mathlib.Core.Path.{_≡_}
-use Prim.Native.Nat.{ℕ, _+_, _-_, _≤_}
-use native.Mathlib.Omega.{arith}
+-- `stream::read` meets its contract: its count is that of `fill`.
+use Prim.Native.Nat.{_≤_}
 use borrow.Author.Needs.{needs}
 use lib.ListN.{length}
 use Rattle.stream.proofs.Meanings.{within-failed, within-bytes}
 use Rattle.stream.proofs.read.Statement.{statement}
 use Rattle.stream.proofs.read.Tie as tie
 
-abbrev Inv-loop : tie.InvT-loop
-Inv-loop fd buf₀ done₀ buf done = (length buf ≡ length buf₀) × (done ≤ length buf₀)
+-- the count, where there is one
+abbrev filled : tie.After-known-told → tie.After-fill
+filled c = c .before .before .before .before .before
 
-abbrev μ-loop : tie.MeasureT-loop
-μ-loop fd buf₀ done₀ buf done = length buf₀ - done
+counted : (c : tie.After-known-told) → c .before .front .given .0 .0 ≤ length (filled c .fill .last .1 .0)
+counted c = filled c .fill .ensures _ (c .before .front .given .1)
 
-loop-holds : tie.Need-loop-holds Inv-loop μ-loop
-loop-holds c = search needs
+fill-requires : tie.Need-fill-requires
+fill-requires c κs = search needs
 
-read-some-requires : tie.Need-read-some-requires Inv-loop μ-loop
-read-some-requires c κs = search needs
+enum-known-front : tie.Need-enum-known-front
+enum-known-front c = search needs
 
-enum-known-e : tie.Need-enum-known-e Inv-loop μ-loop
+skip-requires : tie.Need-skip-requires
+skip-requires c κs = search needs
+
+enum-known-e : tie.Need-enum-known-e
 enum-known-e c = search needs
 
-same-length : tie.Need-same-length Inv-loop μ-loop
+same-length : tie.Need-same-length
 same-length c = search needs
 
-returns : tie.Need-returns Inv-loop μ-loop
+returns : tie.Need-returns
 returns c = within-failed
 
-enum-known-n : tie.Need-enum-known-n Inv-loop μ-loop
-enum-known-n c = search needs
+enum-told : tie.Need-enum-told
+enum-told c = search needs
 
--- no more was read than there is room for
-room : (c : tie.Else1 Inv-loop μ-loop) → c .before .before .n .given .0 .0 + c .before .before .before .before .before .before .before .before .before .loop .done ≤ length (c .before .before .before .before .before .before .before .before .before .loop .buf)
-room c = let r = c .before .before .before .before .before .before in omega (arith, r .read-some .ensures .most _ (c .before .before .n .given .1))
+enum-told-2 : tie.Need-enum-told-2
+enum-told-2 c = search needs
 
-add-done : tie.Need-add-done Inv-loop μ-loop
-add-done c = search (needs, room c)
-
-loop-less : tie.Need-loop-less Inv-loop μ-loop
-loop-less c = search (needs, room c)
-
-loop-again : tie.Need-loop-again Inv-loop μ-loop
-loop-again c = search (needs, room c)
-
-same-length-2 : tie.Need-same-length-2 Inv-loop μ-loop
+same-length-2 : tie.Need-same-length-2
 same-length-2 c = search needs
 
-returns-2 : tie.Need-returns-2 Inv-loop μ-loop
-returns-2 c = within-bytes (search needs)
+returns-2 : tie.Need-returns-2
+returns-2 c = within-bytes (counted (c .before .before .before .before))
 
-same-length-3 : tie.Need-same-length-3 Inv-loop μ-loop
+same-length-3 : tie.Need-same-length-3
 same-length-3 c = search needs
 
-returns-3 : tie.Need-returns-3 Inv-loop μ-loop
-returns-3 c = within-bytes (search needs)
+returns-3 : tie.Need-returns-3
+returns-3 c = within-bytes (counted (c .before))
+
+same-length-4 : tie.Need-same-length-4
+same-length-4 c = search needs
+
+returns-4 : tie.Need-returns-4
+returns-4 c = search needs
 
 pub read-spec : {M : Type 1} → statement M
 read-spec =
     tie.close
     (tie.spec
-    Inv-loop
-    μ-loop
-    loop-holds
-    read-some-requires
+    fill-requires
+    enum-known-front
+    skip-requires
     enum-known-e
     same-length
     returns
-    enum-known-n
-    add-done
-    loop-less
-    loop-again
+    enum-told
+    enum-told-2
     same-length-2
     returns-2
     same-length-3
-    returns-3)
+    returns-3
+    same-length-4
+    returns-4)
