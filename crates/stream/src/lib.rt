@@ -3,6 +3,7 @@
 use libc::EAGAIN;
 use libc::EINTR;
 use libc::EIO;
+use libc::types::timespec;
 ghost use mathlib.Core.Path.{_≡_};
 ghost use Prim.Native.Nat.{_+_, _-_, _≤_};
 ghost use lib.ListN.{length};
@@ -50,9 +51,17 @@ pub fn meant(got: isize, error: i32) -> Tried
     Tried::Failed(error)
 }
 
-// Waits a hundredth of a second.
+// Waits a hundredth of a second, or until a signal comes.
 fn pause() {
-    libc::sched_yield();
+    let asked = timespec {
+        tv_sec: 0,
+        tv_nsec: 10000000,
+    };
+    let mut left = timespec {
+        tv_sec: 0,
+        tv_nsec: 0,
+    };
+    libc::nanosleep(&asked, &mut left);
 }
 
 // One read into a buffer from a place on: what stands before the place stays.
