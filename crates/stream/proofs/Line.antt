@@ -21,14 +21,21 @@ digits e = decimal (errorNumber e) ++ closeWord
 pub line-length : (what : List ℕ) (e : ℤ) → length (failureLine what e) ≤ length what + 15
 unfolding failureLine
 line-length what e =
-    omega (arith, length-append what (behind e), length-append errorWord (digits e), length-append (decimal (errorNumber e)) closeWord, width-most (errorNumber e))
+    omega (
+      arith,
+      length-append what (behind e),
+      length-append errorWord (digits e),
+      length-append (decimal (errorNumber e)) closeWord,
+      width-most (errorNumber e),
+    )
 
 pub first-left : (line what : List ℕ) (e : ℤ) → length what + 15 ≤ length line → Next line 0 (failureLine what e) line 0 what (behind e)
 unfolding failureLine
 first-left line what e h = left-as (left-all line 0 (failureLine what e) (omega (arith, line-length what e))) what (behind e) refl
 
 -- the line's end lies within a buffer of 128 bytes
-pub line-ends : (what : List ℕ) (e : ℤ) {old new : List ℕ} {end : ℕ} → length old ≡ 128 → length what ≤ longestWhat → Put old 0 (failureLine what e) new end → end ≤ length new
+pub line-ends : (what : List ℕ) (e : ℤ) {old new : List ℕ} {end : ℕ} → length old ≡ 128 → length what ≤ longestWhat
+    → Put old 0 (failureLine what e) new end → end ≤ length new
 line-ends what e {old} {new} {end} h w p =
     let room : Room old 0 (failureLine what e) = omega (arith, line-length what e) in
     omega (arith, room, p .place, ap length (p .buffer) ∙ laid-length old 0 (failureLine what e) room)

@@ -17,13 +17,17 @@ same-length : tie.Need-same-length
 same-length c = search needs
 
 returns : tie.Need-returns
-returns c = let answered = c .before .before .before .before .before in is-filled (answered .before .before .before .before .pre) (answered .report .ensures) _ (c .before .k .given .1)
+returns c =
+    let answered = c .before .before .before .before .before in
+    is-filled (answered .before .before .before .before .pre) (answered .report .ensures) _ (c .before .k .given .1)
 
 same-length-2 : tie.Need-same-length-2
 same-length-2 c = search needs
 
 returns-2 : tie.Need-returns-2
-returns-2 c = let answered = c .before .before .before .before in absurd (never-refused (answered .before .before .before .before .pre) (answered .report .ensures) _ (c .enum-told .given .1))
+returns-2 c =
+    let answered = c .before .before .before .before in
+    absurd (never-refused (answered .before .before .before .before .pre) (answered .report .ensures) _ (c .enum-told .given .1))
 
 pub filled-spec : {M : Type 1} → statement M
 filled-spec =

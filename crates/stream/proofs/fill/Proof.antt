@@ -1,6 +1,6 @@
 -- `stream::fill` meets its contract: the count never passes the buffer's end. The measure is the room that is left.
 use mathlib.Core.Path.{_≡_}
-use Prim.Native.Nat.{ℕ, _+_, _-_, _≤_}
+use Prim.Native.Nat.{_+_, _-_, _≤_}
 use native.Mathlib.Omega.{arith}
 use borrow.Author.Needs.{needs}
 use lib.ListN.{length}
@@ -33,8 +33,14 @@ enum-known-n : tie.Need-enum-known-n Inv-loop μ-loop
 enum-known-n c = search needs
 
 -- no more was read than there is room for
-room : (c : tie.Else1 Inv-loop μ-loop) → c .before .before .n .given .0 .0 + c .before .before .before .before .before .before .before .before .before .loop .done ≤ length (c .before .before .before .before .before .before .before .before .before .loop .buf)
-room c = let r = c .before .before .before .before .before .before in omega (arith, r .read-some .ensures .most _ (c .before .before .n .given .1))
+abbrev some : tie.Else1 Inv-loop μ-loop → tie.After-read-some Inv-loop μ-loop
+some c = c .before .before .before .before .before .before
+
+abbrev turn : tie.After-read-some Inv-loop μ-loop → tie.At-loop Inv-loop μ-loop
+turn c = c .before .before .before
+
+room : (c : tie.Else1 Inv-loop μ-loop) → c .before .before .n .given .0 .0 + turn (some c) .loop .done ≤ length (turn (some c) .loop .buf)
+room c = omega (arith, some c .read-some .ensures .most _ (c .before .before .n .given .1))
 
 add-done : tie.Need-add-done Inv-loop μ-loop
 add-done c = search (needs, room c)

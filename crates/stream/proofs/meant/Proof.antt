@@ -1,12 +1,11 @@
 -- `stream::meant` meets its contract: each of its four ways out is a case of `triedOf`.
 use mathlib.Core.Path.{_≡_, sym, ap, _∙_}
 use mathlib.Core.Bool.{true, false}
-use lib.IntN.{ℤ, pos, natAbs}
+use lib.IntN.{ℤ, pos}
 use lib.Signed.{leZ}
 use mir.Val.{toZ, ofZ}
 use mir.ValLaws.{toZ-ofZ}
 use mir.Syntax.{w32, w64}
-use Rattle.stream.specs.declared.Tried.the-variants.{Failed}
 use Rattle.stream.proofs.Meanings.{is-count, count-fits, moved-of, again-of, failed-of, passes-4, passes-11, stays}
 use Rattle.stream.proofs.meant.Statement.{statement}
 use Rattle.stream.proofs.meant.Tie as tie

@@ -1,7 +1,7 @@
 -- `stream::number` meets its contract.
 use mathlib.Core.Path.{_≡_, sym, ap, _∙_}
 use mathlib.Core.Bool.{true, false}
-use lib.IntN.{ℤ, pos, natAbs}
+use lib.IntN.{ℤ, pos}
 use lib.Signed.{ltZ}
 use mir.Val.{toZ, ofZ}
 use mir.ValLaws.{toZ-ofZ}

@@ -1,15 +1,12 @@
 -- `stream::put_failure` meets its contract: the words and the number are put one after the other.
 use mathlib.Core.Path.{_≡_, refl, sym, ap, _∙_}
 use mathlib.Core.List.{List, _++_}
-use Prim.Native.Nat.{ℕ, _+_, _≤_}
-use native.Mathlib.Omega.{arith}
+use Prim.Native.Nat.{ℕ, _+_}
 use borrow.Author.Needs.{needs}
 use denote.Ref.{now}
 use mir.ValLaws.{toZ-ofZ}
 use mir.Syntax.{w32}
-use lib.ListN.{length}
 use Rattle.iosa.specs.Text.{decimal}
-use Rattle.print.specs.Put.{Room, Put}
 use Rattle.print.proofs.LaidLaws.{Left, Next, left-as, left-room, left-next, left-last, last-room}
 use Rattle.stream.specs.Stream.{failureLine, errorNumber, errorWord, closeWord}
 use Rattle.stream.proofs.Line.{behind, digits, first-left}
@@ -36,9 +33,16 @@ l2 c = left-next (left-as (l1 (word c)) errorWord (digits (start1 (word c) .args
 abbrev word2 : tie.After-number → tie.After-put-word2
 word2 c = c .before .before .before .before
 
+same-number : (c : tie.After-number) → errorNumber (start1 (word (word2 c)) .args .error) ≡ c .number .result
+same-number c =
+    let s0 = start1 (word (word2 c)) in
+    sym (c .number .ensures ∙ ap errorNumber (toZ-ofZ w32 (s0 .args .error) (s0 .fits .error)))
+
 l2-next : (c : tie.After-number) → let s0 = start1 (word (word2 c)) in
-    Next (now (s0 .args .line)) 0 (failureLine (now (s0 .args .what)) (s0 .args .error)) (word2 c .put-word2 .last .0) (word2 c .put-word2 .result) (decimal (c .number .result)) closeWord
-l2-next c = let s0 = start1 (word (word2 c)) in left-as (l2 (word2 c)) (decimal (c .number .result)) closeWord (ap (λ (n : ℕ). decimal n ++ closeWord) (sym (c .number .ensures ∙ ap errorNumber (toZ-ofZ w32 (s0 .args .error) (s0 .fits .error)))))
+    Next (now (s0 .args .line)) 0 (failureLine (now (s0 .args .what)) (s0 .args .error)) (word2 c .put-word2 .last .0)
+    (word2 c .put-word2 .result) (decimal (c .number .result)) closeWord
+l2-next c =
+    left-as (l2 (word2 c)) (decimal (c .number .result)) closeWord (ap (λ (n : ℕ). decimal n ++ closeWord) (same-number c))
 
 l3 : (c : tie.After-put-decimal) → Rest (start1 (word (word2 (c .before)))) (c .put-decimal .last .0) (c .put-decimal .result) closeWord
 l3 c = left-next (l2-next (c .before)) (c .put-decimal .ensures)

@@ -1,10 +1,5 @@
 -- `stream::read_some` meets its contract: however often it is tried, what stands before the place stays. The measure is the tries that are left.
-use mathlib.Core.Path.{_≡_}
-use mathlib.Core.List.{List}
-use Prim.Native.Nat.{ℕ}
-use native.Mathlib.Omega.{arith}
 use borrow.Author.Needs.{needs}
-use lib.ListN.{length}
 use Rattle.stream.proofs.Meanings.{Still, still-first, still-next, gets-moved, gets-failed, gets-none}
 use Rattle.stream.proofs.read_some.Statement.{statement}
 use Rattle.stream.proofs.read_some.Tie as tie
@@ -14,6 +9,10 @@ Inv-loop fd buf₀ from left₀ buf left = Still buf₀ from buf
 
 abbrev μ-loop : tie.MeasureT-loop
 μ-loop fd buf₀ from left₀ buf left = left
+
+-- what is kept at the loop's head, and what the try in this turn gives
+abbrev turn : tie.After-try-read Inv-loop μ-loop → tie.At-loop Inv-loop μ-loop
+turn c = c .before .before .before
 
 loop-holds : tie.Need-loop-holds Inv-loop μ-loop
 loop-holds c = still-first _ _
@@ -28,7 +27,9 @@ same-length : tie.Need-same-length Inv-loop μ-loop
 same-length c = search needs
 
 returns : tie.Need-returns Inv-loop μ-loop
-returns c = let tried = c .before .before .before .before .before in gets-moved (tried .before .before .before .loop .inv) (tried .try-read .ensures) (c .before .n .given .1)
+returns c =
+    let tried = c .before .before .before .before .before in
+    gets-moved (turn tried .loop .inv) (tried .try-read .ensures) (c .before .n .given .1)
 
 enum-known-e : tie.Need-enum-known-e Inv-loop μ-loop
 enum-known-e c = search needs
@@ -37,7 +38,7 @@ same-length-2 : tie.Need-same-length-2 Inv-loop μ-loop
 same-length-2 c = search needs
 
 returns-2 : tie.Need-returns-2 Inv-loop μ-loop
-returns-2 c = let tried = c .before .before .before .before .before in gets-failed (tried .before .before .before .loop .inv) (tried .try-read .ensures)
+returns-2 c = let tried = c .before .before .before .before .before in gets-failed (turn tried .loop .inv) (tried .try-read .ensures)
 
 enum-told : tie.Need-enum-told Inv-loop μ-loop
 enum-told c = search needs
@@ -52,7 +53,9 @@ loop-less : tie.Need-loop-less Inv-loop μ-loop
 loop-less c = search needs
 
 loop-again : tie.Need-loop-again Inv-loop μ-loop
-loop-again c = let tried = c .before .before .before .before .before in still-next (tried .before .before .before .loop .inv) (tried .try-read .ensures) (tried .try-read .kept .1 .0)
+loop-again c =
+    let tried = c .before .before .before .before .before in
+    still-next (turn tried .loop .inv) (tried .try-read .ensures) (tried .try-read .kept .1 .0)
 
 same-length-3 : tie.Need-same-length-3 Inv-loop μ-loop
 same-length-3 c = c .before .loop .inv .long

@@ -1,9 +1,5 @@
 -- `stream::skip` is safe and ends. The measure is the bytes that may still come.
-use mathlib.Core.Path.{_≡_}
-use Prim.Native.Nat.{ℕ}
-use native.Mathlib.Omega.{arith}
 use borrow.Author.Needs.{needs}
-use lib.ListN.{length}
 use Rattle.stream.proofs.skip.Statement.{statement}
 use Rattle.stream.proofs.skip.Tie as tie
 

@@ -36,8 +36,10 @@ returns c =
     let read = c .before .before .before .before in
     let s0 = read .before .before .before in
     let old = now (s0 .args .buf) in
+    let long = mid-len (s0 .args .from) (length old) old (omega arith) in
+    let most = handed (read .read .result) (record { sfits = read .read .ok }) long (read .read .ensures) in
     record {
-      most = λ n same. at-most _ _ _ (handed (read .read .result) (record { sfits = read .read .ok }) (mid-len (s0 .args .from) (length old) old (omega arith)) (read .read .ensures)) n (sym (c .meant .ensures) ∙ same);
+      most = λ n same. at-most _ _ _ most n (sym (c .meant .ensures) ∙ same);
       kept = take-put (s0 .args .from) (length old - s0 .args .from) old (read .read .last .1 .0) (s0 .pre);
     }
 

@@ -1,6 +1,5 @@
 -- `stream::try_write` meets its contract: what the system answers is read by `meant`.
-use mathlib.Core.Path.{_≡_, sym, _∙_}
-use Prim.Native.Nat.{_-_}
+use mathlib.Core.Path.{sym, _∙_}
 use native.Mathlib.Omega.{arith}
 use borrow.Author.Needs.{needs}
 use borrow.Rule.Slice.PartMut.{mid-len}
@@ -33,7 +32,9 @@ returns c =
     let write = c .before .before in
     let s0 = write .before .before .before in
     let old = now (s0 .args .buf) in
-    λ n same. at-most _ _ _ (handed (write .write .result) (record { sfits = write .write .ok }) (mid-len (s0 .args .from) (length old) old (omega arith)) (write .write .ensures)) n (sym (c .meant .ensures) ∙ same)
+    let long = mid-len (s0 .args .from) (length old) old (omega arith) in
+    let most = handed (write .write .result) (record { sfits = write .write .ok }) long (write .write .ensures) in
+    λ n same. at-most _ _ _ most n (sym (c .meant .ensures) ∙ same)
 
 pub try-write-spec : {M : Type 1} → statement M
 try-write-spec =

@@ -1,7 +1,5 @@
 -- `stream::write` meets its contract: it answers a number of bytes only where the count has reached the buffer's end. The measure is what is left.
-use mathlib.Core.Path.{_≡_}
-use Prim.Native.Nat.{ℕ, _+_, _-_, _≤_}
-use native.Mathlib.Omega.{arith}
+use Prim.Native.Nat.{_-_, _≤_}
 use borrow.Author.Needs.{needs}
 use denote.Ref.{now}
 use lib.ListN.{length}
@@ -34,8 +32,15 @@ returns-2 : tie.Need-returns-2 Inv-loop μ-loop
 returns-2 c = whole-failed
 
 -- no more was written than was left
-left : (c : tie.Else1 Inv-loop μ-loop) → c .before .before .n .given .0 .0 ≤ length (now (c .before .before .before .before .before .before .before .before .args .buf)) - c .before .before .before .before .before .before .loop .done
-left c = c .before .before .before .before .write-some .ensures _ (c .before .before .n .given .1)
+abbrev some : tie.Else1 Inv-loop μ-loop → tie.After-write-some Inv-loop μ-loop
+some c = c .before .before .before .before
+
+abbrev turn : tie.After-write-some Inv-loop μ-loop → tie.At-loop Inv-loop μ-loop
+turn c = c .before .before
+
+left : (c : tie.Else1 Inv-loop μ-loop)
+    → c .before .before .n .given .0 .0 ≤ length (now (turn (some c) .before .before .args .buf)) - turn (some c) .loop .done
+left c = some c .write-some .ensures _ (c .before .before .n .given .1)
 
 add-done : tie.Need-add-done Inv-loop μ-loop
 add-done c = search (needs, left c)

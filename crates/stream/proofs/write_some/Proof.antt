@@ -1,6 +1,4 @@
 -- `stream::write_some` meets its contract. The measure is the tries that are left.
-use mathlib.Core.Path.{_≡_}
-use native.Mathlib.Omega.{arith}
 use borrow.Author.Needs.{needs}
 use Rattle.stream.proofs.Meanings.{within-moved, within-failed}
 use Rattle.stream.proofs.write_some.Statement.{statement}
