@@ -20,7 +20,7 @@ const BEHIND: usize = 1 << 30;
 const LINE: usize = 128;
 
 // What one call of the system's came to.
-pub enum Tried {
+enum Tried {
     // so many bytes; of a read, none is the end of the input
     Moved(usize),
     // interrupted, or it would have had to wait
@@ -36,7 +36,7 @@ pub enum Moved {
 }
 
 // Only an answer below zero is a failure, and only these two errors pass by themselves.
-pub fn meant(got: isize, error: i32) -> Tried
+fn meant(got: isize, error: i32) -> Tried
     ensures { λ r. ⌜ r ≡ triedOf got error ⌝ }
 {
     if got >= 0 {
