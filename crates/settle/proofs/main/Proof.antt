@@ -1,7 +1,6 @@
--- `settle::main` is safe: the length that `report` answers lies within its buffer.
+-- `settle::main` is safe: what was read lies within its buffer.
 use mathlib.Core.Path.{sym}
 use lib.Seq.{length-take-le}
-use Rattle.report.proofs.Within.{length-within}
 use borrow.Author.Needs.{needs}
 use Rattle.settle.proofs.main.Statement.{statement}
 use Rattle.settle.proofs.main.Tie as tie
@@ -9,41 +8,32 @@ use Rattle.settle.proofs.main.Tie as tie
 empty-input-requires : tie.Need-empty-input-requires
 empty-input-requires c κs = search needs
 
-empty-report-requires : tie.Need-empty-report-requires
-empty-report-requires c κs = search needs
+slice-aggregate-read : tie.Need-slice-aggregate-read
+slice-aggregate-read c = search needs
 
-slice-aggregate-read-full : tie.Need-slice-aggregate-read-full
-slice-aggregate-read-full c = search needs
+read-requires : tie.Need-read-requires
+read-requires c κs = search needs
 
-read-full-requires : tie.Need-read-full-requires
-read-full-requires c κs = search needs
+enum-known-n : tie.Need-enum-known-n
+enum-known-n c = search needs
 
 array-share-prefix-input : tie.Need-array-share-prefix-input
-array-share-prefix-input c = search needs
+array-share-prefix-input c = c .before .before .before .before .read .ensures _ (c .before .n .given .1)
 
-slice-aggregate-report : tie.Need-slice-aggregate-report
-slice-aggregate-report c = search needs
+slice-aggregate-answer : tie.Need-slice-aggregate-answer
+slice-aggregate-answer c = let told = c .before in sym (length-take-le _ _ (told .before .before .before .before .read .ensures _ (told .before .n .given .1)))
 
-slice-aggregate-report-2 : tie.Need-slice-aggregate-report-2
-slice-aggregate-report-2 c = search needs
+answer-requires : tie.Need-answer-requires
+answer-requires c κs = search needs
 
-report-requires : tie.Need-report-requires
-report-requires c κs = search needs
+enum-known-e : tie.Need-enum-known-e
+enum-known-e c = search needs
 
-enum-known-answer : tie.Need-enum-known-answer
-enum-known-answer c = search needs
+slice-aggregate-say : tie.Need-slice-aggregate-say
+slice-aggregate-say c = search needs
 
-array-share-prefix-out : tie.Need-array-share-prefix-out
-array-share-prefix-out c = length-within _ _ _ _ (c .before .before .before .before .report .ensures) _ (c .before .answer .given .1)
-
-slice-aggregate-write-all : tie.Need-slice-aggregate-write-all
-slice-aggregate-write-all c = sym (length-take-le _ _ (length-within _ _ _ _ (c .before .before .before .before .before .report .ensures) _ (c .before .before .answer .given .1)))
-
-write-all-requires : tie.Need-write-all-requires
-write-all-requires c κs = search needs
-
-enum-told : tie.Need-enum-told
-enum-told c = search needs
+say-requires : tie.Need-say-requires
+say-requires c κs = search needs
 
 returns : tie.Need-returns
 returns c = search needs
@@ -56,17 +46,14 @@ main-spec =
     tie.close
     (tie.spec
     empty-input-requires
-    empty-report-requires
-    slice-aggregate-read-full
-    read-full-requires
+    slice-aggregate-read
+    read-requires
+    enum-known-n
     array-share-prefix-input
-    slice-aggregate-report
-    slice-aggregate-report-2
-    report-requires
-    enum-known-answer
-    array-share-prefix-out
-    slice-aggregate-write-all
-    write-all-requires
-    enum-told
+    slice-aggregate-answer
+    answer-requires
+    enum-known-e
+    slice-aggregate-say
+    say-requires
     returns
     returns-2)
