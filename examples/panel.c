@@ -9,7 +9,7 @@
 
 enum { budget = 100, turns = 8 };
 /* Words of a component's block in the table (docs/TABLE.md). */
-enum { blocks_at = 1, block_words = 73, start_word = 1, started_word = 7 };
+enum { blocks_at = 1, block_words = FLOODNEEDLE_BLOCK, start_word = 1, started_word = 7 };
 
 static uint8_t text[FLOODNEEDLE_TEXT + 1];
 static uint64_t table[FLOODNEEDLE_TABLE];

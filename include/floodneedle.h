@@ -21,14 +21,20 @@
 extern "C" {
 #endif
 
-/* Sizes: words of a table, bytes of the longest text, bytes of a state, the largest budget, which is also the longest list or trace, the
- * number of clock values, and bytes of the longest report there can be. */
-#define FLOODNEEDLE_TABLE 5265
+/* Limits of a model: components, states of a component, rows in all, bytes of its text. */
+#define FLOODNEEDLE_COMPONENTS 32
+#define FLOODNEEDLE_STATES 128
+#define FLOODNEEDLE_ROWS 1024
 #define FLOODNEEDLE_TEXT 32768
-#define FLOODNEEDLE_STATE 16
+
+/* Sizes: words of a component's block (137) and of a table (8,481), bytes of a state, the largest budget, which is also the longest list or
+ * trace, the number of clock values, and bytes of the longest report there can be. */
+#define FLOODNEEDLE_BLOCK (8 + FLOODNEEDLE_STATES + 1)
+#define FLOODNEEDLE_TABLE (1 + FLOODNEEDLE_BLOCK * FLOODNEEDLE_COMPONENTS + 4 * FLOODNEEDLE_ROWS)
+#define FLOODNEEDLE_STATE FLOODNEEDLE_COMPONENTS
 #define FLOODNEEDLE_BUDGET 4096
 #define FLOODNEEDLE_CLOCKS 64
-#define FLOODNEEDLE_REPORT 994466
+#define FLOODNEEDLE_REPORT 1322226
 
 enum floodneedle_kind {
   FLOODNEEDLE_REFUSED = 0,
@@ -76,8 +82,8 @@ void floodneedle_confluent(const uint64_t *table, size_t table_words, struct flo
 
 /* Writes the image of the model in which components i and i + 1 are replaced by their product, unreachable pairs included, to the front
  * of a second table; the first table stays as it is.
- * Refuses: as accept, then 24 (bytes needed: 8 for each of FLOODNEEDLE_TABLE words), 25 (i + 1 is no component), 26 (over 64 states, or
- * over 1,024 rows or 32,768 bytes of text in the whole model). */
+ * Refuses: as accept, then 24 (bytes needed: 8 for each of FLOODNEEDLE_TABLE words), 25 (i + 1 is no component), 26 (over
+ * FLOODNEEDLE_STATES states, or over FLOODNEEDLE_ROWS rows or FLOODNEEDLE_TEXT bytes of text in the whole model). */
 void floodneedle_merge(const uint64_t *table, size_t table_words, uint64_t i, uint64_t *into, size_t into_words,
                        struct floodneedle_answer *answer);
 
