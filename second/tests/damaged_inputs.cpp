@@ -108,7 +108,7 @@ void check_calls(Random& random, const Table& table, const Model& model) {
   check(named.number == 0 || named.number == 21 || named.number == 23, "step_by: 21, 23");
   check(fired.number == 0 || fired.number == 21 || fired.number >= 27, "timed_step: 21, 27 to 30");
   check(merged.number == 0 || (merged.number >= 24 && merged.number <= 26), "merge: 24 to 26");
-  if (into.size() < second::image_words) check(merged == second::refuse(24, {42120}), "24 before 25 and 26");
+  if (into.size() < second::image_words) check(merged == second::refuse(24, {67848}), "24 before 25 and 26");
 }
 
 }  // namespace

@@ -37,7 +37,7 @@ second::Lent<T> lent_to_write(std::vector<T>& buffer) {
 }
 
 bool zero(const second::State& state) {
-  return state.count == 0 && std::all_of(state.parts, state.parts + 16, [](std::uint8_t p) { return p == 0; });
+  return state.count == 0 && std::all_of(state.parts, state.parts + second::max_components, [](std::uint8_t p) { return p == 0; });
 }
 
 // Whether two buffers are the same from `first` on.
