@@ -6,12 +6,15 @@
 
 namespace second {
 
-Refusal acceptance(const Model& model) {
+Refusal component_acceptance(const Model& model, std::uint64_t c) {
   std::uint64_t first_row = 0;
-  for (std::uint64_t c = 0; c < model.components.size(); ++c) {
-    if (Refusal broken = component_conditions(model.components[c], c, first_row)) return broken;
-    first_row += model.components[c].rows.size();
-  }
+  for (std::uint64_t before = 0; before < c; ++before) first_row += model.components[before].rows.size();
+  return component_conditions(model.components[c], c, first_row);
+}
+
+Refusal acceptance(const Model& model) {
+  for (std::uint64_t c = 0; c < model.components.size(); ++c)
+    if (Refusal broken = component_acceptance(model, c)) return broken;
   return compatible(model);
 }
 

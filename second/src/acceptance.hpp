@@ -6,6 +6,9 @@
 
 namespace second {
 
+// 10 to 14 of the component that stands at this index, which the model has.
+Refusal component_acceptance(const Model& model, std::uint64_t c);
+
 Refusal acceptance(const Model& model);
 
 // As acceptance, then 18.

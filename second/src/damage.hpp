@@ -17,6 +17,9 @@ std::string damaged_text(Random& random, std::string text);
 std::string request_line(const std::vector<std::uint8_t>& state, std::uint64_t budget);
 std::string damaged_request(Random& random, std::string request);
 
+// The same table with words of any value behind it; most often an odd number of them.
+std::vector<std::uint64_t> lengthened_table(Random& random, std::vector<std::uint64_t> table);
+
 // Words changed here and there, or the length changed, by one for the most part.
 std::vector<std::uint64_t> damaged_table(Random& random, std::vector<std::uint64_t> table);
 

@@ -19,15 +19,15 @@ enum class Family {
   clashing,       // accepted, not confluent
   endless,        // confluent, unsettled at any budget from any state
   sharing,        // confluent, many components that share most actions
-  components_16,  // confluent, 16 components
+  components_32,  // confluent, 32 components
   rows_1024,      // confluent, 1,024 rows
-  states_64,      // confluent, a component of 64 states
+  states_128,     // confluent, a component of 128 states
   text_32768,     // confluent, a text within a few bytes of the limit or at it
 };
 
 constexpr Family families[] = {
     Family::accepted,      Family::confluent, Family::clashing,  Family::endless,   Family::sharing,
-    Family::components_16, Family::rows_1024, Family::states_64, Family::text_32768};
+    Family::components_32, Family::rows_1024, Family::states_128, Family::text_32768};
 
 Model generate(Random& random, Family family, Size size);
 
@@ -58,9 +58,13 @@ std::vector<std::uint8_t> generate_list(Random& random, const Model& model,
 std::vector<std::uint8_t> generate_odd_list(Random& random, const Model& model,
                                             const std::vector<std::uint8_t>& state);
 
-// 64 clock values that a timed step takes in most states; the odd ones have ties, negatives,
-// ends of the range and beyond, and may not be 64.
+// 64 clock values that a timed step takes in many states, some of them close above the floor. Those
+// for a state keep its enabling clocks at 0 or above and put half the others close above the floor,
+// so that one of them often stops there; the state may be of wrong length or range. The odd ones
+// have ties, negatives, ends of the range and beyond, and may not be 64.
 std::vector<std::int64_t> generate_ticks(Random& random);
+std::vector<std::int64_t> generate_ticks_for(Random& random, const Model& model,
+                                             const std::vector<std::uint8_t>& state);
 std::vector<std::int64_t> generate_odd_ticks(Random& random);
 
 // A merge index: a good one, or any up to 2^64 - 1.

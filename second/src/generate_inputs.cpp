@@ -35,7 +35,7 @@ std::vector<std::uint8_t> generate_odd_state(Random& random, const Model& model)
   switch (random.below(5)) {
     case 0: state.pop_back(); break;
     case 1: state.push_back(0); break;
-    case 2: state.resize(random.below(40)); break;
+    case 2: state.resize(random.below(70)); break;
     case 3: {
       const unsigned c = random.below(state.size());
       const unsigned states = model.components[c].states;
@@ -92,35 +92,86 @@ std::vector<std::uint8_t> generate_odd_list(Random& random, const Model& model,
   return list;
 }
 
+namespace {
+
+std::int64_t above_floor(Random& random) { return -tick_bound + static_cast<std::int64_t>(random.below(40)); }
+
+// Values of one size, from small ones that tie to ones close to the end of the range.
+class Sized {
+ public:
+  explicit Sized(Random& from) : random(from) {
+    const unsigned style = random.below(10);
+    if (style < 3) span = 8;
+    else if (style < 8) span = std::uint64_t{1} << random.between(8, 40);
+    else top = true;
+  }
+
+  std::int64_t next() {
+    const auto drawn = static_cast<std::int64_t>(random.next() % span);
+    return top ? tick_bound - drawn : drawn;
+  }
+
+ private:
+  Random& random;
+  std::uint64_t span = 64;
+  bool top = false;
+};
+
+}  // namespace
+
 std::vector<std::int64_t> generate_ticks(Random& random) {
   std::vector<std::int64_t> ticks;
-  const std::uint64_t span = random.chance(30) ? 8 : std::uint64_t{1} << random.between(8, 40);
-  for (unsigned clock = 0; clock < clock_values; ++clock)
-    ticks.push_back(static_cast<std::int64_t>(random.next() % span));
+  Sized sized(random);
+  const unsigned deep = random.pick(std::vector<unsigned>{0, 0, 20, 40});
+  for (unsigned clock = 0; clock < clock_values; ++clock) {
+    const bool low = random.chance(deep);
+    ticks.push_back(low ? above_floor(random) : sized.next());
+  }
+  return ticks;
+}
+
+std::vector<std::int64_t> generate_ticks_for(Random& random, const Model& model,
+                                             const std::vector<std::uint8_t>& state) {
+  Set waiting = 0;
+  if (fits(model, state.data(), state.size()))
+    for (std::size_t c = 0; c < state.size(); ++c)
+      waiting = joined(waiting, enabling(model.components[c], state[c]));
+  std::vector<std::int64_t> ticks;
+  Sized sized(random);
+  for (unsigned clock = 0; clock < clock_values; ++clock) {
+    const bool low = !has(waiting, clock) && random.chance(50);
+    ticks.push_back(low ? above_floor(random) : sized.next());
+  }
   return ticks;
 }
 
 std::vector<std::int64_t> generate_odd_ticks(Random& random) {
   const std::vector<std::int64_t> odd = {
-      0, 1, -1, 5, tick_bound, tick_bound - 1, tick_bound + 1, -tick_bound, -tick_bound + 1,
+      0, 1, -1, 5, tick_bound, tick_bound - 1, -tick_bound, -tick_bound + 1, tick_bound + 1,
       -tick_bound - 1, least_tick, most_tick};
   std::vector<std::int64_t> ticks = generate_ticks(random);
-  const unsigned style = random.below(4);
+  const unsigned style = random.below(5);
   // Early ones of the list are within bounds, so that 29 and 30 aren't always hidden by 28.
-  const unsigned reach = random.chance(60) ? 6 : static_cast<unsigned>(odd.size());
+  const unsigned reach = random.chance(60) ? 8 : static_cast<unsigned>(odd.size());
   for (std::int64_t& tick : ticks) {
     if (style == 0 && random.chance(10)) tick = odd[random.below(reach)];
     if (style == 1) tick = odd[random.below(reach)];
     if (style == 2 && random.chance(50)) tick = -static_cast<std::int64_t>(random.next() % (std::uint64_t{1} << 40));
+    if (style == 3) {
+      const auto near = static_cast<std::int64_t>(random.below(4));
+      const unsigned end = random.below(4);
+      tick = end == 0 ? -tick_bound + near : end == 1 ? tick_bound - near : near;
+    }
   }
-  if (random.chance(10)) ticks.resize(random.pick(std::vector<unsigned>{0, 1, 63, 65, 128}));
+  if (random.chance(10))
+    ticks.resize(random.pick(std::vector<unsigned>{0, 1, 2, 31, 62, 63, 65, 66, 127, 128, 129, 1000}), 1);
   return ticks;
 }
 
 std::uint64_t generate_index(Random& random, const Model& model) {
   if (random.chance(20))
     return random.pick(std::vector<std::uint64_t>{largest, largest - 1, std::uint64_t{1} << 63,
-                                                  std::uint64_t{1} << 32, 15, 16, 17});
+                                                  std::uint64_t{1} << 32, 31, 32, 33});
   return random.below(model.components.size());
 }
 

@@ -5,6 +5,7 @@
 #include <string>
 
 #include "acceptance.hpp"
+#include "compatible.hpp"
 #include "composition.hpp"
 #include "merging.hpp"
 #include "settling.hpp"
@@ -83,6 +84,15 @@ Answer recognise(Words table) {
   if (!model_of_image(table)) return {refuse(20, {0})};
   return {};
 }
+
+Answer component(Words table, std::uint64_t i) {
+  const auto model = model_of_image(table);
+  if (!model) return {refuse(20, {0})};
+  if (i >= model->components.size()) return {refuse(25, {0})};
+  return {component_acceptance(*model, i)};
+}
+
+Answer compatible(Words table) { return {ground(table, compatible).refusal}; }
 
 Answer accept(Words table) { return {ground(table, acceptance).refusal}; }
 

@@ -58,7 +58,11 @@ Answer read(Bytes text, WordsToWrite into);
 WriteAnswer write(Words table, BytesToWrite into);
 // 20.
 Answer recognise(Words table);
-// 20, 10 to 17.
+// 20, 25, 10 to 14 of the component at this index; rows are counted over the system.
+Answer component(Words table, std::uint64_t i);
+// 20, 15 to 17.
+Answer compatible(Words table);
+// 20, 10 to 17: as `component` at 0, 1, .. in turn, then as `compatible`.
 Answer accept(Words table);
 // As accept, then 18.
 Answer confluent(Words table);

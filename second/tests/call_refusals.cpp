@@ -40,7 +40,7 @@ void test_20() {
   all_refuse(table, {1, 0}, refuse(20, {0}), "an unused place");
   check(lend_write(table, text).refusal == refuse(20, {0}), "an unused place: write");
 
-  // A longer buffer is used at its front; its rest is neither read nor changed (C3).
+  // A longer buffer is used at its front; its rest is neither read nor changed (DECISIONS, The table).
   table = good;
   table.resize(second::image_words + 3, largest);
   check(!lend_accept(table).refusal, "a longer table");
@@ -52,7 +52,7 @@ void test_20() {
 
 void test_21() {
   const Table table = image(m);
-  const Part wrong[] = {{}, {1}, {0, 0, 0}, {2, 0}, {0, 3}, {0, 255}, {255, 255}, Part(16, 0), Part(17, 0), Part(1000, 0)};
+  const Part wrong[] = {{}, {1}, {0, 0, 0}, {2, 0}, {0, 3}, {0, 255}, {255, 255}, Part(32, 0), Part(33, 0), Part(1000, 0)};
   for (const Part& state : wrong) {
     Part trace(8, 9);
     Clocks ticks(64, 1);
@@ -63,7 +63,7 @@ void test_21() {
     Clocks few(63, 1);
     check(lend_timed_step(table, state, few).refusal == refuse(21, {0}), "21 before 28: timed_step");
   }
-  // 18 comes first where settling asks for it (E6), and not elsewhere.
+  // 18 comes first where settling asks for it (DECISIONS: "order for settling"), and not elsewhere.
   const Table clash = image(m_with("row 1 - 2 - 2", "row 1 - 2 - 0"));
   Part trace;
   check(lend_settle(clash, {9}, largest, trace).refusal == refuse(18, {1, 1, 1, 2}), "18 before 21");
@@ -107,26 +107,28 @@ void test_22_23_24() {
   check(lend_write(table, text).refusal == refuse(24, {m.size()}), "24: write");
   check(lend_write(table, none).refusal == refuse(24, {m.size()}), "24: write to nothing");
   Table short_of(second::image_words - 1, 9);
-  check(lend_read(m, short_of).refusal == refuse(24, {42120}), "24: read");
+  check(lend_read(m, short_of).refusal == refuse(24, {67848}), "24: read");
 }
 
 void test_25_26() {
   const Table table = image(m);
   Table into(second::image_words, 9);
   Table shorter(second::image_words - 1, 9);
-  for (std::uint64_t i : {std::uint64_t{1}, std::uint64_t{2}, std::uint64_t{15}, std::uint64_t{16}, largest - 1, largest}) {
+  for (std::uint64_t i : {std::uint64_t{1}, std::uint64_t{2}, std::uint64_t{31}, std::uint64_t{32}, largest - 1, largest}) {
     check(lend_merge(table, i, into).refusal == refuse(25, {0}), "25: " + std::to_string(i));
-    check(lend_merge(table, i, shorter).refusal == refuse(24, {42120}), "24 before 25");
+    check(lend_merge(table, i, shorter).refusal == refuse(24, {67848}), "24 before 25");
   }
   check(lend_merge(image(tabbed("comp 1 0\n")), 0, into).refusal == refuse(25, {0}), "25: one component");
 
-  const Table fits = image(tabbed("comp 8 7\ncomp 8 7\n"));
-  check(!lend_merge(fits, 0, into).refusal && into[1] == 64 && into[2] == 63, "64 states");
-  check(lend_merge(image(tabbed("comp 13 0\ncomp 5 0\n")), 0, into).refusal == refuse(26, {0}), "26: 65 states");
-  check(lend_merge(image(tabbed("comp 64 0\ncomp 64 0\n")), 0, into).refusal == refuse(26, {0}), "26: 4,096 states");
-  check(lend_merge(image(tabbed("comp 64 0\ncomp 2 0\n")), 0, shorter).refusal == refuse(24, {42120}), "24 before 26");
+  const Table fits = image(tabbed("comp 16 15\ncomp 8 7\n"));
+  check(!lend_merge(fits, 0, into).refusal && into[1] == 128 && into[2] == 127, "128 states");
+  check(!lend_merge(image(tabbed("comp 64 0\ncomp 2 0\n")), 0, into).refusal && into[1] == 128, "64 times 2 states");
+  check(lend_merge(image(tabbed("comp 64 0\ncomp 3 0\n")), 0, into).refusal == refuse(26, {0}), "26: 64 times 3 states");
+  check(lend_merge(image(tabbed("comp 43 0\ncomp 3 0\n")), 0, into).refusal == refuse(26, {0}), "26: 129 states");
+  check(lend_merge(image(tabbed("comp 128 0\ncomp 128 0\n")), 0, into).refusal == refuse(26, {0}), "26: 16,384 states");
+  check(lend_merge(image(tabbed("comp 64 0\ncomp 3 0\n")), 0, shorter).refusal == refuse(24, {67848}), "24 before 26");
 
-  // Rows are those of the whole model (G3): 32 and 32 become 64 times 8, and the third component
+  // Rows are those of the whole model (DECISIONS: "limits in all"): 32 and 32 become 64 times 8, and the third component
   // has as many again, which is just the limit.
   Text pair;
   for (unsigned c = 0; c < 2; ++c) {
@@ -176,7 +178,7 @@ second::Refusal timed_with(const Part& state, const Clocks& clocks) {
 }
 
 Clocks set_to(std::int64_t c3, std::int64_t c7, std::int64_t c9) {
-  Clocks ticks(64, INT64_MIN);  // undeclared places may hold anything (F3)
+  Clocks ticks(64, INT64_MIN);  // undeclared places may hold anything (DECISIONS, The timed step)
   ticks[3] = c3;
   ticks[7] = c7;
   ticks[9] = c9;
@@ -202,7 +204,7 @@ void test_27_to_30() {
   check(!timed_with({0, 0}, set_to(4, 5, 4)), "a tie with one that nobody waits for is none");
   check(!timed_with({0, 0}, set_to(0, 5, -4)), "0 may fire");
 
-  // A tie above the least is no fault (F7).
+  // A tie above the least is no fault (DECISIONS, The timed step).
   const Table three = image(tabbed(waiting + "comp 1 0\nact 4 out\nclk 11 1\nrow 0 11 4 11 0\n"));
   Clocks ticks = set_to(6, 6, 0);
   ticks[11] = 2;
@@ -211,14 +213,14 @@ void test_27_to_30() {
   ticks[11] = 2;
   check(lend_timed_step(three, {0, 0, 0}, ticks).refusal == refuse(30, {7}), "30: the lowest of those that share the least");
 
-  // The floor, for a clock that isn't enabling in this state; a listener's resets join (F4, F5, F8).
+  // The floor, for a clock that isn't enabling in this state; a listener's resets join (DECISIONS, The timed step).
   ticks = set_to(10, bound, -bound + 3);
   const auto fired = lend_timed_step(image(tabbed(waiting)), {0, 0}, ticks);
   check(fired.v == 10 && fired.action == 0 && fired.resets == ((1u << 3) | (1u << 9)) && parts_of(fired.state) == Part{1, 0},
         "the row of clock 3, and its listener");
   check(ticks == set_to(0, bound - 10, -bound), "all declared clocks fall, to the floor at most");
 
-  // Quiet comes after 27 and 28 only (F6).
+  // Quiet comes after 27 and 28 only (DECISIONS, The timed step).
   const Table still = image(tabbed("comp 1 0\nact 0 in\nclk 5 0\nrow 0 - 0 - 0\n"));
   Clocks negative(64, -7);
   check(lend_timed_step(still, {0}, negative).outcome == second::TimedOutcome::quiet, "quiet, though negative");

@@ -9,9 +9,11 @@ unsigned long passed = 0;
 unsigned long failed = 0;
 std::map<std::uint64_t, unsigned long> refusals;
 std::map<std::string, unsigned long> outcomes;
+std::uint64_t lent_digest = 0;
 
 const char* const all_outcomes[] = {
     "read",          "written",          "recognised",     "accepted",       "confluent",
+    "component",     "compatible",
     "step moved",    "step stable",      "step_by moved",  "settle stable",  "settle unsettled",
     "list stable",   "list unsettled",   "timed fired",    "timed quiet",    "merged",
     "report stable", "report unsettled", "report refused"};
@@ -33,6 +35,12 @@ void count_refusal(const second::Refusal& refusal) {
 
 void count_outcome(const std::string& outcome) { ++outcomes[outcome]; }
 
+void count_lent(std::uint64_t word) {
+  // A sum, since the order in which arguments are lent is the compiler's.
+  word = (word ^ (word >> 31)) * 0xbf58476d1ce4e5b9u;
+  lent_digest += word ^ (word >> 29);
+}
+
 int conclude() {
   for (std::uint64_t number = 1; number <= 30; ++number) {
     if (number == 19) continue;
@@ -44,6 +52,7 @@ int conclude() {
     std::printf("%s: %lu\n", outcome, outcomes[outcome]);
     check(outcomes[outcome] > 0, std::string("outcome ") + outcome + " is reached");
   }
+  std::printf("digest of everything lent: %llu\n", static_cast<unsigned long long>(lent_digest));
   std::printf("%lu passed, %lu failed\n", passed, failed);
   return failed == 0 ? 0 : 1;
 }

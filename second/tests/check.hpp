@@ -10,6 +10,10 @@ void check(bool holds, const std::string& what);
 void count_refusal(const second::Refusal& refusal);
 void count_outcome(const std::string& outcome);
 
+// Takes a word of what is lent into a running digest, which is printed at the end: two machines that
+// print the same one have tried the same inputs.
+void count_lent(std::uint64_t word);
+
 // Prints the counts, fails for each that is zero, then prints the last line. Answers the exit
 // status.
 int conclude();

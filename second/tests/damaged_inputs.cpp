@@ -72,7 +72,7 @@ void check_calls(Random& random, const Table& table, const Model& model) {
                      std::equal(state.begin(), state.end(), model.components.begin(),
                                 [](std::uint8_t part, const second::Component& c) { return part < c.states; });
   const Part list = sound ? second::generate_odd_list(random, model, state) : Part(random.below(5), 1);
-  Clocks ticks = second::generate_odd_ticks(random);
+  Clocks ticks = random.chance(50) ? second::generate_ticks_for(random, model, state) : second::generate_odd_ticks(random);
   Table into(random.chance(80) ? second::image_words : second::image_words - 1, 5);
   Part text(random.chance(80) ? second::max_text : random.below(500), 1);
 
@@ -108,7 +108,7 @@ void check_calls(Random& random, const Table& table, const Model& model) {
   check(named.number == 0 || named.number == 21 || named.number == 23, "step_by: 21, 23");
   check(fired.number == 0 || fired.number == 21 || fired.number >= 27, "timed_step: 21, 27 to 30");
   check(merged.number == 0 || (merged.number >= 24 && merged.number <= 26), "merge: 24 to 26");
-  if (into.size() < second::image_words) check(merged == second::refuse(24, {42120}), "24 before 25 and 26");
+  if (into.size() < second::image_words) check(merged == second::refuse(24, {67848}), "24 before 25 and 26");
 }
 
 }  // namespace
@@ -121,6 +121,7 @@ void test_damaged_inputs() {
     const Table table = second::image_of_model(model);
     for (unsigned tries = 0; tries < 4; ++tries) check_text(second::damaged_text(random, text));
     check_calls(random, table, model);
+    check_calls(random, second::lengthened_table(random, table), model);
     check_calls(random, second::damaged_table(random, table), model);
     check_calls(random, second::damaged_table(random, table), model);
 
@@ -132,7 +133,8 @@ void test_damaged_inputs() {
       check_report(request, state, budget, text);
       check_report(request, state, budget, second::damaged_text(random, text));
       lend_report(second::damaged_request(random, request) + text);
-      lend_report(second::damaged_request(random, request) + second::damaged_text(random, text));
+      const Text other_request = second::damaged_request(random, request);
+      lend_report(other_request + second::damaged_text(random, text));
     }
   }
   // Plain noise.

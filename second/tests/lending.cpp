@@ -6,14 +6,38 @@
 
 namespace {
 
-second::Bytes lent(const Part& bytes) { return {bytes.data(), bytes.size()}; }
-second::Words lent(const Table& words) { return {words.data(), words.size()}; }
+// Every loan goes into the digest of what was lent.
+template <class Loan>
+void note(const Loan& loan) {
+  std::uint64_t sum = loan.size();
+  for (const auto& element : loan) sum = (sum ^ static_cast<std::uint64_t>(element)) * 0x100000001b3u + 1;
+  count_lent(sum);
+}
+
+second::Bytes lent(const Part& bytes) {
+  note(bytes);
+  return {bytes.data(), bytes.size()};
+}
+second::Words lent(const Table& words) {
+  note(words);
+  return {words.data(), words.size()};
+}
 second::Bytes lent(const Text& text) {
+  note(Part(text.begin(), text.end()));
   return {reinterpret_cast<const std::uint8_t*>(text.data()), text.size()};
+}
+std::uint64_t lent(std::uint64_t number) {
+  count_lent(number);
+  return number;
+}
+template <class T>
+second::Lent<T> lent_to_write(std::vector<T>& buffer) {
+  note(buffer);
+  return {buffer.data(), buffer.size()};
 }
 
 bool zero(const second::State& state) {
-  return state.count == 0 && std::all_of(state.parts, state.parts + 16, [](std::uint8_t p) { return p == 0; });
+  return state.count == 0 && std::all_of(state.parts, state.parts + second::max_components, [](std::uint8_t p) { return p == 0; });
 }
 
 // Whether two buffers are the same from `first` on.
@@ -48,7 +72,7 @@ void check_stepped(const second::StepAnswer& answer, const char* moved, const ch
 
 second::Answer lend_read(const Text& text, Table& into) {
   const Table before = into;
-  const auto answer = second::read(lent(text), {into.data(), into.size()});
+  const auto answer = second::read(lent(text), lent_to_write(into));
   count(answer.refusal, "read");
   check(same_from(before, into, answer.refusal ? 0 : second::image_words), "read changes an image's words at most");
   return answer;
@@ -56,7 +80,7 @@ second::Answer lend_read(const Text& text, Table& into) {
 
 second::WriteAnswer lend_write(const Table& table, Part& into) {
   const Part before = into;
-  const auto answer = second::write(lent(table), {into.data(), into.size()});
+  const auto answer = second::write(lent(table), lent_to_write(into));
   count(answer.refusal, "written");
   check(!answer.refusal || answer.length == 0, "refused write holds zeros");
   check(same_from(before, into, answer.length), "write changes the text's bytes at most");
@@ -66,6 +90,18 @@ second::WriteAnswer lend_write(const Table& table, Part& into) {
 second::Answer lend_recognise(const Table& table) {
   const auto answer = second::recognise(lent(table));
   count(answer.refusal, "recognised");
+  return answer;
+}
+
+second::Answer lend_component(const Table& table, std::uint64_t i) {
+  const auto answer = second::component(lent(table), lent(i));
+  count(answer.refusal, "component");
+  return answer;
+}
+
+second::Answer lend_compatible(const Table& table) {
+  const auto answer = second::compatible(lent(table));
+  count(answer.refusal, "compatible");
   return answer;
 }
 
@@ -89,7 +125,7 @@ second::StepAnswer lend_step(const Table& table, const Part& state) {
 }
 
 second::StepAnswer lend_step_by(const Table& table, const Part& state, std::uint64_t action) {
-  const auto answer = second::step_by(lent(table), lent(state), action);
+  const auto answer = second::step_by(lent(table), lent(state), lent(action));
   check_stepped(answer, "step_by moved", "step_by stable");
   check(answer.outcome != second::StepOutcome::stable, "a named action never answers stable");
   return answer;
@@ -97,7 +133,7 @@ second::StepAnswer lend_step_by(const Table& table, const Part& state, std::uint
 
 second::SettleAnswer lend_settle(const Table& table, const Part& state, std::uint64_t budget, Part& trace) {
   const Part before = trace;
-  const auto answer = second::settle(lent(table), lent(state), budget, {trace.data(), trace.size()});
+  const auto answer = second::settle(lent(table), lent(state), lent(budget), lent_to_write(trace));
   check_settled(answer, "settle stable", "settle unsettled");
   check(same_from(before, trace, answer.steps), "later bytes of the trace stay");
   return answer;
@@ -112,7 +148,7 @@ second::SettleAnswer lend_settle_list(const Table& table, const Part& state, con
 second::TimedAnswer lend_timed_step(const Table& table, const Part& state, Clocks& ticks) {
   using second::TimedOutcome;
   const Clocks before = ticks;
-  const auto answer = second::timed_step(lent(table), lent(state), {ticks.data(), ticks.size()});
+  const auto answer = second::timed_step(lent(table), lent(state), lent_to_write(ticks));
   count(answer.refusal, answer.outcome == TimedOutcome::fired ? "timed fired" : "timed quiet");
   check((answer.outcome == TimedOutcome::refused) == (answer.refusal.number != 0), "outcome fits refusal");
   if (answer.outcome != TimedOutcome::fired) {
@@ -126,7 +162,7 @@ second::TimedAnswer lend_timed_step(const Table& table, const Part& state, Clock
 
 second::Answer lend_merge(const Table& table, std::uint64_t i, Table& into) {
   const Table before = into;
-  const auto answer = second::merge(lent(table), i, {into.data(), into.size()});
+  const auto answer = second::merge(lent(table), lent(i), lent_to_write(into));
   count(answer.refusal, "merged");
   check(same_from(before, into, answer.refusal ? 0 : second::image_words), "merge changes an image's words at most");
   return answer;

@@ -15,7 +15,8 @@ void test_model_refusals() {
     const second::Refusal confluent = lend_confluent(table).refusal;
     check(accepted == (by_confluence ? none : entry.refusal), std::string(entry.why) + ": accept says " + shown(accepted));
     check(confluent == entry.refusal, std::string(entry.why) + ": confluent says " + shown(confluent));
-    // Such a model is read and written all the same (B9, C8), and 18 stops settling alone (E13).
+    // Such a model is read and written all the same (DECISIONS: "reading never gives 10 to 18"), and 18
+    // stops settling alone ("single steps and the timed step give 10 to 17 but never 18").
     Part text(second::max_text, 0);
     check(lend_write(table, text).length == entry.text.size(), std::string(entry.why) + ": written");
     const Part state(table[0], 0);

@@ -54,10 +54,33 @@ void system_violations(const Model& model, std::vector<Violation>& found) {
         const Kind a = one.kind[x], b = other.kind[x];
         const bool a_out = a == Kind::out || a == Kind::uout, b_out = b == Kind::out || b == Kind::uout;
         const bool a_urgent = a == Kind::uin || a == Kind::uout, b_urgent = b == Kind::uin || b == Kind::uout;
-        if (a_out && b_out) found.push_back({16, 15, x, i, j});
-        if ((((one.clocks & other.clocks) >> x) & 1) != 0) found.push_back({16, 16, x, i, j});
-        if (a != Kind::absent && b != Kind::absent && a_urgent != b_urgent) found.push_back({16, 17, x, i, j});
+        if (a_out && b_out) found.push_back({32, 15, x, i, j});
+        if ((((one.clocks & other.clocks) >> x) & 1) != 0) found.push_back({32, 16, x, i, j});
+        if (a != Kind::absent && b != Kind::absent && a_urgent != b_urgent) found.push_back({32, 17, x, i, j});
       }
+}
+
+second::Refusal least_of(const std::vector<Violation>& found) {
+  if (found.empty()) return {};
+  const Violation least = *std::min_element(found.begin(), found.end());
+  const std::uint64_t number = least[1];
+  if (number == 10 || number == 11 || number == 14) return second::refuse(number, {least[2]});
+  return second::refuse(number, {least[2], least[3], least[4]});
+}
+
+// Those of one component, and of the system, are asked for apart too.
+void check_parts(const Model& model) {
+  const Table table = second::image_of_model(model);
+  std::uint64_t base = 0;
+  for (std::uint64_t c = 0; c < model.components.size(); ++c) {
+    std::vector<Violation> found;
+    component_violations(model.components[c], c, base, found);
+    base += model.components[c].rows.size();
+    check(lend_component(table, c).refusal == least_of(found), "the least violation of a component");
+  }
+  std::vector<Violation> found;
+  system_violations(model, found);
+  check(lend_compatible(table).refusal == least_of(found), "the least violation of the system");
 }
 
 second::Refusal least_violation(const Model& model) {
@@ -68,11 +91,7 @@ second::Refusal least_violation(const Model& model) {
     base += model.components[c].rows.size();
   }
   system_violations(model, found);
-  if (found.empty()) return {};
-  const Violation least = *std::min_element(found.begin(), found.end());
-  const std::uint64_t number = least[1];
-  if (number == 10 || number == 11 || number == 14) return second::refuse(number, {least[2]});
-  return second::refuse(number, {least[2], least[3], least[4]});
+  return least_of(found);
 }
 
 }  // namespace
@@ -87,6 +106,7 @@ void test_places_by_force() {
     const second::Refusal expected = least_violation(model);
     const second::Refusal accepted = lend_accept(second::image_of_model(model)).refusal;
     check(accepted == expected, "the least violation is " + shown(expected) + ", not " + shown(accepted));
+    check_parts(model);
     ++met[expected.number];
   }
   for (unsigned number = 10; number <= 17; ++number)

@@ -27,7 +27,7 @@ inline const Text two =
     "clk 2 1\n";
 
 inline const TextCase text_cases[] = {
-    // 2: the form of numbers; six digits or a needless zero are no number (A1), nor are signs (A2).
+    // 2: the form of numbers; six digits or a needless zero are no number, nor are signs (DECISIONS, Numbers and fields).
     {"comp 99999 0\n", 4, 1},
     {"comp 100000 0\n", 2, 1},
     {"comp 00 0\n", 2, 1},
@@ -45,7 +45,7 @@ inline const TextCase text_cases[] = {
     {"comp \xd9\xa1 0\n", 2, 1},
     {Text("comp 1\0 0\n", 10), 2, 1},
     {Text("comp 1 0\0\n", 10), 2, 1},
-    // 2: fields and lines (A3 to A7).
+    // 2: fields and lines (DECISIONS, Numbers and fields).
     {"comp  1 0\n", 2, 1},
     {" comp 1 0\n", 2, 1},
     {"comp 1 0 \n", 2, 1},
@@ -69,14 +69,14 @@ inline const TextCase text_cases[] = {
     {"from 0 0\ncomp 1 0\n", 2, 1},
     {"comp 1 0", 2, 1},
     {"act 0 in", 2, 1},
-    {"comp 65 0", 2, 1},
-    {"comp 65 0\ncomp 1 0", 4, 1},
+    {"comp 129 0", 2, 1},
+    {"comp 129 0\ncomp 1 0", 4, 1},
     {"act 0 in\ncomp 1 0", 3, 1},
     {"comp 1 0\ncomp 1 0", 2, 2},
     {"comp 1 0\nrow 0 - 0 - 0", 2, 2},
     {"x", 2, 1},
     {" ", 2, 1},
-    // `act` and `clk` (A8, A9).
+    // `act` and `clk` (DECISIONS: "a kind of `act`", "`clk` with 2").
     {"comp 1 0\nact 0 silent\n", 2, 2},
     {"comp 1 0\nact 0 IN\n", 2, 2},
     {"comp 1 0\nact 0 in_\n", 2, 2},
@@ -93,7 +93,7 @@ inline const TextCase text_cases[] = {
     {"comp 1 0\nclk 0 \n", 2, 2},
     {"comp 1 0\nclk 0 01\n", 2, 2},
     {"comp 1 0\nclk 0\n", 2, 2},
-    // Shapes of a row (A10, A11).
+    // Shapes of a row (DECISIONS: "a guard is", "resets have the shape").
     {two + "row 0 0,1 1 - 0\n", 2, 7},
     {two + "row 0 -- 1 - 0\n", 2, 7},
     {two + "row 0  1 - 0\n", 2, 7},
@@ -113,7 +113,7 @@ inline const TextCase text_cases[] = {
     {two + "row 0 - 0 1,1 0\n", 6, 7},
     {two + "row 0 - 0 0,1,2 0\n", 0, 0},
     {two + "row 0 - 0 0,2,1 0\n", 6, 7},
-    // 3: turns (B1).
+    // 3: turns (DECISIONS: "out of turn").
     {"act 0 in\n", 3, 1},
     {"act 64 in\n", 3, 1},
     {"clk 0 0\n", 3, 1},
@@ -129,14 +129,21 @@ inline const TextCase text_cases[] = {
     {"comp 1 0\nclk 0 0\ncomp 1 0\nact 0 in\n", 0, 0},
     {"comp 1 0\ncomp 1 0\n", 0, 0},
     {"comp 1 0\nact 0 in\nrow 0 - 0 - 0\n", 0, 0},
-    // 4: ranges (A12, A13).
+    // 4: ranges (DECISIONS: "start, from and target", "an action or clock of 64").
     {"comp 0 0\n", 4, 1},
-    {"comp 65 0\n", 4, 1},
-    {"comp 65 70\n", 4, 1},
+    {"comp 129 0\n", 4, 1},
+    {"comp 129 130\n", 4, 1},
     {"comp 2 2\n", 4, 1},
     {"comp 2 1\n", 0, 0},
     {"comp 64 63\n", 0, 0},
-    {"comp 64 64\n", 4, 1},
+    {"comp 65 64\n", 0, 0},
+    {"comp 128 127\n", 0, 0},
+    {"comp 128 128\n", 4, 1},
+    {"comp 128 0\nact 0 in\nrow 127 - 0 - 127\n", 0, 0},
+    {"comp 128 0\nact 0 in\nrow 128 - 0 - 127\n", 4, 3},
+    {"comp 128 0\nact 0 in\nrow 127 - 0 - 128\n", 4, 3},
+    {"comp 128 0\nact 64 in\n", 4, 2},
+    {"comp 128 0\nclk 64 0\n", 4, 2},
     {two + "row 2 - 0 - 0\n", 4, 7},
     {two + "row 0 - 0 - 2\n", 4, 7},
     {two + "row 0 - 64 - 0\n", 4, 7},
@@ -145,7 +152,7 @@ inline const TextCase text_cases[] = {
     {two + "row 0 - 0 63,64 0\n", 4, 7},
     {two + "row 0 - 9 9,64 0\n", 4, 7},
     {two + "row 0 - 0 64,1 0\n", 4, 7},
-    // 5: what the last component lacks (B2, B5).
+    // 5: what the last component lacks (DECISIONS: "its component", "within a row line").
     {two + "row 0 - 2 - 0\n", 5, 7},
     {two + "row 0 3 1 - 0\n", 5, 7},
     {two + "row 0 - 0 3 0\n", 5, 7},
@@ -156,7 +163,7 @@ inline const TextCase text_cases[] = {
     {two + "row 1 - 1 - 0\nrow 0 - 2 - 0\n", 5, 8},
     {two + "row 0 - 0 3,0 0\n", 5, 7},
     {two + "row 0 - 0 2,2,3 0\n", 5, 7},
-    // 6: ascent (B3, B4).
+    // 6: ascent (DECISIONS: "begin anew", "rows ascend by").
     {"comp 1 0\nact 1 in\nact 0 in\n", 6, 3},
     {"comp 1 0\nact 0 in\nact 0 out\n", 6, 3},
     {"comp 1 0\nact 0 in\nact 63 in\nact 62 in\n", 6, 4},
@@ -182,7 +189,7 @@ inline const TextCase text_cases[] = {
     {"comp 1 0\nact 0 in\nclk 62 0\nclk 63 0\nrow 0 - 0 62 0\nrow 0 - 0 63 0\n", 0, 0},
     {"comp 1 0\nact 0 in\nclk 62 0\nclk 63 0\nrow 0 - 0 63 0\nrow 0 - 0 62 0\n", 6, 6},
     {two + "row 0 - 0 - 0\ncomp 1 0\nact 0 in\nrow 0 - 0 - 0\n", 0, 0},
-    // 8 is the empty text alone (B8).
+    // 8 is the empty text alone (DECISIONS: "only the empty text").
     {"", 8, 0},
 };
 
@@ -192,15 +199,15 @@ inline Text repeated(const Text& piece, unsigned times) {
   return text;
 }
 
-// 7 is last within its line, and before any later line (B6).
+// 7 is last within its line, and before any later line (DECISIONS: "7 counts rows").
 inline void add_counts(std::vector<TextCase>& to) {
   const Text one = tabbed("comp 1 0\n");
-  to.push_back({repeated(one, 16), 0, 0});
-  to.push_back({repeated(one, 17), 7, 17});
-  to.push_back({repeated(one, 17) + "x\n", 7, 17});
-  to.push_back({repeated(one, 16) + tabbed("comp 65 0\n"), 4, 17});
-  to.push_back({repeated(one, 16) + tabbed("comp 1\n"), 2, 17});
-  to.push_back({repeated(one, 16) + tabbed("comp 1 0"), 2, 17});
+  to.push_back({repeated(one, 32), 0, 0});
+  to.push_back({repeated(one, 33), 7, 33});
+  to.push_back({repeated(one, 33) + "x\n", 7, 33});
+  to.push_back({repeated(one, 32) + tabbed("comp 129 0\n"), 4, 33});
+  to.push_back({repeated(one, 32) + tabbed("comp 1\n"), 2, 33});
+  to.push_back({repeated(one, 32) + tabbed("comp 1 0"), 2, 33});
 
   Text rows = tabbed("comp 64 0\n");
   for (unsigned action = 0; action < 16; ++action) rows += tabbed("act " + std::to_string(action) + " in\n");
@@ -218,7 +225,7 @@ inline void add_counts(std::vector<TextCase>& to) {
   to.push_back({rows + tabbed("comp 1 0\nact 0 in\nrow 0 - 0 - 0\n"), 7, 1044});
 }
 
-// The length of a list of resets is no matter of shape (A11).
+// The length of a list of resets is no matter of shape (DECISIONS: "resets have the shape").
 inline void add_long_resets(std::vector<TextCase>& to) {
   Text clocks, all;
   for (unsigned clock = 0; clock < 64; ++clock) {
@@ -239,7 +246,7 @@ inline second::Model padded_to(std::uint64_t bytes) {
   return second::padded_to_text(second::generate(random, second::Family::confluent, second::Size::small), bytes);
 }
 
-// 1 counts every byte and comes before all else (B7).
+// 1 counts every byte and comes before all else (DECISIONS: "1 counts every byte").
 inline void add_lengths(std::vector<TextCase>& to) {
   to.push_back({Text(32769, '\n'), 1, 0});
   to.push_back({Text(32768, '\n'), 2, 1});

@@ -12,13 +12,13 @@ void check_case(const Text& text, std::uint64_t number, std::uint64_t place) {
   const second::Refusal expected = number == 0 ? second::Refusal{} : second::refuse(number, {place});
   const second::Refusal answered = lend_read(text, into).refusal;
   check(answered == expected, shown(answered) + " for the text\n" + text.substr(0, 300));
-  // 24 comes last of all (C4).
+  // "In reading it comes last" (DECISIONS, Refusals).
   Table shorter(second::image_words - 1, 0x5555);
-  const second::Refusal short_of = number == 0 ? second::refuse(24, {42120}) : expected;
+  const second::Refusal short_of = number == 0 ? second::refuse(24, {67848}) : expected;
   check(lend_read(text, shorter).refusal == short_of, "a short table, for the text\n" + text.substr(0, 300));
 }
 
-// Such a table keeps every count, but is the image of no model (C1).
+// Such a table keeps every count, but is the image of no model (DECISIONS, The table).
 void test_overlong() {
   const second::Model over = cases::padded_to(32769);
   check(second::text_of_model(over).size() == 32769, "one byte over");

@@ -11,6 +11,8 @@ namespace {
 
 constexpr std::int64_t floor_tick = -(std::int64_t{1} << 40);
 
+unsigned long floored = 0;  // clocks that would have gone below the floor
+
 void check_timed(const second::Model& model, const Part& state, const Clocks& before) {
   second::Set declared = 0, waiting = 0;
   bool stable = true;
@@ -52,6 +54,7 @@ void check_timed(const second::Model& model, const Part& state, const Clocks& be
   check(answer.outcome == second::TimedOutcome::fired && answer.v == least, "timed: the least value fires");
   for (unsigned x = 0; x < 64; ++x) {
     const bool falls = second::has(declared, x);
+    if (falls && before[x] - least < floor_tick) ++floored;
     check(after[x] == (falls ? std::max(before[x] - least, floor_tick) : before[x]), "timed: each clock");
   }
 }
@@ -87,9 +90,13 @@ void test_timed_runs() {
     const second::Model model = second::generate(random, family, static_cast<second::Size>(round % 20 == 0 ? 2 : round % 2));
     for (unsigned tries = 0; tries < 3; ++tries) {
       const Part state = tries == 2 ? second::generate_state(random, model) : second::generate_calm_state(random, model);
-      check_timed(model, state, tries == 0 ? second::generate_ticks(random) : second::generate_odd_ticks(random));
+      check_timed(model, state, tries == 0 ? second::generate_ticks_for(random, model, state)
+                                : tries == 1 ? second::generate_odd_ticks(random) : second::generate_ticks(random));
     }
     if (family == second::Family::accepted || family == second::Family::clashing) continue;
-    check_settling(model, second::generate_state(random, model), random.below(40));
+    const Part from = second::generate_state(random, model);
+    const unsigned budget = random.below(40);
+    check_settling(model, from, budget);
   }
+  check(floored > 500, "the floor is often met: " + std::to_string(floored));
 }
