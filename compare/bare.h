@@ -4,8 +4,10 @@
 
 #include <stdint.h>
 
-static inline const uint64_t *bare_block(const uint64_t *table, unsigned c) { return table + 1 + 73 * c; }
-static inline const uint64_t *bare_row(const uint64_t *table, uint64_t r) { return table + 1169 + 4 * r; }
+#include "floodneedle.h"
+
+static inline const uint64_t *bare_block(const uint64_t *table, unsigned c) { return table + 1 + FLOODNEEDLE_BLOCK * c; }
+static inline const uint64_t *bare_row(const uint64_t *table, uint64_t r) { return bare_block(table, FLOODNEEDLE_COMPONENTS) + 4 * r; }
 
 /* The lowest urgent output that leaves the state, or 64. */
 static inline uint64_t bare_lowest(const uint64_t *table, const uint8_t *state) {

@@ -208,34 +208,36 @@ int main(int count, char** arguments) {
   lines(texts, recognise);
 
   const std::vector<Subject> sizes = {paper_model(),         one_component(8, 16),  one_component(16, 16), one_component(32, 16),
-                                      one_component(64, 16), one_component(16, 64), many_components(16),   slow_sets()};
-  head("The checks: small; from 128 to 1,024 rows in one component; 1,024 rows with few states, in 16 components, and with sets that shrink slowly");
+                                      one_component(64, 16), one_component(16, 64), one_component(128, 8), many_components(16),
+                                      many_components(32),   slow_sets(64),         slow_sets(128)};
+  head("The checks: small; from 128 to 1,024 rows in one component; 1,024 rows with few states, with many, in 16 and in 32 components, and with sets that shrink slowly");
   lines(sizes, recognise);
   lines(sizes, component);
   lines(sizes, compatible);
   lines(sizes, accept);
   lines(sizes, confluent);
 
-  const std::vector<Subject> running = {paper_model(), many_components(2), many_components(8), many_components(16)};
+  const std::vector<Subject> running = {paper_model(), many_components(2), many_components(8), many_components(16), many_components(32)};
   head("One step; settling with a budget of 100; the program's report of that");
   lines(running, step);
   lines(running, [](const Subject& s) { return settle(s, 100); });
   lines(running, report);
 
-  step_lines({few_move(2), few_move(8), few_move(16), all_move(2), all_move(8), all_move(16)});
+  step_lines({few_move(2), few_move(8), few_move(16), few_move(32), all_move(2), all_move(8), all_move(16), all_move(32)});
 
-  const std::vector<Subject> timing = {waiting(1), waiting(4), waiting(16)};
+  const std::vector<Subject> timing = {waiting(1), waiting(4), waiting(16), waiting(32)};
   head("The timed step");
   lines(timing, timed_step);
 
-  const std::vector<Subject> merging = {paper_model(),  to_merge(8, 0), to_merge(8, 1), to_merge(8, 2),
-                                        to_merge(8, 4), to_merge(8, 8), to_merge(4, 8)};
-  head("Merging components 0 and 1: M, then 64 pairs of states with more and more rows, then 16 pairs");
+  const std::vector<Subject> merging = {paper_model(),     to_merge(8, 8, 0), to_merge(8, 8, 1),  to_merge(8, 8, 2),
+                                        to_merge(8, 8, 4), to_merge(8, 8, 8), to_merge(16, 8, 4), to_merge(4, 4, 8)};
+  head("Merging components 0 and 1: M, then 64 pairs of states with more and more rows, then 128 pairs, then 16");
   lines(merging, merge);
 
   const Subject large = one_component(64, 16);
-  const std::vector<Subject> wrong = {damaged(large, "wrong in its first block", 8), damaged(large, "wrong in its first row", 1169),
-                                      damaged(large, "wrong in its last row", 5261)};
+  constexpr std::size_t first_row = FLOODNEEDLE_TABLE - 4 * FLOODNEEDLE_ROWS, last_row = FLOODNEEDLE_TABLE - 4;
+  const std::vector<Subject> wrong = {damaged(large, "wrong in its first block", 8), damaged(large, "wrong in its first row", first_row),
+                                      damaged(large, "wrong in its last row", last_row)};
   head("Tables that are no image: the 64 states by 16 actions with one word wrong");
   lines(wrong, recognise);
   return kept == 1 ? 1 : 0;

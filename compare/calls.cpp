@@ -63,6 +63,12 @@ Said engine_write(const Lent& l) {
 }
 Said second_write(const Lent& l) { return said(second::write(l.table, l.out)); }
 
+Said engine_start(const Lent& l) {
+  floodneedle_start(l.table.front, l.table.length, l.after->data(), l.answer);
+  return answered_with_state(l);
+}
+Said second_start(const Lent& l) { return said(second::start(l.table)); }
+
 Said engine_component(const Lent& l) {
   floodneedle_component(l.table.front, l.table.length, l.number, l.answer);
   return answered(l);
@@ -158,6 +164,7 @@ const Call recognise = {"recognise", engine_recognise, second_recognise, numbers
 const Call check_text = {"check_text", engine_check_text, second_check_text, numbers({{1, 8}}, {"done"}), answered_kind};
 const Call read = {"read", engine_read, second_read, numbers({{1, 8}, {24, 24}}, {"done"}), answered_kind};
 const Call write = {"write", engine_write, second_write, numbers({{20, 20}, {24, 24}}, {"done"}), answered_kind};
+const Call start = {"start", engine_start, second_start, numbers({{20, 20}}, {"done"}), answered_kind};
 const Call component = {"component", engine_component, second_component, numbers({{10, 14}, {20, 20}, {25, 25}}, {"done"}), answered_kind};
 const Call compatible = {"compatible", engine_compatible, second_compatible, numbers({{15, 17}, {20, 20}}, {"done"}), answered_kind};
 const Call accept = {"accept", engine_accept, second_accept, numbers({{10, 17}, {20, 20}}, {"done"}), answered_kind};
@@ -173,7 +180,7 @@ const Call merge = {"merge", engine_merge, second_merge, numbers({{10, 17}, {20,
 const Call report = {"report", engine_report, second_report, numbers({{1, 18}, {21, 22}, {24, 24}}, {"stable", "unsettled"}), printed_kind};
 const Call advance = {"advance", engine_advance, second_advance, numbers({{10, 17}, {20, 21}}, {"moved", "stable"}), answered_kind};
 
-const Call* const all[16] = {&recognise, &check_text, &read,    &write,  &component,   &compatible, &accept, &confluent,
-                             &step,      &step_by,    &settle,  &settle_list, &timed_step, &merge,  &report, &advance};
+const Call* const all[17] = {&recognise, &check_text, &read,    &write,       &start,      &component, &compatible, &accept, &confluent,
+                             &step,      &step_by,    &settle,  &settle_list, &timed_step, &merge,     &report,     &advance};
 
 }  // namespace calls

@@ -17,9 +17,10 @@ struct Call {
 
 namespace calls {
 
-extern const Call recognise, check_text, read, write, component, compatible, accept, confluent, step, step_by, settle, settle_list, timed_step, merge, report, advance;
+extern const Call recognise, check_text, read, write, start, component, compatible, accept, confluent, step, step_by, settle, settle_list, timed_step, merge,
+    report, advance;
 
 // In the order of the header.
-extern const Call* const all[16];
+extern const Call* const all[17];
 
 }  // namespace calls

@@ -63,6 +63,14 @@ inline Said said(const second::WriteAnswer& a) {
   return s;
 }
 
+inline Said said(const second::StartAnswer& a) {
+  Said s = said(FLOODNEEDLE_DONE, a.refusal);
+  s.answer.count = a.count;
+  s.answer.resets = a.started;
+  set_after(s, a.state);
+  return s;
+}
+
 inline Said said(const second::StepAnswer& a) {
   Said s = said(a.outcome == second::StepOutcome::moved ? FLOODNEEDLE_MOVED : FLOODNEEDLE_STABLE, a.refusal);
   s.answer.action = a.action;

@@ -40,7 +40,7 @@ void try_texts(Random& random, const std::string& text) {
 void try_calls(Random& random, const Table& table, const Drawn& drawn) {
   Loan loan;
   loan.table = table;
-  for (const Call* call : {&calls::recognise, &calls::compatible, &calls::accept, &calls::confluent}) try_call(*call, loan);
+  for (const Call* call : {&calls::recognise, &calls::start, &calls::compatible, &calls::accept, &calls::confluent}) try_call(*call, loan);
 
   const unsigned length = random.below(4);
   const std::size_t exact = drawn.text.size();

@@ -34,13 +34,17 @@ void add_turns(Component& component, unsigned action, Kind kind, second::Set res
   for (unsigned s = 0; s < component.states; ++s) add_row(component, s, action, resets, (s + by) % component.states);
 }
 
-// A component of four states and a clock that hears four actions of each of the next three.
+// How many outputs each of so many components has: four, or what the actions are enough for.
+unsigned outputs_of_each(unsigned components) { return std::min(4u, second::members / components); }
+
+// A component of four states and a clock that hears all outputs of each of the next three.
 Component hearing_next(unsigned c, unsigned components, Kind kind, unsigned clock) {
+  const unsigned own = outputs_of_each(components);
   Component component;
   component.states = 4;
   component.clocks = second::only(clock);
   for (unsigned other = c + 1; other <= c + 3 && other < c + components; ++other)
-    for (unsigned k = 0; k < 4; ++k) add_turns(component, 4 * (other % components) + k, kind, 0, k);
+    for (unsigned k = 0; k < own; ++k) add_turns(component, own * (other % components) + k, kind, 0, k);
   return component;
 }
 
@@ -78,8 +82,9 @@ Subject one_component(unsigned states, unsigned actions) {
 Subject many_components(unsigned components) {
   Model model;
   for (unsigned c = 0; c < components; ++c) model.components.push_back(hearing_next(c, components, Kind::uin, c));
+  const unsigned own = outputs_of_each(components);
   for (unsigned c = 0; c < components; ++c)
-    for (unsigned k = 0; k < 4; ++k) add_turns(model.components[c], 4 * c + k, Kind::uout, second::only(c), k);
+    for (unsigned k = 0; k < own; ++k) add_turns(model.components[c], own * c + k, Kind::uout, second::only(c), k);
   return subject(counted(components, "components"), model);
 }
 
@@ -91,7 +96,7 @@ Subject few_move(unsigned components) {
   for (unsigned s = 0; s < 4; ++s) {
     for (unsigned action = 0; action < second::members; ++action)
       if (first.kind[action] == Kind::uin) add_row(first, s, action, 0, s);
-    add_row(first, s, s, first.clocks, (s + 1) % 4);
+    add_row(first, s, s % outputs_of_each(components), first.clocks, (s + 1) % 4);
   }
   return subject(counted(components, "components, few move"), many.model);
 }
@@ -108,31 +113,32 @@ Subject all_move(unsigned components) {
   model.components.push_back(first);
   for (unsigned c = 1; c < components; ++c) {
     Component component;
-    component.states = 3;
+    component.states = components > 16 ? 2 : 3;
     component.clocks = second::only(c);
-    for (unsigned action = 0; action < 16; ++action) add_turns(component, action, Kind::uin, action % 5 == 0 ? component.clocks : 0, action % 3);
+    for (unsigned action = 0; action < 16; ++action) add_turns(component, action, Kind::uin, action % 5 == 0 ? component.clocks : 0, action % component.states);
     model.components.push_back(component);
   }
   return subject(counted(components, "components, all move"), model);
 }
 
-Subject slow_sets() {
+Subject slow_sets(unsigned states) {
   Component component;
-  component.states = 64;
-  component.start = 63;
+  component.states = states;
+  component.start = states - 1;
   component.clocks = 1;
-  for (unsigned action = 0; action < 16; ++action) {
+  for (unsigned action = 0; action < second::max_rows / states; ++action) {
     component.kind[action] = Kind::uout;
-    for (unsigned s = 0; s < 64; ++s) add_row(component, s, action, 0, s == 0 ? 0 : s - 1);
+    for (unsigned s = 0; s < states; ++s) add_row(component, s, action, 0, s == 0 ? 0 : s - 1);
   }
-  return subject("64 passes", {{component}});
+  return subject(counted(states, "passes"), {{component}});
 }
 
 Subject waiting(unsigned components) {
   Model model;
+  const unsigned own = outputs_of_each(components);
   for (unsigned c = 0; c < components; ++c) {
-    Component component = hearing_next(c, components, Kind::in, 4 * c);
-    for (unsigned clock = 4 * c; clock < 4 * c + 4; ++clock) {
+    Component component = hearing_next(c, components, Kind::in, own * c);
+    for (unsigned clock = own * c; clock < own * c + own; ++clock) {
       component.clocks |= second::only(clock);
       component.kind[clock] = Kind::out;
       for (unsigned s = 0; s < 4; ++s) add_row(component, s, clock, second::only(clock), (s + clock) % 4, static_cast<int>(clock));
@@ -143,16 +149,16 @@ Subject waiting(unsigned components) {
   return subject(counted(components, components == 1 ? "component waiting" : "components waiting"), model);
 }
 
-Subject to_merge(unsigned states, unsigned actions) {
+Subject to_merge(unsigned left, unsigned right, unsigned actions) {
   Model model;
   for (unsigned c = 0; c < 2; ++c) {
     Component component;
-    component.states = states;
+    component.states = c == 0 ? left : right;
     component.clocks = second::only(c);
     for (unsigned k = 0; k < actions; ++k) add_turns(component, 2 * k + c, Kind::in, k % 2 == 0 ? component.clocks : 0, k);
     model.components.push_back(component);
   }
-  return subject(counted(states * states, "pairs into ") + counted(2 * states * states * actions, "rows"), model);
+  return subject(counted(left * right, "pairs into ") + counted(2 * left * right * actions, "rows"), model);
 }
 
 Subject damaged(Subject whole, const std::string& name, std::size_t word) {

@@ -22,23 +22,24 @@ Subject long_rows(unsigned states);
 // One component of so many states by urgent actions: with 16 of them every state has 120 pairs that must meet again, with 64 it has 2,016.
 Subject one_component(unsigned states, unsigned actions);
 
-// So many components of 4 states by 16 urgent actions, 4 of their own and 12 of the next three; it never settles.
+// So many components of 4 states by 16 urgent actions, 4 of their own and 12 of the next three; it never settles. Past 16 components there are
+// too few actions, and each has 2 of its own and 6 of the next three.
 Subject many_components(unsigned components);
 
-// The same, but the first component has its four outputs in turn: they are the ones taken, and only the three before it hear them.
+// The same, but the first component has its outputs in turn: they are the ones taken, and only the three before it hear them.
 Subject few_move(unsigned components);
 
 // One component that never settles, and others that hear all of its actions.
 Subject all_move(unsigned components);
 
-// One component of 64 states by 16 actions whose active sets shrink by one state in each pass over the rows.
-Subject slow_sets();
+// One component of so many states and 1,024 rows whose active sets shrink by one state in each pass over the rows.
+Subject slow_sets(unsigned states);
 
-// So many components of 4 states that wait for four clocks each, and hear others; every state is stable.
+// So many components of 4 states that wait for four clocks each (two past 16 components), and hear others; every state is stable.
 Subject waiting(unsigned components);
 
-// Two components of so many states by inputs each, which have nothing in common.
-Subject to_merge(unsigned states, unsigned actions);
+// Two components of so many states, by so many inputs each, which have nothing in common.
+Subject to_merge(unsigned left, unsigned right, unsigned actions);
 
 // The same with one word of its table wrong: no image.
 Subject damaged(Subject whole, const std::string& name, std::size_t word);

@@ -17,8 +17,8 @@
  * over them arrives at can depend on which of several enabled actions is taken first. Whoever loops over them asks `confluent` once.
  *
  * Stack, in bytes, the deepest seen of each call (`make -C compare stack` measures it, and holds these numbers to it):
- *   recognise 240, check_text 560, read 704, write 400, accept 1888, confluent 2064, merge 2080, step 2208, advance 2320, step_by 2048,
- *   settle 2320, settle_list 2336, timed_step 2144, report 44464 (it keeps a table of its own).
+ *   recognise 240, check_text 560, read 704, write 400, start 496, component 1568, compatible 656, accept 1872, confluent 2064, merge 2048,
+ *   step 2224, advance 2288, step_by 2016, settle 2368, settle_list 2320, timed_step 2048, report 70240 (it keeps a table of its own).
  *
  * A model is a text (docs/MODEL.md). A table is what floodneedle_read makes of it, 64-bit words at the front of a buffer; what lies behind
  * the image is neither read nor changed. No caller need know what stands where in it, though docs/TABLE.md says it.
@@ -36,14 +36,20 @@
 extern "C" {
 #endif
 
-/* Sizes: words of a table, bytes of the longest text, bytes of a state, the largest budget, which is also the longest list or trace, the
- * number of clock values, and bytes of the longest report there can be. */
-#define FLOODNEEDLE_TABLE 5265
+/* Limits of a model: components, states of a component, rows in all, bytes of its text. */
+#define FLOODNEEDLE_COMPONENTS 32
+#define FLOODNEEDLE_STATES 128
+#define FLOODNEEDLE_ROWS 1024
 #define FLOODNEEDLE_TEXT 32768
-#define FLOODNEEDLE_STATE 16
+
+/* Sizes: words of a component's block (137) and of a table (8,481), bytes of a state, the largest budget, which is also the longest list or
+ * trace, the number of clock values, and bytes of the longest report there can be. */
+#define FLOODNEEDLE_BLOCK (8 + FLOODNEEDLE_STATES + 1)
+#define FLOODNEEDLE_TABLE (1 + FLOODNEEDLE_BLOCK * FLOODNEEDLE_COMPONENTS + 4 * FLOODNEEDLE_ROWS)
+#define FLOODNEEDLE_STATE FLOODNEEDLE_COMPONENTS
 #define FLOODNEEDLE_BUDGET 4096
 #define FLOODNEEDLE_CLOCKS 64
-#define FLOODNEEDLE_REPORT 994466
+#define FLOODNEEDLE_REPORT 1322226
 
 enum floodneedle_kind {
   FLOODNEEDLE_REFUSED = 0,
@@ -156,8 +162,8 @@ void floodneedle_confluent(const uint64_t *table, size_t table_words, struct flo
 /* Writes the image of the model in which components i and i + 1 are replaced by their product, unreachable pairs included, to the front
  * of a second table; the first table stays as it is. The two tables may not overlap: a model that is merged into its own table can be
  * answered done, and what is left there is no image.
- * Refuses: as accept, then 24 (bytes needed: 8 for each of FLOODNEEDLE_TABLE words), 25 (i + 1 is no component), 26 (over 64 states, or
- * over 1,024 rows or 32,768 bytes of text in the whole model). */
+ * Refuses: as accept, then 24 (bytes needed: 8 for each of FLOODNEEDLE_TABLE words), 25 (i + 1 is no component), 26 (over
+ * FLOODNEEDLE_STATES states, or over FLOODNEEDLE_ROWS rows or FLOODNEEDLE_TEXT bytes of text in the whole model). */
 void floodneedle_merge(const uint64_t *table, size_t table_words, uint64_t i, uint64_t *into, size_t into_words,
                        struct floodneedle_answer *answer);
 

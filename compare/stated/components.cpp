@@ -86,9 +86,28 @@ void in_order() {
   expect("18 is not asked", calls::compatible, lent_table(clashing), done());
 }
 
+// Where a system begins: every component's start, and the clocks that any of them sets there. It asks for an image and nothing else.
+Said begins(const Bytes& state, std::uint64_t clocks) {
+  Said s = done(state.size());
+  s.answer.resets = clocks;
+  std::copy(state.begin(), state.end(), s.after.begin());
+  return s;
+}
+
+void starts() {
+  expect("M begins", calls::start, lent_table(image(m)), begins({0, 0}, 1));
+  expect("M with no clock set", calls::start, lent_table(image(with(m, "clk 0 1", "clk 0 0"))), begins({0, 0}, 0));
+  expect("starts and clocks of both", calls::start, lent_table(image(tabbed("comp 4 2\nclk 0 1\nclk 5 0\ncomp 2 1\nclk 63 1\n"))),
+         begins({2, 1}, 1 | std::uint64_t{1} << 63));
+  Table wrong = image(m);
+  wrong.back() = 1;
+  for (const Table& table : {Table(), Table(1, 2), wrong}) expect("no image has no start", calls::start, lent_table(table), refused(20, {0}));
+}
+
 }  // namespace
 
 void stated_components() {
+  starts();
   stated_answers();
   one_alone();
   places();

@@ -15,14 +15,14 @@ Loan merging(const Table& table, std::uint64_t i, std::size_t room) {
 
 // Into a table that is just long enough and one that is longer; 24 of one that is short comes before 25 and 26.
 void expect_merged(const std::string& why, const Table& table, std::uint64_t i, const Said& expected, const Table& merged) {
-  for (std::size_t room : {second::image_words, second::image_words + 5}) {
+  for (std::size_t room : {table_words, table_words + 5}) {
     const Loan loan = merging(table, i, room);
     Loan left = loan;
     if (expected.answer.kind == FLOODNEEDLE_DONE) std::copy(merged.begin(), merged.end(), left.into.begin());
     expect(why, calls::merge, loan, expected, left);
   }
-  for (std::size_t room : {second::image_words - 1, std::uint64_t{0}})
-    expect("24 first: " + why, calls::merge, merging(table, i, room), refused(24, {42120}));
+  for (std::size_t room : {table_words - 1, std::uint64_t{0}})
+    expect("24 first: " + why, calls::merge, merging(table, i, room), refused(24, {table_bytes}));
 }
 
 void expect_refused(const std::string& why, const Table& table, std::uint64_t i, std::uint64_t number) {
@@ -33,34 +33,38 @@ constexpr std::uint64_t high = std::uint64_t{1} << 63;
 
 void indices() {
   // Component c has c + 1 states, so that each merge gives another model.
-  Text sixteen, first_two_merged = tabbed("comp 2 0\n"), last_two_merged;
-  for (unsigned c = 0; c < 16; ++c) {
-    const Text line = tabbed("comp " + std::to_string(c < 14 ? c + 1 : c - 11) + " 0\n");
-    sixteen += line;
+  Text all, first_two_merged = tabbed("comp 2 0\n"), last_two_merged;
+  for (unsigned c = 0; c < 32; ++c) {
+    const Text line = tabbed("comp " + std::to_string(c < 30 ? c + 1 : c - 27) + " 0\n");
+    all += line;
     if (c > 1) first_two_merged += line;
-    if (c < 14) last_two_merged += line;
+    if (c < 30) last_two_merged += line;
   }
   last_two_merged += tabbed("comp 12 0\n");
-  expect_merged("i of 0", image(sixteen), 0, done(), image(first_two_merged));
-  expect_merged("i of 14", image(sixteen), 14, done(), image(last_two_merged));
-  for (std::uint64_t i : {std::uint64_t{15}, std::uint64_t{16}, std::uint64_t{255}, std::uint64_t{256}, std::uint64_t{1} << 32, high, largest - 1, largest}) {
-    expect_refused("25: 16 components, i of " + std::to_string(i), image(sixteen), i, 25);
+  expect_merged("i of 0", image(all), 0, done(), image(first_two_merged));
+  expect_merged("i of 30", image(all), 30, done(), image(last_two_merged));
+  for (std::uint64_t i : {std::uint64_t{31}, std::uint64_t{32}, std::uint64_t{255}, std::uint64_t{256}, std::uint64_t{1} << 32, high, largest - 1, largest}) {
+    expect_refused("25: 32 components, i of " + std::to_string(i), image(all), i, 25);
     expect_refused("25: M, i of " + std::to_string(i), image(m), i, 25);
   }
   expect_refused("25: M, i of 1", image(m), 1, 25);
-  for (std::uint64_t i : {std::uint64_t{0}, high, largest}) expect_refused("25: one component", image(tabbed("comp 64 0\n")), i, 25);
+  for (std::uint64_t i : {std::uint64_t{0}, high, largest}) expect_refused("25: one component", image(tabbed("comp 128 0\n")), i, 25);
 }
 
 void states() {
   const auto pair = [](unsigned a, unsigned b) { return image(tabbed("comp " + std::to_string(a) + " " + std::to_string(a - 1) + "\ncomp " + std::to_string(b) + " " + std::to_string(b - 1) + "\n")); };
-  const Table full = image(tabbed("comp 64 63\n"));
-  expect_merged("64 states, 8 by 8", pair(8, 8), 0, done(), full);
-  expect_merged("64 states, 64 by 1", pair(64, 1), 0, done(), full);
-  expect_merged("64 states, 1 by 64", pair(1, 64), 0, done(), full);
-  expect_refused("26: 65 states", pair(13, 5), 0, 26);
-  expect_refused("26: 66 states, 6 by 11", pair(6, 11), 0, 26);
-  expect_refused("26: 66 states, 33 by 2", pair(33, 2), 0, 26);
-  expect_refused("26: 4,096 states", pair(64, 64), 0, 26);
+  const Table full = image(tabbed("comp 128 127\n"));
+  expect_merged("65 states", pair(13, 5), 0, done(), image(tabbed("comp 65 64\n")));
+  expect_merged("128 states, 64 by 2", pair(64, 2), 0, done(), full);
+  expect_merged("128 states, 8 by 16", pair(8, 16), 0, done(), full);
+  expect_merged("128 states, 128 by 1", pair(128, 1), 0, done(), full);
+  expect_merged("128 states, 1 by 128", pair(1, 128), 0, done(), full);
+  expect_refused("26: 129 states", pair(43, 3), 0, 26);
+  expect_refused("26: 130 states, 10 by 13", pair(10, 13), 0, 26);
+  expect_refused("26: 130 states, 65 by 2", pair(65, 2), 0, 26);
+  expect_refused("26: 192 states", pair(64, 3), 0, 26);
+  expect_refused("26: 256 states", pair(128, 2), 0, 26);
+  expect_refused("26: 16,384 states", pair(128, 128), 0, 26);
 }
 
 // Hears these actions in every state and goes to state 0.

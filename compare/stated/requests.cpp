@@ -10,7 +10,7 @@ void expect_report(const std::string& input, const std::string& report) {
   const std::string why = "the input " + input.substr(0, 100);
   Loan loan;
   loan.bytes = bytes_of(input);
-  loan.out = Bytes(FLOODNEEDLE_REPORT + 3, 0x77);
+  loan.out = Bytes(report_bytes + 3, 0x77);
   Loan left = loan;
   std::copy(report.begin(), report.end(), left.out.begin());
   expect(why, calls::report, loan, done(report.size()), left);
@@ -29,32 +29,32 @@ std::string range(unsigned from, unsigned to) {
   return line;
 }
 
-// 4,096 steps, each of which resets all 64 clocks, of 16 components in states of two digits: it fills the shortest buffer that is not refused.
+// 4,096 steps, each of which resets all 64 clocks, of 32 components in states of three digits: it fills the shortest buffer that is not refused.
 void longest_report() {
-  const std::string all = range(0, 63), states = "10" + repeated(",10", 15);
-  Text model = tabbed("comp 11 0\nact 10 uout\n");
+  const std::string all = range(0, 63), states = "100" + repeated(",100", 31);
+  Text model = tabbed("comp 101 100\nact 10 uout\n");
   for (unsigned x = 0; x < 64; ++x) model += tabbed("clk " + std::to_string(x) + " 0\n");
-  model += tabbed("row 10 - 10 " + all + " 10\n") + repeated(tabbed("comp 11 0\n"), 15);
+  model += tabbed("row 100 - 10 " + all + " 100\n") + repeated(tabbed("comp 101 100\n"), 31);
   const std::string tail = " " + all + " " + states + "\n";
   std::string report;
   for (unsigned n = 1; n <= 4096; ++n) report += tabbed("step " + std::to_string(n) + " 10" + tail);
   report += tabbed("unsettled 4096" + tail);
   Loan loan;
   loan.bytes = bytes_of(tabbed("from " + states + " 4096\n") + model);
-  loan.out = Bytes(FLOODNEEDLE_REPORT, 0x77);
+  loan.out = Bytes(report_bytes, 0x77);
   Loan left = loan;
   left.out = bytes_of(report);
-  expect("the longest report", calls::report, loan, done(FLOODNEEDLE_REPORT), left);
+  expect("the longest report", calls::report, loan, done(report_bytes), left);
 }
 
 // Behind a request that is 21 and 22 at its turn: lines count from the model's first, and all that reading and the checks refuse comes first.
 void behind_the_request() {
-  const Text request = tabbed("from 64 4097\n");
+  const Text request = tabbed("from 128 4097\n");
   for (const cases::TextCase& entry : cases::text_cases)
     if (entry.number > 0) expect_report(request + tabbed(entry.text), printed(second::refuse(entry.number, {entry.place})));
   for (const cases::ModelCase& entry : cases::model_cases)
     expect_report(request + tabbed(entry.text), printed(entry.refusal ? entry.refusal : second::refuse(21, {0})));
-  expect_report(request + repeated(tabbed("comp 1 0\n"), 17), "refused\t7\t17\n");
+  expect_report(request + repeated(tabbed("comp 1 0\n"), 33), "refused\t7\t33\n");
 }
 
 }  // namespace
@@ -90,12 +90,18 @@ void stated_requests() {
   expect_report(tabbed("from 0 4097\n") + loop, "refused\t22\t0\n");
   longest_report();
 
+  // As many numbers as there may be components, of three digits, and one more.
+  const Text all = repeated(tabbed("comp 128 127\n"), 32), widest = "127" + repeated(",127", 31);
+  expect_report(tabbed("from " + widest + " 4096\n") + all, tabbed("stable 0 - " + widest + "\n"));
+  expect_report(tabbed("from " + widest + ",127 4096\n") + all, "refused\t21\t0\n");
+  expect_report(tabbed("from 128" + widest.substr(3) + " 4096\n") + all, "refused\t21\t0\n");
+
   // 24 whatever the input: the need is one for all.
   for (const Text& input : {Text(), tabbed("from 1,0 100\n") + m, Text("x")})
-    for (std::uint64_t room : {std::uint64_t{0}, std::uint64_t{256}, std::uint64_t{FLOODNEEDLE_REPORT} - 1}) {
+    for (std::uint64_t room : {std::uint64_t{0}, std::uint64_t{256}, report_bytes - 1}) {
       Loan loan;
       loan.bytes = bytes_of(input);
       loan.out = Bytes(room, 0x77);
-      expect("a short buffer for the report", calls::report, loan, refused(24, {FLOODNEEDLE_REPORT}));
+      expect("a short buffer for the report", calls::report, loan, refused(24, {report_bytes}));
     }
 }

@@ -34,24 +34,26 @@ void expect_21(const std::string& why, const Table& table, const Bytes& state, s
 
 void states() {
   const Table table = image(m);
-  const Table sixteen = image(repeated(tabbed("comp 1 0\n"), 16));
-  for (std::size_t count : {0, 1, 3, 15, 16, 17, 64, 255, 256, 258, 1000})
+  const Table all = image(repeated(tabbed("comp 1 0\n"), 32)), wide = image(tabbed("comp 128 0\n"));
+  for (std::size_t count : {0, 1, 3, 16, 31, 32, 33, 64, 255, 256, 258, 1000})
     expect_21("M with a state of " + std::to_string(count), table, Bytes(count, 0));
-  for (std::size_t count : {0, 1, 15, 17, 32, 272}) expect_21("16 components with a state of " + std::to_string(count), sixteen, Bytes(count, 0));
-  // No buffer is so long: the call is told so of sixteen bytes, and may read no others.
+  for (std::size_t count : {0, 1, 16, 31, 33, 64, 288}) expect_21("32 components with a state of " + std::to_string(count), all, Bytes(count, 0));
+  // No buffer is so long: the call is told so of 32 bytes, and may read no others.
   for (std::uint64_t parts : {high - 1, high, high + 2, largest}) {
-    expect_21("M with a state of 2^63 or so", table, Bytes(16, 0), parts - 16);
-    expect_21("16 components with a state of 2^63 or so", sixteen, Bytes(16, 0), parts - 16);
+    expect_21("M with a state of 2^63 or so", table, Bytes(32, 0), parts - 32);
+    expect_21("32 components with a state of 2^63 or so", all, Bytes(32, 0), parts - 32);
   }
-  for (const Bytes& state : {Bytes{2, 0}, {0, 3}, {64, 0}, {0, 64}, {255, 0}, {0, 255}, {255, 255}, {128, 0}})
+  for (const Bytes& state : {Bytes{2, 0}, {0, 3}, {128, 0}, {0, 128}, {255, 0}, {0, 255}, {255, 255}, {127, 0}})
     expect_21("M with a part out of range", table, state);
-  Bytes state(16, 0);
-  expect("16 components with a state of 16", calls::step, lent_state(sixteen, state), stable(state));
-  expect("16 components with a state of 16, lent", calls::advance, lent_state(sixteen, state), stable({}));
-  for (std::size_t at : {0, 7, 15}) {
+  for (std::uint8_t part : {128, 129, 255}) expect_21("128 states with a part out of range", wide, {part});
+  expect("128 states, in the last", calls::step, lent_state(wide, {127}), stable({127}));
+  Bytes state(32, 0);
+  expect("32 components with a state of 32", calls::step, lent_state(all, state), stable(state));
+  expect("32 components with a state of 32, lent", calls::advance, lent_state(all, state), stable({}));
+  for (std::size_t at : {0, 15, 16, 31}) {
     Bytes wrong = state;
     wrong[at] = 1;
-    expect_21("16 components with a part out of range", sixteen, wrong);
+    expect_21("32 components with a part out of range", all, wrong);
   }
 }
 

@@ -11,6 +11,54 @@ Loan with_front(Loan loan, const Table& front) {
   return loan;
 }
 
+// A text of so many lines, each alike, behind a head: done, and one line more is refused.
+void most_lines(const Text& head, const Text& line, std::uint64_t most, unsigned number, std::uint64_t place) {
+  Loan loan;
+  loan.bytes = bytes_of(head + repeated(line, most));
+  expect("as many as there may be", calls::check_text, loan, done());
+  loan.bytes = bytes_of(head + repeated(line, most + 1));
+  expect("one more", calls::check_text, loan, refused(number, {place}));
+}
+
+void COMPONENTS() { most_lines("", tabbed("comp 2 1\n"), FLOODNEEDLE_COMPONENTS, 7, FLOODNEEDLE_COMPONENTS + 1); }
+
+void STATES() {
+  const std::uint64_t states = FLOODNEEDLE_STATES;
+  Loan loan;
+  loan.bytes = bytes_of(tabbed("comp " + std::to_string(states) + " " + std::to_string(states - 1) + "\n"));
+  expect("as many states as there may be", calls::check_text, loan, done());
+  loan.bytes = bytes_of(tabbed("comp " + std::to_string(states + 1) + " 0\n"));
+  expect("a state more", calls::check_text, loan, refused(4, {1}));
+}
+
+// Rows that differ by their clock and their target alone: 63 clocks, 17 states.
+Text rows(std::uint64_t count) {
+  Text text = "comp 17 0\nact 0 out\n";
+  for (unsigned x = 0; x < 63; ++x) text += "clk " + std::to_string(x) + " 0\n";
+  for (std::uint64_t r = 0; r < count; ++r)
+    text += "row " + std::to_string(r / 63) + " " + std::to_string(r % 63) + " 0 - 0\n";
+  return tabbed(text);
+}
+
+void ROWS() {
+  const std::uint64_t most = FLOODNEEDLE_ROWS;
+  Loan loan;
+  loan.bytes = bytes_of(rows(most));
+  expect("as many rows as there may be", calls::check_text, loan, done());
+  loan.bytes = bytes_of(rows(most + 1));
+  expect("a row more", calls::check_text, loan, refused(7, {2 + 63 + most + 1}));
+}
+
+// The second component of M has three states: the first word of its block.
+void BLOCK() {
+  Table changed = image(m);
+  expect("M", calls::recognise, lent_table(changed), done());
+  changed[1 + FLOODNEEDLE_BLOCK] = 1;
+  expect("the second component with a state, whose rows leave others", calls::recognise, lent_table(changed), refused(20, {0}));
+  changed[1 + FLOODNEEDLE_BLOCK] = 3;
+  expect("with its three states again", calls::recognise, lent_table(changed), done());
+}
+
 void TABLE() {
   const std::uint64_t words = FLOODNEEDLE_TABLE;
   const Table table = image(m);
@@ -51,11 +99,7 @@ void TEXT() {
 void STATE() {
   const std::uint64_t parts = FLOODNEEDLE_STATE;
   const Text component = tabbed("comp 2 1\n");
-  Loan loan;
-  loan.bytes = bytes_of(repeated(component, parts));
-  expect("as many components as parts", calls::check_text, loan, done());
-  loan.bytes = bytes_of(repeated(component, parts + 1));
-  expect("a component more", calls::check_text, loan, refused(7, {parts + 1}));
+  most_lines("", component, parts, 7, parts + 1);
   // Every byte of the state after is written, and none behind it.
   const Bytes ones(parts, 1);
   const Table table = image(repeated(component, parts));

@@ -31,6 +31,13 @@ Said settled(floodneedle_kind verdict, std::uint64_t steps, std::uint64_t resets
 Said fired(std::uint64_t ticks, std::uint64_t action, std::uint64_t resets, const Bytes& after);
 Said quiet(const Bytes& after);
 
+// ---- the limits, and what docs/TABLE.md and the longest report make of them: stated here, and neither program's own
+
+constexpr unsigned max_components = 32, max_states = 128;
+constexpr std::uint64_t block_words = 137, rows_at = 4385, table_words = 8481, table_bytes = 67848, report_bytes = 1322226;
+static_assert(FLOODNEEDLE_COMPONENTS == max_components && FLOODNEEDLE_STATES == max_states && FLOODNEEDLE_BLOCK == block_words);
+static_assert(FLOODNEEDLE_TABLE == table_words && FLOODNEEDLE_STATE == max_components && FLOODNEEDLE_REPORT == report_bytes);
+
 // ---- what is lent
 
 constexpr std::uint64_t largest = ~std::uint64_t{0};

@@ -19,26 +19,26 @@ void expect_read(const Text& text, const Said& expected) {
   Loan plain;
   plain.bytes = bytes_of(text);
   expect(why, calls::check_text, plain, expected);
-  for (std::size_t room : {second::image_words, second::image_words + 5}) {
+  for (std::size_t room : {table_words, table_words + 5}) {
     const Loan loan = lent_text(text, room);
     Loan left = loan;
     const Table table = image(text);
     if (good) std::copy(table.begin(), table.end(), left.into.begin());
     expect(why, calls::read, loan, expected, left);
   }
-  for (std::size_t room : {second::image_words - 1, std::uint64_t{0}})
-    expect(why + " into a short table", calls::read, lent_text(text, room), good ? refused(24, {42120}) : expected);
+  for (std::size_t room : {table_words - 1, std::uint64_t{0}})
+    expect(why + " into a short table", calls::read, lent_text(text, room), good ? refused(24, {table_bytes}) : expected);
 }
 
 // M's image, word by word as docs/TABLE.md lays it out.
 void image_of_m() {
-  Table words(second::image_words, 0);
+  Table words(table_words, 0);
   const auto put = [&](std::size_t at, std::initializer_list<std::uint64_t> values) { std::copy(values.begin(), values.end(), words.begin() + at); };
   put(0, {2});
   put(1, {2, 0, 0, 1, 0, 2, 1, 1, 0, 1, 2});
-  put(74, {3, 0, 0, 0, 2, 4, 0, 0, 2, 3, 5, 6});
-  put(1169, {0, 1, 0, 1, 1, 0, 1, 0, 1, 0, 0, 1, 1, 0, 0, 1, 2, 0, 0, 2, 1, 0, 0, 2});
-  const Loan loan = lent_text(m, second::image_words);
+  put(1 + block_words, {3, 0, 0, 0, 2, 4, 0, 0, 2, 3, 5, 6});
+  put(rows_at, {0, 1, 0, 1, 1, 0, 1, 0, 1, 0, 0, 1, 1, 0, 0, 1, 2, 0, 0, 2, 1, 0, 0, 2});
+  const Loan loan = lent_text(m, table_words);
   Loan left = loan;
   left.into = words;
   expect("M's image", calls::read, loan, done(), left);
@@ -52,7 +52,7 @@ void every_byte() {
       text[at] = static_cast<char>(value);
       const std::string where = "byte " + std::to_string(at) + " as " + std::to_string(value);
       compare(Input::stated, calls::check_text, lent_text(text, 0), where);
-      compare(Input::stated, calls::read, lent_text(text, second::image_words), where);
+      compare(Input::stated, calls::read, lent_text(text, table_words), where);
     }
 }
 

@@ -10,7 +10,7 @@ namespace {
 using Lines = std::vector<std::string>;
 
 const Lines odd_fields = {"",    "-",  "--",    "0",      "1",   "2",    "3",   "5",    "15",   "16",
-                          "63",  "64", "65",    "99999",  "100000", "00", "01",  "007",  "+1",   "-1",
+                          "31", "32", "33", "63",  "64", "65", "127", "128", "129",    "99999",  "100000", "00", "01",  "007",  "+1",   "-1",
                           "-0",  "1.0", "0x1",  " 1",     "1 ",  "0,1",  "1,0", "1,1",  "0,",   ",0",
                           "0,,1", "-,0", "0,-", "63,64",  "in",  "out",  "uin", "uout", "Uout", "silent",
                           "comp", "act", "clk", "row",    "Comp", "name", "\r",  "1\r",  "from"};
@@ -19,6 +19,8 @@ const Lines odd_lines = {"",
                          "comp\t1\t0",
                          "comp\t64\t63",
                          "comp\t65\t0",
+                         "comp\t128\t127",
+                         "comp\t129\t0",
                          "comp\t0\t0",
                          "comp\t2\t2",
                          "comp\t100000\t0",
@@ -141,7 +143,7 @@ std::string damaged_request(Random& random, std::string request) {
       }
       case 2: {
         const std::size_t at = request.find('\t');
-        if (at != std::string::npos) request.insert(at + 1, random.chance(50) ? "64," : "0,");
+        if (at != std::string::npos) request.insert(at + 1, random.chance(50) ? "128," : "0,");
         break;
       }
       case 3: {

@@ -19,15 +19,15 @@ enum class Family {
   clashing,       // accepted, not confluent
   endless,        // confluent, unsettled at any budget from any state
   sharing,        // confluent, many components that share most actions
-  components_16,  // confluent, 16 components
+  components_32,  // confluent, 32 components
   rows_1024,      // confluent, 1,024 rows
-  states_64,      // confluent, a component of 64 states
+  states_128,     // confluent, a component of 128 states
   text_32768,     // confluent, a text within a few bytes of the limit or at it
 };
 
 constexpr Family families[] = {
     Family::accepted,      Family::confluent, Family::clashing,  Family::endless,   Family::sharing,
-    Family::components_16, Family::rows_1024, Family::states_64, Family::text_32768};
+    Family::components_32, Family::rows_1024, Family::states_128, Family::text_32768};
 
 Model generate(Random& random, Family family, Size size);
 

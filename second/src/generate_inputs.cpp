@@ -35,7 +35,7 @@ std::vector<std::uint8_t> generate_odd_state(Random& random, const Model& model)
   switch (random.below(5)) {
     case 0: state.pop_back(); break;
     case 1: state.push_back(0); break;
-    case 2: state.resize(random.below(40)); break;
+    case 2: state.resize(random.below(70)); break;
     case 3: {
       const unsigned c = random.below(state.size());
       const unsigned states = model.components[c].states;
@@ -171,7 +171,7 @@ std::vector<std::int64_t> generate_odd_ticks(Random& random) {
 std::uint64_t generate_index(Random& random, const Model& model) {
   if (random.chance(20))
     return random.pick(std::vector<std::uint64_t>{largest, largest - 1, std::uint64_t{1} << 63,
-                                                  std::uint64_t{1} << 32, 15, 16, 17});
+                                                  std::uint64_t{1} << 32, 31, 32, 33});
   return random.below(model.components.size());
 }
 

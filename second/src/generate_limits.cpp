@@ -46,16 +46,17 @@ Component hearer(const Model& model, unsigned states, const std::vector<unsigned
 }  // namespace
 
 Model padded_to_rows(Model model, std::uint64_t rows) {
-  const std::uint64_t lacking = rows - count_rows(model);
-  const auto actions = static_cast<unsigned>(lacking / max_states);
-  const auto rest = static_cast<unsigned>(lacking % max_states);
-  if (actions > 0) model.components.push_back(hearer(model, max_states, lowest_actions(actions)));
-  if (rest > 0) model.components.push_back(hearer(model, 1, lowest_actions(rest)));
+  auto lacking = static_cast<unsigned>(rows - count_rows(model));
+  // Less than 128 are left for two states, and one at most for one: never over 64 actions.
+  for (unsigned states : {max_states, 2u, 1u}) {
+    if (lacking / states > 0) model.components.push_back(hearer(model, states, lowest_actions(lacking / states)));
+    lacking %= states;
+  }
   return model;
 }
 
 Model padded_to_text(Model model, std::uint64_t bytes) {
-  Component padding = hearer(model, max_states, lowest_plain_actions(model, 8));
+  Component padding = hearer(model, max_states, lowest_plain_actions(model, 4));
   padding.clocks = ~clocks_of(model);
   model.components.push_back(padding);
   std::uint64_t length = text_of_model(model).size();
@@ -73,7 +74,7 @@ Model padded_to_text(Model model, std::uint64_t bytes) {
   return model;
 }
 
-Model with_64_states(Random& random, Model model) {
+Model with_128_states(Random& random, Model model) {
   Component ring = hearer(model, max_states, lowest_actions(3));
   ring.start = random.below(max_states);
   // Turning by a fixed sum for each action commutes.

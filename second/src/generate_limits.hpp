@@ -6,13 +6,13 @@
 
 namespace second {
 
-// For models of at most 14 components and fewer rows than asked for.
+// For models with room for three components and fewer rows than asked for.
 Model padded_to_rows(Model model, std::uint64_t rows);
 
-// For models of at most 15 components and half the text at most. The number may be over the
+// For models with room for one component, half the rows at most and half the text at most. The number may be over the
 // limit of a text; the model is then none.
 Model padded_to_text(Model model, std::uint64_t bytes);
 
-Model with_64_states(Random& random, Model model);
+Model with_128_states(Random& random, Model model);
 
 }  // namespace second

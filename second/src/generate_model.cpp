@@ -28,8 +28,8 @@ Shape drawn_shape(Random& random, Size size) {
       shape.clocks = random.between(0, 16);
       break;
     case Size::large:
-      shape.components = random.between(1, 16);
-      shape.states = random.between(1, 64);
+      shape.components = random.between(1, max_components);
+      shape.states = random.between(1, max_states);
       shape.actions = random.between(1, 64);
       shape.clocks = random.between(0, 64);
       break;
@@ -121,20 +121,20 @@ Model generate(Random& random, Family family, Size size) {
     case Family::endless:
       return endless_model(random, shape);
     case Family::sharing:
-      shape.components = size == Size::small ? random.between(2, 4) : random.between(4, 16);
+      shape.components = size == Size::small ? random.between(2, 4) : random.between(4, max_components);
       shape.hearing_percent = random.between(70, 100);
       shape.urgent_percent = 80;
       return confluent_model(random, shape);
-    case Family::components_16:
+    case Family::components_32:
       shape.components = max_components;
       return confluent_model(random, shape);
     case Family::rows_1024:
-      return padded_to_rows(modest_model(random, 13), max_rows);
-    case Family::states_64:
-      return with_64_states(random, modest_model(random, 15));
+      return padded_to_rows(modest_model(random, max_components - 3), max_rows);
+    case Family::states_128:
+      return with_128_states(random, modest_model(random, max_components - 1));
     case Family::text_32768: {
       const std::uint64_t shortfall = random.chance(50) ? 0 : random.below(4);
-      return padded_to_text(modest_model(random, 15), max_text - shortfall);
+      return padded_to_text(modest_model(random, max_components - 1), max_text - shortfall);
     }
   }
   return accepted_model(random, shape);
@@ -142,7 +142,7 @@ Model generate(Random& random, Family family, Size size) {
 
 Model generate_overlong(Random& random) {
   const std::uint64_t excess = random.between(1, 4);
-  return padded_to_text(modest_model(random, 15), max_text + excess);
+  return padded_to_text(modest_model(random, max_components - 1), max_text + excess);
 }
 
 }  // namespace second

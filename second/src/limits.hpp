@@ -1,13 +1,13 @@
-// The limits that paper 01 sets on a model and on a call.
+// The limits on a model and on a call: paper 01's, with 32 components and 128 states.
 #pragma once
 
 #include <cstdint>
 
 namespace second {
 
-constexpr unsigned max_components = 16;
+constexpr unsigned max_components = 32;
 constexpr unsigned max_rows = 1024;
-constexpr unsigned max_states = 64;
+constexpr unsigned max_states = 128;
 constexpr unsigned members = 64;  // actions and clocks are both 0 to 63
 constexpr std::uint64_t max_text = 32768;
 constexpr std::uint64_t max_budget = 4096;   // also the longest list

@@ -7,7 +7,7 @@
 namespace second {
 
 // "Pair (s, t) as s times the second's state count plus t", unreachable pairs included. For
-// compatible components whose product has at most 64 states.
+// compatible components whose product has at most 128 states.
 Component product(const Component& first, const Component& second);
 
 struct Merging {

@@ -51,4 +51,17 @@ bool operator==(const State& a, const State& b) {
          std::equal(a.parts, a.parts + std::min<std::uint64_t>(a.count, max_components), b.parts);
 }
 
+State start_of(const Model& model) {
+  State state;
+  for (const Component& component : model.components)
+    state.parts[state.count++] = static_cast<std::uint8_t>(component.start);
+  return state;
+}
+
+Set started_of(const Model& model) {
+  Set clocks = 0;
+  for (const Component& component : model.components) clocks = joined(clocks, component.started);
+  return clocks;
+}
+
 }  // namespace second

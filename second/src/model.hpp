@@ -71,4 +71,8 @@ struct State {
 
 bool operator==(const State& a, const State& b);
 
+// Where the system begins: each component's start, and the clocks that some component sets there.
+State start_of(const Model& model);
+Set started_of(const Model& model);
+
 }  // namespace second

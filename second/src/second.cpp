@@ -85,6 +85,12 @@ Answer recognise(Words table) {
   return {};
 }
 
+StartAnswer start(Words table) {
+  const auto model = model_of_image(table);
+  if (!model) return refused<StartAnswer>(refuse(20, {0}));
+  return {Refusal{}, model->components.size(), started_of(*model), start_of(*model)};
+}
+
 Answer component(Words table, std::uint64_t i) {
   const auto model = model_of_image(table);
   if (!model) return {refuse(20, {0})};

@@ -21,6 +21,13 @@ struct WriteAnswer {
   std::uint64_t length = 0;  // of the text, at the buffer's front
 };
 
+struct StartAnswer {
+  Refusal refusal;
+  std::uint64_t count = 0;  // of components
+  Set started = 0;          // the clocks set at the start
+  State state;
+};
+
 enum class StepOutcome : std::uint8_t { refused, moved, stable };
 
 struct StepAnswer {
@@ -58,6 +65,8 @@ Answer read(Bytes text, WordsToWrite into);
 WriteAnswer write(Words table, BytesToWrite into);
 // 20.
 Answer recognise(Words table);
+// 20. Where the system begins; a model that fails 10 to 18 has a start too.
+StartAnswer start(Words table);
 // 20, 25, 10 to 14 of the component at this index; rows are counted over the system.
 Answer component(Words table, std::uint64_t i);
 // 20, 15 to 17.

@@ -52,7 +52,7 @@ void test_20() {
 
 void test_21() {
   const Table table = image(m);
-  const Part wrong[] = {{}, {1}, {0, 0, 0}, {2, 0}, {0, 3}, {0, 255}, {255, 255}, Part(16, 0), Part(17, 0), Part(1000, 0)};
+  const Part wrong[] = {{}, {1}, {0, 0, 0}, {2, 0}, {0, 3}, {0, 255}, {255, 255}, Part(32, 0), Part(33, 0), Part(1000, 0)};
   for (const Part& state : wrong) {
     Part trace(8, 9);
     Clocks ticks(64, 1);
@@ -107,24 +107,26 @@ void test_22_23_24() {
   check(lend_write(table, text).refusal == refuse(24, {m.size()}), "24: write");
   check(lend_write(table, none).refusal == refuse(24, {m.size()}), "24: write to nothing");
   Table short_of(second::image_words - 1, 9);
-  check(lend_read(m, short_of).refusal == refuse(24, {42120}), "24: read");
+  check(lend_read(m, short_of).refusal == refuse(24, {67848}), "24: read");
 }
 
 void test_25_26() {
   const Table table = image(m);
   Table into(second::image_words, 9);
   Table shorter(second::image_words - 1, 9);
-  for (std::uint64_t i : {std::uint64_t{1}, std::uint64_t{2}, std::uint64_t{15}, std::uint64_t{16}, largest - 1, largest}) {
+  for (std::uint64_t i : {std::uint64_t{1}, std::uint64_t{2}, std::uint64_t{31}, std::uint64_t{32}, largest - 1, largest}) {
     check(lend_merge(table, i, into).refusal == refuse(25, {0}), "25: " + std::to_string(i));
-    check(lend_merge(table, i, shorter).refusal == refuse(24, {42120}), "24 before 25");
+    check(lend_merge(table, i, shorter).refusal == refuse(24, {67848}), "24 before 25");
   }
   check(lend_merge(image(tabbed("comp 1 0\n")), 0, into).refusal == refuse(25, {0}), "25: one component");
 
-  const Table fits = image(tabbed("comp 8 7\ncomp 8 7\n"));
-  check(!lend_merge(fits, 0, into).refusal && into[1] == 64 && into[2] == 63, "64 states");
-  check(lend_merge(image(tabbed("comp 13 0\ncomp 5 0\n")), 0, into).refusal == refuse(26, {0}), "26: 65 states");
-  check(lend_merge(image(tabbed("comp 64 0\ncomp 64 0\n")), 0, into).refusal == refuse(26, {0}), "26: 4,096 states");
-  check(lend_merge(image(tabbed("comp 64 0\ncomp 2 0\n")), 0, shorter).refusal == refuse(24, {42120}), "24 before 26");
+  const Table fits = image(tabbed("comp 16 15\ncomp 8 7\n"));
+  check(!lend_merge(fits, 0, into).refusal && into[1] == 128 && into[2] == 127, "128 states");
+  check(!lend_merge(image(tabbed("comp 64 0\ncomp 2 0\n")), 0, into).refusal && into[1] == 128, "64 times 2 states");
+  check(lend_merge(image(tabbed("comp 64 0\ncomp 3 0\n")), 0, into).refusal == refuse(26, {0}), "26: 64 times 3 states");
+  check(lend_merge(image(tabbed("comp 43 0\ncomp 3 0\n")), 0, into).refusal == refuse(26, {0}), "26: 129 states");
+  check(lend_merge(image(tabbed("comp 128 0\ncomp 128 0\n")), 0, into).refusal == refuse(26, {0}), "26: 16,384 states");
+  check(lend_merge(image(tabbed("comp 64 0\ncomp 3 0\n")), 0, shorter).refusal == refuse(24, {67848}), "24 before 26");
 
   // Rows are those of the whole model (DECISIONS: "limits in all"): 32 and 32 become 64 times 8, and the third component
   // has as many again, which is just the limit.

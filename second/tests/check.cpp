@@ -13,7 +13,7 @@ std::uint64_t lent_digest = 0;
 
 const char* const all_outcomes[] = {
     "read",          "written",          "recognised",     "accepted",       "confluent",
-    "component",     "compatible",
+    "component",     "compatible",       "started",
     "step moved",    "step stable",      "step_by moved",  "settle stable",  "settle unsettled",
     "list stable",   "list unsettled",   "timed fired",    "timed quiet",    "merged",
     "report stable", "report unsettled", "report refused"};

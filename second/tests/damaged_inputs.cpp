@@ -77,6 +77,7 @@ void check_calls(Random& random, const Table& table, const Model& model) {
   Part text(random.chance(80) ? second::max_text : random.below(500), 1);
 
   const auto recognised = lend_recognise(table).refusal;
+  const auto begun = lend_start(table).refusal;
   const auto accepted = lend_accept(table).refusal;
   const auto confluent = lend_confluent(table).refusal;
   const auto written = lend_write(table, text).refusal;
@@ -89,10 +90,11 @@ void check_calls(Random& random, const Table& table, const Model& model) {
 
   if (recognised) {
     check(recognised == second::refuse(20, {0}), "recognising refuses with 20 alone");
-    for (const auto& refusal : {accepted, confluent, written, stepped, named, settled, listed, fired, merged})
+    for (const auto& refusal : {begun, accepted, confluent, written, stepped, named, settled, listed, fired, merged})
       check(refusal == recognised, "20 first, in every call");
     return;
   }
+  check(!begun, "every image has a start");
   check(!written || written.number == 24, "writing needs 20 and 24 only");
   if (accepted) {
     check(accepted.number >= 10 && accepted.number <= 17, "accept gives 10 to 17");
@@ -108,7 +110,7 @@ void check_calls(Random& random, const Table& table, const Model& model) {
   check(named.number == 0 || named.number == 21 || named.number == 23, "step_by: 21, 23");
   check(fired.number == 0 || fired.number == 21 || fired.number >= 27, "timed_step: 21, 27 to 30");
   check(merged.number == 0 || (merged.number >= 24 && merged.number <= 26), "merge: 24 to 26");
-  if (into.size() < second::image_words) check(merged == second::refuse(24, {42120}), "24 before 25 and 26");
+  if (into.size() < second::image_words) check(merged == second::refuse(24, {67848}), "24 before 25 and 26");
 }
 
 }  // namespace

@@ -15,9 +15,9 @@ namespace {
 using second::Family;
 using second::Model;
 
-bool some_64_states(const Model& model) {
+bool some_128_states(const Model& model) {
   for (const second::Component& component : model.components)
-    if (component.states == 64) return true;
+    if (component.states == 128) return true;
   return false;
 }
 
@@ -30,9 +30,9 @@ void check_family(second::Random& random, Family family, second::Size size) {
   const std::uint64_t clash = second::confluence(model).number;
   if (family == Family::clashing) check(clash == 18, what + " clashes");
   else if (family != Family::accepted) check(clash == 0, what + " is confluent");
-  if (family == Family::components_16) check(model.components.size() == 16, what);
+  if (family == Family::components_32) check(model.components.size() == 32, what);
   if (family == Family::rows_1024) check(second::count_rows(model) == 1024, what);
-  if (family == Family::states_64) check(some_64_states(model), what);
+  if (family == Family::states_128) check(some_128_states(model), what);
   const std::size_t bytes = second::text_of_model(model).size();
   if (family == Family::text_32768) check(bytes >= 32764 && bytes <= 32768, what + ": " + std::to_string(bytes));
   if (family == Family::endless) {
@@ -113,6 +113,6 @@ void test_generator() {
   }
   // Drawn once and written down: another machine or compiler that draws otherwise shows here.
   const std::uint64_t drawn = digest(11);
-  check(drawn == 94005999645548715u, "the series of seed 11, which is now " + std::to_string(drawn));
+  check(drawn == 2632515218348920981u, "the series of seed 11, which is now " + std::to_string(drawn));
   check(digest(11) != digest(12), "another seed, another series");
 }

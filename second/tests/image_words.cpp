@@ -45,13 +45,13 @@ void test_image_words() {
   }
   check(images > 10 && none > 10000, "some changes are images, most are none");
 
-  // By hand: what the changed word means (block 0 at 1, block 1 at 74, rows at 1169).
+  // By hand: what the changed word means (block 0 at 1, block 1 at 138, rows at 4385).
   const struct {
     std::size_t word;
     std::uint64_t value;
     bool image;
   } by_hand[] = {
-      {0, 0, false},      {0, 1, false},      {0, 3, false},     {0, 17, false},
+      {0, 0, false},      {0, 1, false},      {0, 3, false},     {0, 33, false},
       {1, 3, false},      // a third state of component 0 needs first[3]
       {2, 1, true},       {2, 2, false},      // start
       {3, 4, true},       {3, 1, false},      {3, 2, false},     // an `in` more; two that overlap
@@ -59,17 +59,17 @@ void test_image_words() {
       {8, 0, true},       {8, 2, false},      {8, 3, false},     // started
       {9, 1, false},      {11, 3, false},     {12, 2, false},    // first: at 0, in turn, zero past the states
       {10, 0, true},      {10, 2, true},      // both rows leave state 1, or state 0
-      {74, 2, false},     {75, 2, true},      {75, 3, false},
-      {1169, 1, true},    {1169, 2, false},   {1169, 64, false}, {1169, 256, false},  // action
-      {1170, 0, true},    {1170, 2, false},   {1170, 65, false},  // guard
-      {1171, 1, true},    {1171, 2, false},   // resets
-      {1172, 0, true},    {1172, 2, false},   // target
-      {1169 + 4 * 3 + 3, 0, true},            // row 3: by action 1 from 1, now to 0
-      {1169 + 4 * 3, 2, true},                // row 3 by action 2: still below row 4, by its target
-      {1169 + 4 * 4, 1, true},                // row 4 by action 1: still above row 3, by its target
-      {1169 + 4 * 4 + 2, 1, false},           // row 4 resets a clock of component 0
-      {1169 + 4 * 6, 1, false},               // the first unused row
-      {5264, 1, false},
+      {138, 2, false},    {139, 2, true},     {139, 3, false},
+      {4385, 1, true},    {4385, 2, false},   {4385, 64, false}, {4385, 256, false},  // action
+      {4386, 0, true},    {4386, 2, false},   {4386, 65, false},  // guard
+      {4387, 1, true},    {4387, 2, false},   // resets
+      {4388, 0, true},    {4388, 2, false},   // target
+      {4385 + 4 * 3 + 3, 0, true},            // row 3: by action 1 from 1, now to 0
+      {4385 + 4 * 3, 2, true},                // row 3 by action 2: still below row 4, by its target
+      {4385 + 4 * 4, 1, true},                // row 4 by action 1: still above row 3, by its target
+      {4385 + 4 * 4 + 2, 1, false},           // row 4 resets a clock of component 0
+      {4385 + 4 * 6, 1, false},               // the first unused row
+      {8480, 1, false},
   };
   for (const auto& entry : by_hand) {
     const bool recognised = check_buffer(changed(table, entry.word, entry.value), "by hand");

@@ -37,7 +37,7 @@ second::Lent<T> lent_to_write(std::vector<T>& buffer) {
 }
 
 bool zero(const second::State& state) {
-  return state.count == 0 && std::all_of(state.parts, state.parts + 16, [](std::uint8_t p) { return p == 0; });
+  return state.count == 0 && std::all_of(state.parts, state.parts + second::max_components, [](std::uint8_t p) { return p == 0; });
 }
 
 // Whether two buffers are the same from `first` on.
@@ -90,6 +90,14 @@ second::WriteAnswer lend_write(const Table& table, Part& into) {
 second::Answer lend_recognise(const Table& table) {
   const auto answer = second::recognise(lent(table));
   count(answer.refusal, "recognised");
+  return answer;
+}
+
+second::StartAnswer lend_start(const Table& table) {
+  const auto answer = second::start(lent(table));
+  count(answer.refusal, "started");
+  if (answer.refusal)
+    check(answer.count == 0 && answer.started == 0 && zero(answer.state), "refused start holds zeros");
   return answer;
 }
 

@@ -17,6 +17,7 @@ using Clocks = std::vector<std::int64_t>;
 second::Answer lend_read(const Text& text, Table& into);
 second::WriteAnswer lend_write(const Table& table, Part& into);
 second::Answer lend_recognise(const Table& table);
+second::StartAnswer lend_start(const Table& table);
 second::Answer lend_component(const Table& table, std::uint64_t i);
 second::Answer lend_compatible(const Table& table);
 second::Answer lend_accept(const Table& table);

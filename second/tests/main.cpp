@@ -24,6 +24,7 @@ int main(int count, char** arguments) {
   timed("paper examples", test_paper_examples);
   test_program(arguments[1], arguments[2], arguments[3]);
   timed("component alone", test_component_alone);
+  timed("starts", test_starts);
   timed("text refusals", test_text_refusals);
   timed("model refusals", test_model_refusals);
   timed("call refusals", test_call_refusals);

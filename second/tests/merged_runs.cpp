@@ -32,6 +32,10 @@ void test_merged_runs() {
     ++merged;
     check(into[0] == table[0] - 1, "one component fewer");
     check(!lend_accept(into).refusal, "a merged model is accepted again");
+    const auto start = lend_start(table);
+    const auto other_start = lend_start(into);
+    check(start.started == other_start.started && paired(model, parts_of(start.state), i) == parts_of(other_start.state),
+          "one start");
     const bool confluent = !lend_confluent(table).refusal;
     if (confluent) check(!lend_confluent(into).refusal, "and confluent if it was");
     for (unsigned from = 0; from < 4; ++from) {

@@ -133,7 +133,9 @@ inline const ModelCase model_cases[] = {
     {"18: unreachable states count", "comp 2 0\nact 0 uout\nact 1 uout\nrow 1 - 0 - 0\nrow 1 - 1 - 0\n", refuse(18, {0, 1, 0, 1})},
     {"18: of the third component",
      before + "comp 1 0\ncomp 2 0\nact 0 uout\nact 1 uout\nrow 0 - 0 - 1\nrow 0 - 1 - 1\n", refuse(18, {2, 0, 0, 1})},
-    {"no lines but `comp`", "comp 64 63\n", none},
+    {"no lines but `comp`", "comp 128 127\n", none},
+    {"18: at the highest state", "comp 128 127\nact 0 uout\nact 1 uout\nrow 127 - 0 - 0\nrow 127 - 1 - 0\n",
+     refuse(18, {0, 127, 0, 1})},
 };
 
 }  // namespace cases

@@ -72,6 +72,6 @@ void test_paper_examples() {
   check(lend_settle(loop, {0}, 4097, long_trace).refusal == second::refuse(22, {0}), "the loop, budget 4,097");
   Table into(second::image_words, 0);
   check(lend_read("", into).refusal == second::refuse(8, {0}), "empty text");
-  check(!lend_read(tabbed("comp 64 0\n"), into).refusal, "64 states");
-  check(lend_read(tabbed("comp 65 0\n"), into).refusal == second::refuse(4, {1}), "65 states");
+  check(!lend_read(tabbed("comp 128 0\n"), into).refusal, "128 states");
+  check(lend_read(tabbed("comp 129 0\n"), into).refusal == second::refuse(4, {1}), "129 states");
 }

@@ -54,9 +54,9 @@ void system_violations(const Model& model, std::vector<Violation>& found) {
         const Kind a = one.kind[x], b = other.kind[x];
         const bool a_out = a == Kind::out || a == Kind::uout, b_out = b == Kind::out || b == Kind::uout;
         const bool a_urgent = a == Kind::uin || a == Kind::uout, b_urgent = b == Kind::uin || b == Kind::uout;
-        if (a_out && b_out) found.push_back({16, 15, x, i, j});
-        if ((((one.clocks & other.clocks) >> x) & 1) != 0) found.push_back({16, 16, x, i, j});
-        if (a != Kind::absent && b != Kind::absent && a_urgent != b_urgent) found.push_back({16, 17, x, i, j});
+        if (a_out && b_out) found.push_back({32, 15, x, i, j});
+        if ((((one.clocks & other.clocks) >> x) & 1) != 0) found.push_back({32, 16, x, i, j});
+        if (a != Kind::absent && b != Kind::absent && a_urgent != b_urgent) found.push_back({32, 17, x, i, j});
       }
 }
 

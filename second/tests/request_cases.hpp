@@ -47,6 +47,7 @@ inline const RequestCase request_cases[] = {
     {"from 2,0 1\n", refuse(21, {0})},
     {"from 1,3 1\n", refuse(21, {0})},
     {"from 1,64 1\n", refuse(21, {0})},
+    {"from 1,128 1\n", refuse(21, {0})},
     {"from 257,0 1\n", refuse(21, {0})},
     {"from 1,256 1\n", refuse(21, {0})},
     {"from 65537,0 1\n", refuse(21, {0})},
@@ -54,6 +55,7 @@ inline const RequestCase request_cases[] = {
     {"from 1 1\n", refuse(21, {0})},
     {"from 1,0,0 1\n", refuse(21, {0})},
     {"from 0,0,0,0,0,0,0,0,0,0,0,0,0,0,0,0,0,0 1\n", refuse(21, {0})},
+    {"from 0,0,0,0,0,0,0,0,0,0,0,0,0,0,0,0,0,0,0,0,0,0,0,0,0,0,0,0,0,0,0,0,0 1\n", refuse(21, {0})},
     {"from 1,3 4097\n", refuse(21, {0})},
 };
 

@@ -14,6 +14,24 @@ Text long_request(unsigned length) {
   return request;
 }
 
+// 32 components in state 100, the first of which resets all 64 clocks at every step.
+void test_longest() {
+  Text text = "comp 101 100\nact 63 uout\n", all;
+  for (unsigned clock = 0; clock < 64; ++clock) {
+    text += "clk " + std::to_string(clock) + " 0\n";
+    all += (clock > 0 ? "," : "") + std::to_string(clock);
+  }
+  text += "row 100 - 63 " + all + " 100\n";
+  Text request = "from 100";
+  for (unsigned c = 1; c < 32; ++c) {
+    text += "comp 101 100\n";
+    request += ",100";
+  }
+  check(request.size() + 6 == 138, "the longest state is far from 256 bytes");
+  const Text report = lend_report(tabbed(request + " 4096\n" + text));
+  check(report.size() == second::longest_report, "the longest report: " + std::to_string(report.size()));
+}
+
 }  // namespace
 
 void test_request_refusals() {
@@ -27,6 +45,8 @@ void test_request_refusals() {
   check(lend_report(tabbed("from 0,0 5\n") + m) == "stable\t0\t-\t0,0\n", "no step");
   check(lend_report(tabbed("from 1,0 0\n") + m) == "unsettled\t0\t-\t1,0\n", "budget 0");
   check(lend_report(tabbed("from 1,1 9\n") + m) == tabbed("step 1 1 0 0,1\nstep 2 2 - 0,2\nstable 2 0 0,2\n"), "from 1,1");
+
+  test_longest();
 
   for (unsigned length = 250; length <= 262; ++length) {
     const Text request = long_request(length);

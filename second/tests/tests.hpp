@@ -6,6 +6,7 @@
 void test_paper_examples();
 void test_program(const std::string& program, const std::string& examples, const std::string& scratch);
 void test_component_alone();
+void test_starts();
 void test_text_refusals();
 void test_model_refusals();
 void test_call_refusals();

@@ -69,8 +69,8 @@ inline const TextCase text_cases[] = {
     {"from 0 0\ncomp 1 0\n", 2, 1},
     {"comp 1 0", 2, 1},
     {"act 0 in", 2, 1},
-    {"comp 65 0", 2, 1},
-    {"comp 65 0\ncomp 1 0", 4, 1},
+    {"comp 129 0", 2, 1},
+    {"comp 129 0\ncomp 1 0", 4, 1},
     {"act 0 in\ncomp 1 0", 3, 1},
     {"comp 1 0\ncomp 1 0", 2, 2},
     {"comp 1 0\nrow 0 - 0 - 0", 2, 2},
@@ -131,12 +131,19 @@ inline const TextCase text_cases[] = {
     {"comp 1 0\nact 0 in\nrow 0 - 0 - 0\n", 0, 0},
     // 4: ranges (DECISIONS: "start, from and target", "an action or clock of 64").
     {"comp 0 0\n", 4, 1},
-    {"comp 65 0\n", 4, 1},
-    {"comp 65 70\n", 4, 1},
+    {"comp 129 0\n", 4, 1},
+    {"comp 129 130\n", 4, 1},
     {"comp 2 2\n", 4, 1},
     {"comp 2 1\n", 0, 0},
     {"comp 64 63\n", 0, 0},
-    {"comp 64 64\n", 4, 1},
+    {"comp 65 64\n", 0, 0},
+    {"comp 128 127\n", 0, 0},
+    {"comp 128 128\n", 4, 1},
+    {"comp 128 0\nact 0 in\nrow 127 - 0 - 127\n", 0, 0},
+    {"comp 128 0\nact 0 in\nrow 128 - 0 - 127\n", 4, 3},
+    {"comp 128 0\nact 0 in\nrow 127 - 0 - 128\n", 4, 3},
+    {"comp 128 0\nact 64 in\n", 4, 2},
+    {"comp 128 0\nclk 64 0\n", 4, 2},
     {two + "row 2 - 0 - 0\n", 4, 7},
     {two + "row 0 - 0 - 2\n", 4, 7},
     {two + "row 0 - 64 - 0\n", 4, 7},
@@ -195,12 +202,12 @@ inline Text repeated(const Text& piece, unsigned times) {
 // 7 is last within its line, and before any later line (DECISIONS: "7 counts rows").
 inline void add_counts(std::vector<TextCase>& to) {
   const Text one = tabbed("comp 1 0\n");
-  to.push_back({repeated(one, 16), 0, 0});
-  to.push_back({repeated(one, 17), 7, 17});
-  to.push_back({repeated(one, 17) + "x\n", 7, 17});
-  to.push_back({repeated(one, 16) + tabbed("comp 65 0\n"), 4, 17});
-  to.push_back({repeated(one, 16) + tabbed("comp 1\n"), 2, 17});
-  to.push_back({repeated(one, 16) + tabbed("comp 1 0"), 2, 17});
+  to.push_back({repeated(one, 32), 0, 0});
+  to.push_back({repeated(one, 33), 7, 33});
+  to.push_back({repeated(one, 33) + "x\n", 7, 33});
+  to.push_back({repeated(one, 32) + tabbed("comp 129 0\n"), 4, 33});
+  to.push_back({repeated(one, 32) + tabbed("comp 1\n"), 2, 33});
+  to.push_back({repeated(one, 32) + tabbed("comp 1 0"), 2, 33});
 
   Text rows = tabbed("comp 64 0\n");
   for (unsigned action = 0; action < 16; ++action) rows += tabbed("act " + std::to_string(action) + " in\n");

@@ -14,7 +14,7 @@ void check_case(const Text& text, std::uint64_t number, std::uint64_t place) {
   check(answered == expected, shown(answered) + " for the text\n" + text.substr(0, 300));
   // "In reading it comes last" (DECISIONS, Refusals).
   Table shorter(second::image_words - 1, 0x5555);
-  const second::Refusal short_of = number == 0 ? second::refuse(24, {42120}) : expected;
+  const second::Refusal short_of = number == 0 ? second::refuse(24, {67848}) : expected;
   check(lend_read(text, shorter).refusal == short_of, "a short table, for the text\n" + text.substr(0, 300));
 }
 

@@ -1,21 +1,21 @@
--- The limits of paper 01 ("The model text", "Confluence and settling", "The program"). A limit is written as a number here and nowhere above.
+-- The limits of paper 01 ("The model text", "Confluence and settling", "The program"), two of them raised by request 12. A limit is written as a number here and nowhere above.
 use Prim.Native.Nat.{ℕ}
 use lib.ListN.{replicate}
 use lib.IntN.{pos}
 use Rattle.answer.specs.declared.Limits.{Limits}
 use Rattle.answer.specs.declared.State.{State}
 
--- "A model has 1 to 16 components"
+-- "A model has 1 to 16 components"; 32 since request 12
 abbrev pub maxComponents : ℕ
-maxComponents = 16
+maxComponents = 32
 
 -- "at most 1,024 rows in all"
 abbrev pub maxRows : ℕ
 maxRows = 1024
 
--- "states (1 to 64)"
+-- "states (1 to 64)"; 128 since request 12
 abbrev pub maxStates : ℕ
-maxStates = 64
+maxStates = 128
 
 -- "action (0 to 63)"
 abbrev pub maxActions : ℕ

@@ -2,15 +2,15 @@
 ghost use mathlib.Core.Path.{_≡_};
 ghost use Rattle.answer.specs.Limits.{limitsOf, noState};
 
-// The limits of a model (paper 01, "The model text"). The model itself lies in a lent table.
+// The limits of a model (paper 01, "The model text"; components and states as request 12 has them). The model itself lies in a lent table.
 pub struct Model {}
 
 impl Model {
-    pub const COMPONENTS: usize = 16;
+    pub const COMPONENTS: usize = 32;
 
     pub const ROWS: usize = 1024;
 
-    pub const STATES: usize = 64;
+    pub const STATES: usize = 128;
 
     pub const ACTIONS: usize = 64;
 
@@ -28,7 +28,7 @@ pub struct State {
 }
 
 impl State {
-    pub const PARTS: usize = 16;
+    pub const PARTS: usize = Model::COMPONENTS;
 
     pub const BUDGET: usize = 4096;
 

@@ -14,7 +14,7 @@ use Rattle.layout.specs.Layout.{headWords, blockWords, imageWords, countOf, blo
 unfoldable pub zeroWords : List ℕ → ℕ → ℕ → Bool
 zeroWords t lo hi = all (λ k. eqb (getD t k 0) 0) lo hi
 
--- "number of states, 1 to 64", and a start state below it
+-- "number of states, 1 to 128", and a start state below it
 unfoldable pub sizesRight : List ℕ → ℕ → Bool
 sizesRight t i = both (leb 1 (blockWord t i 0)) (both (leb (blockWord t i 0) maxStates) (ltb (blockWord t i 1) (blockWord t i 0)))
 
@@ -54,7 +54,7 @@ firstsRight t i =
     (both (leb (firstOf t i (blockWord t i 0)) maxRows)
     (zeroWords t (firstPlace i (suc (blockWord t i 0))) (firstPlace i (suc maxStates)))))
 
--- "number of components, 1 to 16", a block for each
+-- "number of components, 1 to 32", a block for each
 unfoldable pub blocksRight : List ℕ → Bool
 blocksRight t = both (leb 1 (countOf t)) (both (leb (countOf t) maxComponents) (both (all (headRight t) 0 (countOf t)) (all (firstsRight t) 0 (countOf t))))
 

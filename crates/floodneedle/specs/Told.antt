@@ -1,4 +1,4 @@
--- What a caller in C is told: the answer's words, and the state after in sixteen bytes.
+-- What a caller in C is told: the answer's words, and the state after in a byte for each component that a model may have.
 use mathlib.Core.Path.{_≡_}
 use mathlib.Core.List.{List}
 use Prim.Native.Nat.{ℕ}
@@ -32,7 +32,7 @@ acceptOn t = checkOn t acceptOf
 abbrev pub confluentOn : List ℕ → Answer (Unit {0})
 confluentOn t = checkOn t confluentOf
 
--- "it answers the outcome and, unless refused, the state": beside a refusal the sixteen bytes are 0
+-- "it answers the outcome and, unless refused, the state": beside a refusal the bytes are 0
 abbrev pub stepBytes : State → Answer Stepping → List ℕ
 stepBytes x (answered v) = withParts x (v .state) .parts
 stepBytes x (refused t) = noState .parts

@@ -157,14 +157,14 @@ cases =
     ∷ P (lists M (1 ∷ 0 ∷ []) (2 ∷ [])) (refuses 23 (0 ∷ []))
     ∷ []
 
--- the last bullets: the loop at 4,096 and 4,097, the empty text, 64 states and 65
+-- the last bullets: the loop at 4,096 and 4,097, the empty text; "examples at 64 and 65 become 128 and 129" (request 12)
 unfoldable pub furtherCases : List Case
 furtherCases =
     P (settles loop (0 ∷ []) 4096) (ends false 4096 0 (0 ∷ []))
     ∷ P (settles loop (0 ∷ []) 4097) (refuses 22 (0 ∷ []))
     ∷ P (reads "") (refuses 8 (0 ∷ []))
-    ∷ P (reads "comp\t64\t0\n") (text (bytesOf "comp\t64\t0\n"))
-    ∷ P (reads "comp\t65\t0\n") (refuses 4 (1 ∷ []))
+    ∷ P (reads "comp\t128\t0\n") (text (bytesOf "comp\t128\t0\n"))
+    ∷ P (reads "comp\t129\t0\n") (refuses 4 (1 ∷ []))
     ∷ P (reads M) (text (bytesOf M))
     ∷ []
 

@@ -71,7 +71,7 @@ abbrev pub InOrder : Option Entry → Entry → Type 0
 InOrder none e = ResetsAscend e
 InOrder (some d) e = After d e × ResetsAscend e
 
--- "1 to 16 components, at most 1,024 rows in all"
+-- "1 to 16 components, at most 1,024 rows in all"; 32 components since request 12
 abbrev pub Room : List Comp → Entry → Type 0
 Room m (comp-entry n s) = length m < maxComponents
 Room m (act-entry a k) = Unit {0}
@@ -103,7 +103,7 @@ pub data Fault (p : Progress) (bs : List ℕ) (n : ℕ) : Type 0 where
   lacking : {e : Entry} {cs : List ℕ} → n ≡ 5 → LineAt bs e cs → ¬ Named (current p) e → Fault p bs n
   -- 6 "lines of one kind, or clocks in a resets field, not strictly ascending"
   out-of-order : {e : Entry} {cs : List ℕ} → n ≡ 6 → LineAt bs e cs → ¬ InOrder (p .last) e → Fault p bs n
-  -- 7 "17th component or 1,025th row"
+  -- 7 "17th component or 1,025th row"; the 33rd since request 12
   too-many : {e : Entry} {cs : List ℕ} → n ≡ 7 → LineAt bs e cs → ¬ Room (p .comps) e → Fault p bs n
 
 -- "within a line 2 to 7": n is the line's lowest fault

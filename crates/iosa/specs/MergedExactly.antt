@@ -51,7 +51,7 @@ pub record MergedModel (m : Model) (i : ℕ) (n : Model) : Type 0 where
   pub exact : MergedExactly (compAt m i) (compAt m (suc i))
   pub well-formed : WellFormed n
 
--- not "over 64 states, 1,024 rows or 32,768 bytes"
+-- not "over 64 states, 1,024 rows or 32,768 bytes"; 128 states since request 12
 pub record FitsIn (m : Model) (i : ℕ) : Type 0 where
   pub states : compAt m i .states * compAt m (suc i) .states ≤ maxStates
   pub rows : rowCount (mergedAt m i) ≤ maxRows

@@ -223,7 +223,7 @@ resetsAscend (row-entry s g a r t) = ascending r
 unfoldable pub outOfOrder : Option Entry → Entry → Bool
 outOfOrder d e = not (follows d e && resetsAscend e)
 
--- 7 "17th component or 1,025th row"
+-- 7 "17th component or 1,025th row"; the 33rd since request 12
 unfoldable pub tooMany : List Comp → Entry → Bool
 tooMany m (comp-entry n s) = leb maxComponents (length m)
 tooMany m (act-entry a k) = false

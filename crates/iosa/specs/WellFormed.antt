@@ -32,7 +32,7 @@ pub record WellRow (c : Comp) (r : Row) : Type 0 where
   pub target : r .target < c .states
 
 pub record WellComp (c : Comp) : Type 0 where
-  -- "states (1 to 64), start (below states)"
+  -- "states (1 to 64), start (below states)"; 128 since request 12
   pub some : 1 ≤ c .states
   pub states : c .states ≤ maxStates
   pub start : c .start < c .states
@@ -53,7 +53,7 @@ pub record WellComp (c : Comp) : Type 0 where
   pub rows : (k : ℕ) → k < length (c .rows) → WellRow c (rowAt c k)
   pub ascend : (k : ℕ) → suc k < length (c .rows) → before (rowAt c k) (rowAt c (suc k)) ≡ true
 
--- "A model has 1 to 16 components, at most 1,024 rows in all, and a text of at most 32,768 bytes"
+-- "A model has 1 to 16 components, at most 1,024 rows in all, and a text of at most 32,768 bytes"; 32 components since request 12
 pub record WellFormed (m : Model) : Type 0 where
   pub some : 1 ≤ length m
   pub components : length m ≤ maxComponents

@@ -217,7 +217,7 @@ guard-below none = refl
 guard-below (some x) = go (ltb x maxClocks) refl
   where
     go : (b : Bool) → ltb x maxClocks ≡ b → leb (cond (ltb x maxClocks) (x + 1) (maxClocks + 1)) maxClocks ≡ ltb x maxClocks
-    go true e = rw e (le-leb (x + 1) 64 (omega (arith, ltb-true x 64 e)))
+    go true e = rw e (le-leb (x + 1) maxClocks (omega (arith, ltb-true x maxClocks e)))
     go false e = rw e
 
 guard-number : (g : Option ℕ) → guardBelow g ≡ true → guardNumber (guardIs g) ≡ guardOf g

@@ -10,7 +10,7 @@ use Rattle.answer.specs.Limits.{maxComponents, maxRows, maxStates}
 abbrev pub headWords : ℕ
 headWords = 8
 
--- a block: its head, and first[0] to first[64]
+-- a block: its head, and first[0] to first[maxStates]
 abbrev pub blockWords : ℕ
 blockWords = headWords + suc maxStates
 

@@ -7,7 +7,7 @@ use Rattle.iosa.specs.Model.{acts, guardSet}
 use Rattle.layout.specs.Layout.{blockWord, firstOf, actionAt, guardAt, resetsAt, targetAt}
 use Rattle.layout.specs.Image.{compOf}
 
--- component i: "states (1 to 64), start (below states)", and the ranges of its rows in their order
+-- component i: "states (1 to 64), start (below states)" (128 since request 12), and the ranges of its rows in their order
 pub record CompRanges (t : List ℕ) (i : ℕ) : Type 0 where
   pub some : 1 ≤ blockWord t i 0
   pub states : blockWord t i 0 ≤ maxStates

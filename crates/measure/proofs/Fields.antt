@@ -4,7 +4,7 @@ use mathlib.Core.Bool.{Bool, true, false, cond}
 use mathlib.Core.List.{List, [], _∷_, _++_}
 use Prim.Native.Nat.{ℕ, zero, suc, _+_, _*_, _-_, _/_, _^_, _≤_, _<_}
 use native.Mathlib.Omega.{arith}
-use native.Mathlib.Nat.{mul-le-mul-right}
+use native.Mathlib.Nat.{mul-le-mul-right, div-lt-iff-lt-mul, pow-suc}
 use native.Mathlib.Decide.{decLt, ℕ-discrete}
 use mathlib.Core.Logic.{by-cases}
 use lib.ListN.{length, length-append}
@@ -19,7 +19,7 @@ use Rattle.answer.specs.Limits.{maxDigits, maxClocks}
 use Rattle.iosa.proofs.Reading.Joined.{joined-one, joined-more}
 use Rattle.iosa.specs.Text.{digitsOf, decimal, joined, members, guardField, setField, comma}
 use Rattle.sets.specs.Members.{wordBits, sizeOf}
-use Rattle.measure.specs.Measure.{mostBeside, perMember}
+use Rattle.measure.specs.Measure.{mostBeside, setBytes, perMember}
 
 -- ---- a number
 one-digit : (k n : ℕ) → n < 10 → length (digitsOf (suc k) n) ≡ 1
@@ -69,8 +69,19 @@ width-most n =
     by-cases (decLt n 1000) (λ h. omega (arith, width-3 n (omega arith) h)) (λ d.
     by-cases (decLt n 10000) (λ h. omega (arith, width-4 n (omega arith) h)) (λ e. omega (arith, width-5 n (omega arith))))))
 
-pub width-small : (n : ℕ) → n < 100 → length (decimal n) ≤ 2
-width-small n h = by-cases (decLt n 10) (λ a. omega (arith, width-1 n a)) (λ a. omega (arith, width-2 n (omega arith) h))
+-- a number below 10 ^ d has at most d digits
+digits-below : (k d n : ℕ) → n < 10 ^ suc d → length (digitsOf k n) ≤ suc d
+unfolding digitsOf
+digits-below zero d n h = omega arith
+digits-below (suc k) zero n h = omega (arith, one-digit k n h)
+digits-below (suc k) (suc d) n h =
+    by-cases (decLt n 10) (λ a. omega (arith, one-digit k n a)) (λ a.
+    let tenth = div-lt-iff-lt-mul {k = 10} {x = n} {y = 10 ^ suc d} (omega arith) .1 (rw pow-suc at h) in
+    omega (arith, digit-more k n (omega arith), digits-below k d (n / 10) tenth))
+
+pub width-below : (d n : ℕ) → n < 10 ^ suc d → length (decimal n) ≤ suc d
+unfolding decimal
+width-below d n h = digits-below maxDigits d n h
 
 -- ---- members, with e bytes beside each
 -- the numbers of one digit, as a set
@@ -175,12 +186,12 @@ set-width (suc s) h k = go (members (suc s) maxClocks 0) refl
     go [] e = absurd (set-nonempty (suc s) h k e)
     go (n ∷ ns) e = ap (λ l. suc (length (joined l))) e ∙ joined-width n ns ∙ ap commas (sym e) ∙ set-commas (suc s)
 
--- the numbers below 64 and a comma behind each: 10 of one digit, 54 of two
-every-clock : sum (tab (λ x. 1 + length (decimal x)) 0 wordBits) ≡ 182
+-- every clock and a comma behind it
+every-clock : sum (tab (λ x. 1 + length (decimal x)) 0 wordBits) ≡ setBytes + 1
 unfolding decimal digitsOf
 every-clock = refl
 
-set-widest : (s : ℕ) → perMember s 1 ≤ 182
+set-widest : (s : ℕ) → perMember s 1 ≤ setBytes + 1
 unfolding perMember
 set-widest s = rw every-clock at (sum-le (λ x. cond (has s x) (1 + length (decimal x)) 0) (λ x. 1 + length (decimal x)) 0 wordBits (λ x p q. go x (has s x)))
   where
@@ -189,12 +200,12 @@ set-widest s = rw every-clock at (sum-le (λ x. cond (has s x) (1 + length (deci
     go x false = omega arith
 
 -- no set is longer than that of all clocks
-pub set-most : (s : ℕ) → length (setField s) ≤ 181
+pub set-most : (s : ℕ) → length (setField s) ≤ setBytes
 unfolding setField joined
 set-most zero = omega arith
 set-most (suc s) = go (members (suc s) maxClocks 0) (set-commas (suc s))
   where
-    go : (ns : List ℕ) → commas ns ≡ perMember (suc s) 1 → length (joined ns) ≤ 181
+    go : (ns : List ℕ) → commas ns ≡ perMember (suc s) 1 → length (joined ns) ≤ setBytes
     go [] e = omega arith
     go (n ∷ ns) e = omega (arith, joined-width n ns, e, set-widest (suc s))
 

@@ -1,7 +1,7 @@
 -- Bytes by the members of a set (01, "The model text").
 use mathlib.Core.Bool.{cond}
 use mathlib.Core.List.{List, []}
-use Prim.Native.Nat.{ℕ, _+_}
+use Prim.Native.Nat.{ℕ, _+_, _*_, _-_}
 use lib.ListN.{length}
 use Rattle.laws.specs.Sets.{has, _∪_, _∖_}
 use Rattle.laws.specs.Fold.{tab, spread, sum}
@@ -20,6 +20,10 @@ clkLines c = spread (clkPart c) 0 maxClocks
 -- the most that stands beside one number in a line with one: `act`, two tabs, `uout`, LF
 abbrev pub mostBeside : ℕ
 mostBeside = 10
+
+-- the widest set, of all clocks: two digits and a comma for each, but for the 10 of one digit and the last comma
+abbrev pub setBytes : ℕ
+setBytes = 3 * maxClocks - 10 - 1
 
 -- the bytes of all members of s in decimal, with e bytes beside each
 unfoldable pub perMember : ℕ → ℕ → ℕ

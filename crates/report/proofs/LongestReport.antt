@@ -3,7 +3,7 @@ use mathlib.Core.Path.{_≡_, refl, _∙_, ap}
 use mathlib.Core.Bool.{false}
 use mathlib.Core.Option.{none, some}
 use mathlib.Core.List.{List, [], _∷_, _++_}
-use Prim.Native.Nat.{ℕ, zero, suc, _+_, _*_}
+use Prim.Native.Nat.{ℕ, zero, suc, _+_, _*_, _-_}
 use native.Mathlib.Omega.{arith}
 use lib.Bits.{or-self, or-zero-r}
 use lib.ListN.{length, replicate, length-append}
@@ -22,8 +22,8 @@ use Rattle.iosa.specs.Examples.{reply}
 use Rattle.iosa.proofs.Settling.Rule.{lowest-some}
 use Rattle.tell.specs.Tell.{tailOf}
 use Rattle.tell.proofs.TellLaws.{step-parts}
-use Rattle.steplines.specs.Run.{mostBytes}
-use Rattle.report.specs.Longest.{allClocks, loud, still, longestModel, tens, longestRequest, longestInput}
+use Rattle.steplines.specs.Run.{stepBytes, lastBytes, mostBytes}
+use Rattle.report.specs.Longest.{allClocks, loud, still, longestModel, allWide, longestRequest, longestInput}
 use Rattle.report.proofs.ReportLaws.{report-model}
 
 -- ---- of any model: a step that leads back, taken again and again
@@ -87,33 +87,33 @@ confluent : confluentOf longestModel ≡ none
 unfolding reply longestModel loud still
 confluent = refl
 
-in-range : stateFault longestModel tens ≡ none
+in-range : stateFault longestModel allWide ≡ none
 unfolding reply longestModel loud still
 in-range = refl
 
-leads-back : lowest (urgentStep longestModel) tens ≡ some (back longestModel tens 10 allClocks)
+leads-back : lowest (urgentStep longestModel) allWide ≡ some (back longestModel allWide 10 allClocks)
 unfolding reply longestModel loud still
 leads-back = refl
 
--- 9 counts of one digit, 90 of two, 900 of three and 3,097 of four
-counts : countBytes 1 maxBudget ≡ 15277
+-- four digits each, of which 9, 99 and 999 counts lack one
+counts : countBytes 1 maxBudget ≡ 4 * maxBudget - (9 + 99 + 999)
 unfolding reply countBytes
 counts = refl
 
-line : beside longestModel tens 10 allClocks ≡ 239
+line : beside longestModel allWide 10 allClocks ≡ stepBytes - 4
 unfolding reply tailOf
 line = refl
 
-last : length (lastLine (looped longestModel tens 10 allClocks maxBudget)) ≡ 245
+last : length (lastLine (looped longestModel allWide 10 allClocks maxBudget)) ≡ lastBytes
 unfolding reply
 last = refl
 
 -- ---- the report
-answers : settleOf longestModel tens maxBudget maxBudget ≡ answered (settle (urgentStep longestModel) maxBudget tens)
+answers : settleOf longestModel allWide maxBudget maxBudget ≡ answered (settle (urgentStep longestModel) maxBudget allWide)
 unfolding settleOf budgetFault traceFault
 answers = rw (confluent, in-range, settleOf)
 
 pub longest-reached : length (reportOf longestInput) ≡ mostBytes
 longest-reached =
     ap length (report-model longestInput (textOf longestModel) longestRequest requested longestModel read)
-    ∙ report-length longestModel tens 10 allClocks leads-back maxBudget answers ∙ rw (counts, line, last)
+    ∙ report-length longestModel allWide 10 allClocks leads-back maxBudget answers ∙ rw (counts, line, last)

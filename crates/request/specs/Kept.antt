@@ -12,14 +12,14 @@ use Rattle.iosa.specs.Report.{Request}
 use Rattle.request.specs.declared.PartsScan.{PartsScan}
 use Rattle.request.specs.declared.Asked.{Asked}
 
--- a number of a state fits a byte ("states (1 to 64)"); the last byte stands for every larger one
+-- a number of a state fits a byte, as maxStates is no more than that; the last byte stands for every larger one
 abbrev pub byteOf : ℕ → ℕ
 byteOf n = cond (ltb n 255) n 255
 
 abbrev pub lessOf : ℕ → ℕ → ℕ
 lessOf n m = cond (ltb n m) n m
 
--- one number more; "A model has 1 to 16 components": a 17th number, and every further one, leaves one number too many
+-- one number more; a model has at most maxComponents components: a number past them, and every further one, leaves one number too many
 abbrev pub with : State → ℕ → State
 with x n =
     cond (ltb (x .count) maxComponents)

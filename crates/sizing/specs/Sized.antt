@@ -1,4 +1,4 @@
--- Whether the merged model keeps the limits (01: 26 "over 64 states, 1,024 rows or 32,768 bytes"), and the row at which the product's rows end.
+-- Whether the merged model keeps the limits (01: 26 "over 64 states, 1,024 rows or 32,768 bytes"; 128 states since request 12), and the row at which the product's rows end.
 use mathlib.Core.Path.{_≡_}
 use mathlib.Core.Bool.{Bool, true, false}
 use mathlib.Core.List.{List}

@@ -8,7 +8,7 @@ use Prim.Native.Nat.{ℕ, suc, _+_, _*_, _-_, _≤_, _<_}
 use native.Mathlib.Decide.{decLt}
 use native.Mathlib.Omega.{arith}
 use lib.ListN.{length, length-append}
-use Rattle.answer.specs.Limits.{maxComponents, maxBudget}
+use Rattle.answer.specs.Limits.{maxComponents, maxStates, maxActions, maxBudget}
 use Rattle.answer.specs.Told.{Told, tell, valuesAt}
 use Rattle.answer.specs.declared.Place.{Place}
 use Rattle.answer.specs.declared.Place.the-variants.{Whole, Line, Row, Bytes, Index, Clock, Component, Cell, Clash, SharedAction, SharedClock}
@@ -26,27 +26,31 @@ use Rattle.iosa.proofs.Settling.Descent.{Keeps}
 use Rattle.iosa.proofs.Settling.Parts.{within-length}
 use Rattle.iosa.proofs.Settling.Rule.{Bounded, LowRun, stay, low, settle-ran}
 use Rattle.iosa.proofs.Settling.Steps.{steps-keep-the-range, steps-are-bounded}
-use Rattle.measure.proofs.Fields.{width-1, width-2, width-3, width-4, width-most, width-small, set-most}
+use Rattle.measure.specs.Measure.{setBytes}
+use Rattle.measure.proofs.Fields.{width-1, width-2, width-3, width-4, width-most, width-below, set-most}
 use Rattle.tell.specs.Tell.{tailOf, verdictWord, refusedText}
 use Rattle.tell.proofs.TellLaws.{tail-parts, step-parts, last-parts}
-use Rattle.steplines.specs.Run.{stepBytes, lastBytes, mostBytes, linesOf, runText}
+use Rattle.steplines.specs.Run.{stateDigits, stateBytes, stepBytes, lastBytes, mostBytes, linesOf, runText}
 
 -- ---- one line
--- the numbers of a state are below 100
+-- the numbers of a state are those of a component's states
 abbrev pub Small : List ℕ → Type 0
 Small [] = Unit {0}
-Small (n ∷ ns) = (n < 100) × Small ns
+Small (n ∷ ns) = (n < maxStates) × Small ns
 
--- two digits and a comma for each, but the last
-states-most : (n : ℕ) (ns : List ℕ) → Small (n ∷ ns) → suc (length (joined (n ∷ ns))) ≤ 3 * length (n ∷ ns)
-states-most n [] h = rw (joined-one n) (omega (arith, length-append (decimal n) [], width-small n (h .0)))
-states-most n (m ∷ ns) h = rw (joined-more n m ns) (omega (arith, length-append (decimal n) (comma ∷ joined (m ∷ ns)), width-small n (h .0), states-most m ns (h .1)))
+width-state : (n : ℕ) → n < maxStates → length (decimal n) ≤ stateDigits
+width-state n h = width-below (stateDigits - 1) n (omega arith)
 
-state-most : (s : List ℕ) → Small s → length s ≤ maxComponents → length (joined s) ≤ 47
+-- so many digits and a comma for each, but the last
+states-most : (n : ℕ) (ns : List ℕ) → Small (n ∷ ns) → suc (length (joined (n ∷ ns))) ≤ (1 + stateDigits) * length (n ∷ ns)
+states-most n [] h = rw (joined-one n) (omega (arith, length-append (decimal n) [], width-state n (h .0)))
+states-most n (m ∷ ns) h = rw (joined-more n m ns) (omega (arith, length-append (decimal n) (comma ∷ joined (m ∷ ns)), width-state n (h .0), states-most m ns (h .1)))
+
+state-most : (s : List ℕ) → Small s → length s ≤ maxComponents → suc (length (joined s)) ≤ stateBytes
 state-most [] h few = rw joined-none (omega arith)
 state-most (n ∷ ns) h few = omega (arith, states-most n ns h)
 
-tail-most : (r : ℕ) (s : List ℕ) → Small s → length s ≤ maxComponents → length (tailOf r s) ≤ 231
+tail-most : (r : ℕ) (s : List ℕ) → Small s → length s ≤ maxComponents → length (tailOf r s) ≤ 1 + setBytes + stateBytes + 1
 tail-most r s h few =
     omega (
       arith,
@@ -57,14 +61,15 @@ tail-most r s h few =
       state-most s h few,
     )
 
-step-most : (n a : ℕ) (g : Gone (List ℕ)) → a < 100 → Small (g .after) → length (g .after) ≤ maxComponents → length (stepLine n a g) + 4 ≤ stepBytes + length (decimal n)
+step-most : (n a : ℕ) (g : Gone (List ℕ)) → a < maxActions → Small (g .after) → length (g .after) ≤ maxComponents
+    → length (stepLine n a g) + 4 ≤ stepBytes + length (decimal n)
 step-most n a g below h few =
     omega (
       arith,
       ap length (step-parts n a g),
       length-append (decimal n) ((tab ∷ decimal a) ++ tailOf (g .resets) (g .after)),
       length-append (decimal a) (tailOf (g .resets) (g .after)),
-      width-small a below,
+      width-below 1 a (omega arith),
       tail-most (g .resets) (g .after) h few,
     )
 
@@ -154,9 +159,7 @@ count-width n h =
     omega (arith, width-4 n (omega arith) h, lacks-rest 10 n (omega arith), lacks-rest 100 n (omega arith), lacks-rest 1000 n (omega arith)))))
 
 width-count : (n : ℕ) → n < 10000 → length (decimal n) ≤ 4
-width-count n h =
-    by-cases (decLt n 100) (λ a. omega (arith, width-small n a)) (λ a.
-    by-cases (decLt n 1000) (λ b. omega (arith, width-3 n (omega arith) b)) (λ b. omega (arith, width-4 n (omega arith) h)))
+width-count n h = width-below 3 n h
 
 -- the most that k lines of steps have
 lines-bytes : (k : ℕ) → k ≤ maxBudget → stepBytes * k + spared 1 + lastBytes ≤ mostBytes + spared (1 + k)

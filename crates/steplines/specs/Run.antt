@@ -1,19 +1,28 @@
 -- What a run prints, and how long a report can be.
 use mathlib.Core.List.{List, [], _∷_, _++_}
 use Prim.Native.Nat.{ℕ, _+_, _*_, _-_}
-use Rattle.answer.specs.Limits.{maxBudget}
+use Rattle.answer.specs.Limits.{maxComponents, maxBudget}
 use Rattle.iosa.specs.Model.{Model}
 use Rattle.iosa.specs.Step.{urgentStep}
 use Rattle.iosa.specs.Settle.{Settling, settle}
 use Rattle.iosa.specs.Report.{stepLines, lastLine}
+use Rattle.measure.specs.Measure.{setBytes}
 
--- the widest step line: `step`, a count of four digits, an action of two, all 64 clocks, 16 states of two digits, each behind a tab, and LF
+-- the digits of the largest number of a state: with maxStates, what the report's widths change by
+abbrev pub stateDigits : ℕ
+stateDigits = 3
+
+-- the widest composed state: each number behind a tab or a comma
+abbrev pub stateBytes : ℕ
+stateBytes = (1 + stateDigits) * maxComponents
+
+-- the widest step line: `step`, a count of four digits, an action of two, all clocks, a state, each behind a tab, and LF
 abbrev pub stepBytes : ℕ
-stepBytes = 4 + 5 + 3 + 182 + 48 + 1
+stepBytes = 4 + (1 + 4) + (1 + 2) + (1 + setBytes) + stateBytes + 1
 
 -- the widest last line: `unsettled`, and as many steps
 abbrev pub lastBytes : ℕ
-lastBytes = 9 + 5 + 182 + 48 + 1
+lastBytes = 9 + (1 + 4) + (1 + setBytes) + stateBytes + 1
 
 -- the longest report there can be: a line for each step of the largest budget, of whose counts 9, 99 and 999 lack a digit each, and the last line
 abbrev pub mostBytes : ℕ

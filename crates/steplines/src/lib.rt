@@ -19,10 +19,18 @@ ghost use Rattle.settling.specs.Gives.{Ready};
 ghost use Rattle.print.specs.Put.{Put};
 ghost use Rattle.steplines.specs.Run.{mostBytes, runText};
 
-// The widest step line has a count of four digits, the widest last line as many steps.
-const STEP_LINE: usize = 243;
+// The widest set has all clocks: two digits and a comma for each, but for the 10 of one digit and the last comma.
+const SET: usize = 3 * Model::CLOCKS - 10 - 1;
 
-const LAST_LINE: usize = 245;
+// The digits of the largest number of a state, and the widest state, each number behind a tab or a comma.
+const STATE_DIGITS: usize = 3;
+
+const STATE: usize = (1 + STATE_DIGITS) * Model::COMPONENTS;
+
+// The widest step line has a count of four digits and an action of two, the widest last line as many steps.
+const STEP_LINE: usize = 4 + (1 + 4) + (1 + 2) + (1 + SET) + STATE + 1;
+
+const LAST_LINE: usize = 9 + (1 + 4) + (1 + SET) + STATE + 1;
 
 // The longest report there can be: of the counts 1 to 4,096 lack 9, 99 and 999 a digit each.
 pub const REPORT: usize = STEP_LINE * State::BUDGET - (9 + 99 + 999) + LAST_LINE;

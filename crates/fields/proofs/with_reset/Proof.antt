@@ -4,6 +4,7 @@ use mathlib.Core.Logic.{⊎-elim}
 use mathlib.Core.Bool.{Bool, true, false, _&&_}
 use lib.Dec.{ltb}
 use borrow.Author.Tests.{lt-ltb, le-ltb}
+use Rattle.answer.specs.Limits.{maxClocks}
 use borrow.Author.Needs.{needs}
 use Rattle.fields.proofs.with_reset.Statement.{statement}
 use Rattle.fields.proofs.with_reset.Tie as tie
@@ -18,10 +19,10 @@ union-requires : tie.Need-union-requires
 union-requires c κs = search needs
 
 returns : tie.Need-returns
-returns c = rw (ascends (c .before .before .before), lt-ltb (c .before .before .before .before .args .n) 64 (c .before .before .if2 .taken), c .union .ensures, c .before .single .ensures)
+returns c = rw (ascends (c .before .before .before), lt-ltb (c .before .before .before .before .args .n) maxClocks (c .before .before .if2 .taken), c .union .ensures, c .before .single .ensures)
 
 returns-2 : tie.Need-returns-2
-returns-2 c = rw (ascends (c .before), le-ltb (c .before .before .args .n) 64 (c .if2 .left))
+returns-2 c = rw (ascends (c .before), le-ltb (c .before .before .args .n) maxClocks (c .if2 .left))
 
 pub with-reset-spec : {M : Type 1} → statement M
 with-reset-spec = tie.close (tie.spec single-requires union-requires returns returns-2)

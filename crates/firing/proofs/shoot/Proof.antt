@@ -4,6 +4,7 @@ use Prim.Native.Nat.{ℕ, _≤_, _<_}
 use native.Mathlib.Omega.{arith}
 use denote.Ref.{now}
 use lib.ListN.{length}
+use Rattle.answer.specs.Limits.{maxComponents}
 use Rattle.answer.specs.Told.{tell, told}
 use Rattle.answer.specs.State.{partsOf}
 use Rattle.iosa.specs.Timed.{enablingAll}
@@ -90,7 +91,7 @@ returns-3 c =
     let vs = now (s0 .args .values) in
     let u = c .before .before in
     let e = chosen-answer m ss vs _ _ _ (u .before .before .enabling-all .ensures) (u .choose .ensures) (c .enum-told .given .1) in
-    let len : length (s0 .args .x .parts) ≡ 16 = search needs in
+    let len : length (s0 .args .x .parts) ≡ maxComponents = search needs in
     stays-quiet _ _ _ e (omega (arith, len, count-few _ _ (s0 .pre .standing)))
 
 same-length-4 : tie.Need-same-length-4

@@ -4,6 +4,7 @@ use mathlib.Core.Logic.{⊎-elim}
 use mathlib.Core.Bool.{true}
 use borrow.Author.Tests.{lt-ltb, le-ltb, eq-eqb, ne-eqb}
 use Rattle.judge.specs.Judged.{actStep, after}
+use Rattle.answer.specs.Limits.{maxActions}
 use borrow.Author.Needs.{needs}
 use Rattle.judge.proofs.act_step.Statement.{statement}
 use Rattle.judge.proofs.act_step.Tie as tie
@@ -21,13 +22,13 @@ returns c = rw (lt-ltb 1 (c .before .before .before .args .p .last .turn) (c .if
 
 returns-2 : tie.Need-returns-2
 unfolding actStep
-returns-2 c = let a = c .before .before .before .before .args in rw (le-ltb 1 (a .p .last .turn) (c .before .if1 .left), le-ltb (a .action) 64 (c .if2 .taken), actStep)
+returns-2 c = let a = c .before .before .before .before .args in rw (le-ltb 1 (a .p .last .turn) (c .before .if1 .left), le-ltb (a .action) maxActions (c .if2 .taken), actStep)
 
 returns-3 : tie.Need-returns-3
 unfolding actStep
 returns-3 c =
     let a = c .before .before .before .before .before .before .before .before .args in
-    rw (le-ltb 1 (a .p .last .turn) (c .before .before .before .before .before .if1 .left), lt-ltb (a .action) 64 (c .before .before .before .before .if2 .left), eq-eqb (a .p .last .turn) 1 (c .before .before .if3 .taken), le-ltb (a .p .last .number) (a .action) (c .if4 .taken), actStep)
+    rw (le-ltb 1 (a .p .last .turn) (c .before .before .before .before .before .if1 .left), lt-ltb (a .action) maxActions (c .before .before .before .before .if2 .left), eq-eqb (a .p .last .turn) 1 (c .before .before .if3 .taken), le-ltb (a .p .last .number) (a .action) (c .if4 .taken), actStep)
 
 plain-requires : tie.Need-plain-requires
 plain-requires c κs = search needs
@@ -42,7 +43,7 @@ returns-4 : tie.Need-returns-4
 unfolding actStep
 returns-4 c =
     let a = c .before .before .before .before .before .before .before .before .before .args in
-    rw (le-ltb 1 (a .p .last .turn) (c .before .before .before .before .before .before .if1 .left), lt-ltb (a .action) 64 (c .before .before .before .before .before .if2 .left), in-order (c .before .before .before), c .before .before .plain .ensures, c .union .ensures, c .before .single .ensures, actStep)
+    rw (le-ltb 1 (a .p .last .turn) (c .before .before .before .before .before .before .if1 .left), lt-ltb (a .action) maxActions (c .before .before .before .before .before .if2 .left), in-order (c .before .before .before), c .before .before .plain .ensures, c .union .ensures, c .before .single .ensures, actStep)
 
 pub act-step-spec : {M : Type 1} → statement M
 act-step-spec =

@@ -4,6 +4,7 @@ use mathlib.Core.Logic.{⊎-elim}
 use mathlib.Core.Bool.{true}
 use borrow.Author.Tests.{lt-ltb, le-ltb, le-leb, lt-leb, eq-eqb, ne-eqb}
 use Rattle.judge.specs.Judged.{clkStep, after}
+use Rattle.answer.specs.Limits.{maxClocks}
 use borrow.Author.Needs.{needs}
 use Rattle.judge.proofs.clk_step.Statement.{statement}
 use Rattle.judge.proofs.clk_step.Tie as tie
@@ -21,19 +22,19 @@ returns c = rw (lt-ltb 2 (c .before .before .before .args .p .last .turn) (c .if
 
 returns-2 : tie.Need-returns-2
 unfolding clkStep
-returns-2 c = let a = c .before .before .before .before .args in rw (le-ltb 2 (a .p .last .turn) (c .before .if1 .left), le-ltb (a .clock) 64 (c .if2 .taken), clkStep)
+returns-2 c = let a = c .before .before .before .before .args in rw (le-ltb 2 (a .p .last .turn) (c .before .if1 .left), le-ltb (a .clock) maxClocks (c .if2 .taken), clkStep)
 
 returns-3 : tie.Need-returns-3
 unfolding clkStep
 returns-3 c =
     let a = c .before .before .before .before .before .args in
-    rw (le-ltb 2 (a .p .last .turn) (c .before .before .if1 .left), lt-ltb (a .clock) 64 (c .before .if2 .left), lt-leb (a .set) 1 (c .if3 .taken), clkStep)
+    rw (le-ltb 2 (a .p .last .turn) (c .before .before .if1 .left), lt-ltb (a .clock) maxClocks (c .before .if2 .left), lt-leb (a .set) 1 (c .if3 .taken), clkStep)
 
 returns-4 : tie.Need-returns-4
 unfolding clkStep
 returns-4 c =
     let a = c .before .before .before .before .before .before .before .before .before .args in
-    rw (le-ltb 2 (a .p .last .turn) (c .before .before .before .before .before .before .if1 .left), lt-ltb (a .clock) 64 (c .before .before .before .before .before .if2 .left), le-leb (a .set) 1 (c .before .before .before .before .if3 .left), eq-eqb (a .p .last .turn) 2 (c .before .before .if4 .taken), le-ltb (a .p .last .number) (a .clock) (c .if5 .taken), clkStep)
+    rw (le-ltb 2 (a .p .last .turn) (c .before .before .before .before .before .before .if1 .left), lt-ltb (a .clock) maxClocks (c .before .before .before .before .before .if2 .left), le-leb (a .set) 1 (c .before .before .before .before .if3 .left), eq-eqb (a .p .last .turn) 2 (c .before .before .if4 .taken), le-ltb (a .p .last .number) (a .clock) (c .if5 .taken), clkStep)
 
 plain-requires : tie.Need-plain-requires
 plain-requires c κs = search needs
@@ -48,7 +49,7 @@ returns-5 : tie.Need-returns-5
 unfolding clkStep
 returns-5 c =
     let a = c .before .before .before .before .before .before .before .before .before .before .args in
-    rw (le-ltb 2 (a .p .last .turn) (c .before .before .before .before .before .before .before .if1 .left), lt-ltb (a .clock) 64 (c .before .before .before .before .before .before .if2 .left), le-leb (a .set) 1 (c .before .before .before .before .before .if3 .left), in-order (c .before .before .before), c .before .before .plain .ensures, c .union .ensures, c .before .single .ensures, clkStep)
+    rw (le-ltb 2 (a .p .last .turn) (c .before .before .before .before .before .before .before .if1 .left), lt-ltb (a .clock) maxClocks (c .before .before .before .before .before .before .if2 .left), le-leb (a .set) 1 (c .before .before .before .before .before .if3 .left), in-order (c .before .before .before), c .before .before .plain .ensures, c .union .ensures, c .before .single .ensures, clkStep)
 
 pub clk-step-spec : {M : Type 1} → statement M
 clk-step-spec =

@@ -1,5 +1,6 @@
 -- `judge::guard_number` meets its contract.
 use borrow.Author.Tests.{lt-ltb, le-ltb}
+use Rattle.answer.specs.Limits.{maxClocks}
 use borrow.Author.Needs.{needs}
 use Rattle.judge.proofs.guard_number.Statement.{statement}
 use Rattle.judge.proofs.guard_number.Tie as tie
@@ -20,10 +21,10 @@ returns : tie.Need-returns
 returns c = search needs
 
 returns-2 : tie.Need-returns-2
-returns-2 c = rw (c .before .before .g .given .1, lt-ltb (c .before .before .g .given .0 .0) 64 (c .if1 .taken))
+returns-2 c = rw (c .before .before .g .given .1, lt-ltb (c .before .before .g .given .0 .0) maxClocks (c .if1 .taken))
 
 returns-3 : tie.Need-returns-3
-returns-3 c = rw (c .before .before .g .given .1, le-ltb (c .before .before .g .given .0 .0) 64 (c .if1 .left))
+returns-3 c = rw (c .before .before .g .given .1, le-ltb (c .before .before .g .given .0 .0) maxClocks (c .if1 .left))
 
 pub guard-number-spec : {M : Type 1} → statement M
 guard-number-spec =

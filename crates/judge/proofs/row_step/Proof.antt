@@ -5,6 +5,7 @@ use mathlib.Core.Bool.{true, false, _&&_, cond}
 use Prim.Native.Nat.{_≤_, _<_}
 use lib.Dec.{eqb, ltb, leb}
 use borrow.Author.Tests.{lt-ltb, le-ltb, le-leb, lt-leb, eq-eqb, ne-eqb, not-true, not-false, ltb-true, leb-true}
+use Rattle.answer.specs.Limits.{maxActions, maxClocks}
 use Rattle.laws.proofs.TestLaws.{and-true}
 use Rattle.judge.specs.Judged.{rowStep, keyBefore, inRange, named}
 use borrow.Author.Needs.{needs}
@@ -14,14 +15,14 @@ use Rattle.judge.proofs.row_step.Tie as tie
 ranged : (c : tie.Else2) → inRange (c .before .before .before .before .before .args .p .states) (c .before .before .before .before .before .args .key) (c .before .before .before .before .before .args .clocks) ≡ true
 ranged c = sym (c .before .in-range .ensures) ∙ not-false _ (c .if2 .left)
 
-bounds : (c : tie.Else2) → (c .before .before .before .before .before .args .key .guard ≤ 64) × (c .before .before .before .before .before .args .key .action < 64)
+bounds : (c : tie.Else2) → (c .before .before .before .before .before .args .key .guard ≤ maxClocks) × (c .before .before .before .before .before .args .key .action < maxActions)
 unfolding inRange
 bounds c =
     let k = c .before .before .before .before .before .args .key in
     let n = c .before .before .before .before .before .args .p .states in
     let p = and-true (ltb (k .from) n) _ (ranged c) in
-    let q = and-true (leb (k .guard) 64) _ (p .1) in
-    (leb-true (k .guard) 64 (q .0), ltb-true (k .action) 64 (and-true (ltb (k .action) 64) _ (q .1) .0))
+    let q = and-true (leb (k .guard) maxClocks) _ (p .1) in
+    (leb-true (k .guard) maxClocks (q .0), ltb-true (k .action) maxActions (and-true (ltb (k .action) maxActions) _ (q .1) .0))
 
 all-named : (c : tie.Else3) → named (c .before .before .before .before .before .before .before .args .p) (c .before .before .before .before .before .before .before .args .key) ≡ true
 all-named c = sym (c .before .names-all .ensures) ∙ not-false _ (c .if3 .left)

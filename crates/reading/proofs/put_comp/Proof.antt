@@ -4,6 +4,7 @@ use Prim.Native.Nat.{ℕ, suc, _+_, _*_}
 use native.Mathlib.Omega.{arith}
 use lib.ListN.{length, set, length-set}
 use Rattle.reading.proofs.Raise.{filled-to}
+use Rattle.layout.specs.Layout.{blockWords}
 use borrow.Author.Needs.{needs}
 use Rattle.reading.proofs.put_comp.Statement.{statement}
 use Rattle.reading.proofs.put_comp.Tie as tie
@@ -55,13 +56,13 @@ returns c =
     let a = c .before .before .before .before .before .args in
     let m = c .before .before .fill-words .last .0 in
     let e : a .i + 1 ≡ suc (a .i) = omega arith in
-    let f : 1 + 73 * a .i ≡ 1 + 73 * a .i + 0 = omega arith in
+    let f : 1 + blockWords * a .i ≡ 1 + blockWords * a .i + 0 = omega arith in
     record {
       mid = m;
       firsts = filled-to (omega arith) (c .before .before .fill-words .ensures);
       words =
-          ap (λ x. set (set (set m 0 x) (1 + 73 * a .i) (a .states)) (1 + 73 * a .i + 1) (a .start)) e
-          ∙ ap (λ p. set (set (set m 0 (suc (a .i))) p (a .states)) (1 + 73 * a .i + 1) (a .start)) f;
+          ap (λ x. set (set (set m 0 x) (1 + blockWords * a .i) (a .states)) (1 + blockWords * a .i + 1) (a .start)) e
+          ∙ ap (λ p. set (set (set m 0 (suc (a .i))) p (a .states)) (1 + blockWords * a .i + 1) (a .start)) f;
     }
 
 pub put-comp-spec : {M : Type 1} → statement M

@@ -5,6 +5,7 @@ use native.Mathlib.Omega.{arith}
 use lib.ListN.{length, length-set}
 use Rattle.reading.proofs.Raise.{raised-to, raised-from}
 use Rattle.reading.proofs.SetsLaws.{four-words}
+use Rattle.layout.specs.Layout.{rowsAt, rowWords}
 use borrow.Author.Needs.{needs}
 use Rattle.reading.proofs.put_row.Statement.{statement}
 use Rattle.reading.proofs.put_row.Tie as tie
@@ -81,7 +82,7 @@ returns c =
     record {
       mid = c .before .before .raise-words .last .0;
       firsts = raised-from (omega arith) (raised-to (omega arith) (c .before .before .raise-words .ensures));
-      words = four-words (c .before .before .raise-words .last .0) (1169 + 4 * a .rows) (a .action) (a .guard) (a .resets) (a .target);
+      words = four-words (c .before .before .raise-words .last .0) (rowsAt + rowWords * a .rows) (a .action) (a .guard) (a .resets) (a .target);
     }
 
 pub put-row-spec : {M : Type 1} → statement M

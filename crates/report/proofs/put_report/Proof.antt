@@ -3,6 +3,7 @@ use mathlib.Core.Path.{sym, _∙_, ap}
 use Prim.Native.Nat.{ℕ, _-_}
 use native.Mathlib.Omega.{arith}
 use lib.ListN.{length, take, drop, length-replicate}
+use Rattle.layout.specs.Layout.{imageWords}
 use borrow.Author.Needs.{needs}
 use borrow.Author.Tests.{not-true, not-false}
 use denote.Ref.{now}
@@ -70,7 +71,7 @@ put-answer-requires c κs =
     let u = r .before .before .before .before .before in
     let bs = now (u .before .before .before .args .input) in
     let at = u .request-of .result .at in
-    (fine-read (take (length bs - at) (drop at bs)) _ _ _ (r .read .ensures) (omega (arith, length-replicate {A = ℕ} 5265 0)) (c .before .before .before .enum-told .given .1) .2, u .before .before .before .pre)
+    (fine-read (take (length bs - at) (drop at bs)) _ _ _ (r .read .ensures) (omega (arith, length-replicate {A = ℕ} imageWords 0)) (c .before .before .before .enum-told .given .1) .2, u .before .before .before .pre)
 
 same-length-2 : tie.Need-same-length-2
 same-length-2 c = search needs
@@ -83,7 +84,7 @@ returns-2 c =
     let q = u .request-of .result in
     let k = valued-some keep (requestOf bs) (sym (u .request-of .ensures .0) ∙ found-asked bs q (not-false (q .found) (r .before .before .before .if1 .left))) in
     let f = c .before .before .before .before .before .checked .given .0 .0 in
-    let p = refused-read (take (length bs - q .at) (drop (q .at) bs)) _ _ _ (r .read .ensures) (omega (arith, length-replicate {A = ℕ} 5265 0)) f (c .before .before .before .before .before .checked .given .1) in
+    let p = refused-read (take (length bs - q .at) (drop (q .at) bs)) _ _ _ (r .read .ensures) (omega (arith, length-replicate {A = ℕ} imageWords 0)) f (c .before .before .before .before .before .checked .given .1) in
     put-as (told-text f (p .0) (p .2) ∙ sym (report-text bs (drop (q .at) bs) (k .0) (k .1) (p .0) (ap readOf (sym (part-from bs (q .at))) ∙ p .1))) (c .before .before .put-refused .ensures)
 
 same-length-3 : tie.Need-same-length-3
@@ -96,7 +97,7 @@ returns-3 c =
     let bs = now (u .before .before .before .args .input) in
     let q = u .request-of .result in
     let k = valued-some keep (requestOf bs) (sym (u .request-of .ensures .0) ∙ found-asked bs q (not-false (q .found) (r .before .before .before .if1 .left))) in
-    let p = fine-read (take (length bs - q .at) (drop (q .at) bs)) _ _ _ (r .read .ensures) (omega (arith, length-replicate {A = ℕ} 5265 0)) (c .before .before .before .before .before .before .enum-told .given .1) in
+    let p = fine-read (take (length bs - q .at) (drop (q .at) bs)) _ _ _ (r .read .ensures) (omega (arith, length-replicate {A = ℕ} imageWords 0)) (c .before .before .before .before .before .before .enum-told .given .1) in
     let whole = report-run bs (drop (q .at) bs) (k .0) (k .1) (p .0) (ap readOf (sym (part-from bs (q .at))) ∙ p .1) (record { state = q .state; budget = q .budget }) (k .2) in
     put-as (ap (λ m. answerLines m (partsOf (q .state)) (settleOf m (partsOf (q .state)) (q .budget) (q .budget))) (p .3) ∙ whole) (c .before .before .put-answer .ensures)
 

@@ -1,5 +1,6 @@
 -- `request::with_part` meets its contract.
 use borrow.Author.Tests.{lt-ltb, le-ltb}
+use Rattle.answer.specs.Limits.{maxComponents}
 use borrow.Author.Needs.{needs}
 use Rattle.request.proofs.with_part.Statement.{statement}
 use Rattle.request.proofs.with_part.Tie as tie
@@ -20,10 +21,10 @@ add-t12 : tie.Need-add-t12
 add-t12 c = search needs
 
 returns : tie.Need-returns
-returns c = rw (lt-ltb (c .before .before .before .args .x .count) 16 (c .before .if1 .taken), c .byte-of .ensures)
+returns c = rw (lt-ltb (c .before .before .before .args .x .count) maxComponents (c .before .if1 .taken), c .byte-of .ensures)
 
 returns-2 : tie.Need-returns-2
-returns-2 c = rw (le-ltb (c .before .before .args .x .count) 16 (c .if1 .left))
+returns-2 c = rw (le-ltb (c .before .before .args .x .count) maxComponents (c .if1 .left))
 
 pub with-part-spec : {M : Type 1} → statement M
 with-part-spec =

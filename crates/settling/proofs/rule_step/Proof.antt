@@ -6,7 +6,7 @@ use native.Mathlib.Omega.{arith}
 use borrow.Author.Needs.{needs}
 use lib.ListN.{length}
 use denote.Ref.{now}
-use Rattle.answer.specs.Limits.{maxActions}
+use Rattle.answer.specs.Limits.{maxActions, maxComponents}
 use Rattle.answer.specs.Told.{answered, Step, moved, saysOutcome}
 use Rattle.answer.specs.State.{partsOf, withParts}
 use Rattle.answer.proofs.StateLaws.{with-own-parts}
@@ -47,7 +47,7 @@ returns-2 c =
     let x = s0 .args .x in
     let r = s0 .pre in
     let e = ap (taken (partsOf x)) (lowest-nowhere (modelOf t) (r .conforming) (r .joinable) (partsOf x) (r .standing .within) _ (c .before .lowest-all .ensures) (c .if1 .left)) in
-    let len : length (x .parts) ≡ 16 = search needs in
+    let len : length (x .parts) ≡ maxComponents = search needs in
     record {
       outcome = ap (λ v. some (answered (v .step))) (sym e);
       state = sym (with-own-parts x (omega (arith, len, count-few t x (r .standing)))) ∙ ap (λ v. withParts x (v .state)) (sym e);
