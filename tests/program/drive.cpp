@@ -4,7 +4,6 @@
 // From the repository's root: the example is crates/settle/stdin and crates/settle/stdout.
 #include <dirent.h>
 #include <fcntl.h>
-#include <poll.h>
 #include <signal.h>
 #include <sys/ioctl.h>
 #include <sys/resource.h>
@@ -12,6 +11,7 @@
 #include <sys/wait.h>
 #include <unistd.h>
 
+#include <algorithm>
 #include <atomic>
 #include <cerrno>
 #include <chrono>
@@ -392,7 +392,8 @@ const char* const not_written = "settle: the report could not be written whole (
 std::string says(const char* what, int error) { return what + std::to_string(error) + ")\n"; }
 
 // One urgent step, and the row that it goes by is the last line: what stops before it is stable at once.
-const std::string step_front = tabbed("from 0 5\ncomp 2 0\nact 0 uout\n"), step_last = tabbed("row 0 - 0 - 1\n"), step_report = tabbed("step 1 0 - 1\nstable 1 - 1\n");
+const std::string step_front = tabbed("from 0 5\ncomp 2 0\nact 0 uout\n"), step_last = tabbed("row 0 - 0 - 1\n");
+const std::string step_report = tabbed("step 1 0 - 1\nstable 1 - 1\n");
 
 // A list of clocks so many characters long: two-digit clocks, and two of one digit at most.
 std::string clocks_of_length(std::size_t length) {
@@ -405,7 +406,12 @@ std::string clocks_of_length(std::size_t length) {
   return list;
 }
 
-// A model whose text is as long as a text may be: one component that only hears, with long lists of resets, and one that takes an urgent step by the last line.
+std::string row(std::size_t state, std::size_t action, const std::string& resets) {
+  return "row " + std::to_string(state) + " - " + std::to_string(action) + " " + resets + " " + std::to_string(state) + "\n";
+}
+
+// A model whose text is as long as a text may be: one component that only hears, with long lists of resets,
+// and one that takes an urgent step by the last line.
 std::string longest_text(std::size_t length) {
   const std::size_t states = 32, inputs = 16;
   std::string head = "comp 32 0\n";
@@ -414,13 +420,13 @@ std::string longest_text(std::size_t length) {
   const std::string tail = "comp 2 0\nact 63 uout\nrow 0 - 63 - 1\n", all = range(0, 63);
   std::size_t spare = length - head.size() - tail.size();
   for (std::size_t s = 0; s < states; ++s)
-    for (std::size_t a = 0; a < inputs; ++a) spare -= ("row " + std::to_string(s) + " - " + std::to_string(a) + " - " + std::to_string(s) + "\n").size();
+    for (std::size_t a = 0; a < inputs; ++a) spare -= row(s, a, "-").size();
   std::string text = head;
   for (std::size_t s = 0; s < states; ++s)
     for (std::size_t a = 0; a < inputs; ++a) {
       const std::size_t more = std::min(spare, all.size() - 1);
       spare -= more;
-      text += "row " + std::to_string(s) + " - " + std::to_string(a) + " " + (more == 0 ? "-" : more == all.size() - 1 ? all : clocks_of_length(more + 1)) + " " + std::to_string(s) + "\n";
+      text += row(s, a, more == 0 ? "-" : more == all.size() - 1 ? all : clocks_of_length(more + 1));
     }
   return tabbed(text + tail);
 }
@@ -439,7 +445,8 @@ struct Longest {
 
 // The longest report there can be: every step resets all 64 clocks and leads back.
 Longest longest_report(const Limits& limits) {
-  const std::string all = range(0, 63), state = std::to_string(limits.state), states = state + repeated("," + state, limits.components - 1);
+  const std::string all = range(0, 63), state = std::to_string(limits.state);
+  const std::string states = state + repeated("," + state, limits.components - 1);
   const std::string comp = "comp " + std::to_string(limits.state + 1) + " 0\n";
   std::string model = comp + "act 10 uout\n";
   for (unsigned x = 0; x < 64; ++x) model += "clk " + std::to_string(x) + " 0\n";
@@ -491,12 +498,14 @@ std::vector<Case> reading(const Limits& limits) {
   const std::string text = longest_text(limits.text), request = longest_request(limits.request), full = request + text;
   all.push_back(plain("the longest text", tabbed("from 0,0 5\n") + text, tabbed("step 1 63 - 0,1\nstable 1 - 0,1\n")));
   all.push_back(plain(std::to_string(full.size()) + " bytes", full, tabbed("refused 21 0\n")));
-  for (std::size_t more : {1, 2}) all.push_back(plain(std::to_string(full.size() + more) + " bytes", full + repeated("x", more), tabbed("refused 1 0\n")));
+  for (std::size_t more : {1, 2})
+    all.push_back(plain(std::to_string(full.size() + more) + " bytes", full + repeated("x", more), tabbed("refused 1 0\n")));
   all.push_back(plain("10000000 bytes", full + std::string(10000000 - full.size(), 'x'), tabbed("refused 1 0\n")));
 
   for (Input::Kind kind : {Input::pipe, Input::socket})
     for (bool nonblocking : {false, true}) {
-      c = plain(std::string("the last line late, a ") + (nonblocking ? "non-blocking " : "") + (kind == Input::pipe ? "pipe" : "socket"), step_front, step_report);
+      const std::string which = std::string(nonblocking ? "non-blocking " : "") + (kind == Input::pipe ? "pipe" : "socket");
+      c = plain("the last line late, a " + which, step_front, step_report);
       c.in.kind = kind;
       c.in.nonblocking = nonblocking;
       c.in.late = step_last;
@@ -608,7 +617,8 @@ std::vector<Case> both() {
 std::vector<Case> system_cases() {
   const std::string in = read_file("crates/settle/stdin"), out = read_file("crates/settle/stdout");
   std::vector<Case> all = {plain("interrupted", in, out), failing("a read that fails in the text", in, "", not_read, EIO),
-                           failing("a write that fails in the report", in, out.substr(0, 40), not_written, EIO), failing("a write that takes nothing", in, "", not_written, EIO)};
+                           failing("a write that fails in the report", in, out.substr(0, 40), not_written, EIO),
+                           failing("a write that takes nothing", in, "", not_written, EIO)};
   const char* const modes[] = {"interrupted", "read-fails", "write-fails", "takes-nothing"};
   for (std::size_t k = 0; k < all.size(); ++k) all[k].system = modes[k];
   return all;
@@ -637,7 +647,8 @@ int main(int count, char** words) {
     } else if (word == "--system" && k + 1 < count) {
       system = words[++k];
     } else if (word == "--limits" && k + 5 < count) {
-      for (std::size_t* limit : {&limits.text, &limits.request, &limits.components, &limits.state, &limits.longest}) *limit = std::strtoul(words[++k], nullptr, 10);
+      for (std::size_t* limit : {&limits.text, &limits.request, &limits.components, &limits.state, &limits.longest})
+        *limit = std::strtoul(words[++k], nullptr, 10);
     } else if (word == "--case" && k + 1 < count) {
       only.push_back(words[++k]);
     } else {
@@ -645,12 +656,13 @@ int main(int count, char** words) {
     }
   }
   if (command.empty()) {
-    std::fprintf(stderr, "usage: drive [--script] [--system FILE] [--limits TEXT REQUEST COMPONENTS STATE LONGEST] [--case NAME].. COMMAND WORDS..\n");
+    std::fputs("drive: no command; drive.cpp says how it is used\n", stderr);
     return 2;
   }
 
   std::vector<Case> all = reading(limits);
-  for (const std::vector<Case>& more : {writing(limits), both(), system.empty() ? std::vector<Case>() : system_cases()}) all.insert(all.end(), more.begin(), more.end());
+  for (const std::vector<Case>& more : {writing(limits), both(), system.empty() ? std::vector<Case>() : system_cases()})
+    all.insert(all.end(), more.begin(), more.end());
   unsigned passed = 0, failed = 0;
   const auto tell = [&](const std::string& name, const std::string& wrong) {
     (wrong.empty() ? passed : failed)++;
@@ -658,8 +670,9 @@ int main(int count, char** words) {
     std::fflush(stdout);
   };
   if (only.empty()) {
-    const std::size_t length = longest_report(limits).report.size(), text = longest_text(limits.text).size(), request = longest_request(limits.request).size();
-    tell("the sizes", length == limits.longest && text == limits.text && request == limits.request ? "" : "the longest report, text and request are " + std::to_string(length) + ", " + std::to_string(text) + " and " + std::to_string(request) + " bytes long\n");
+    tell("the sizes", differs("the longest report", std::to_string(longest_report(limits).report.size()), std::to_string(limits.longest)) +
+                          differs("the longest text", std::to_string(longest_text(limits.text).size()), std::to_string(limits.text)) +
+                          differs("the longest request", std::to_string(longest_request(limits.request).size()), std::to_string(limits.request)));
   }
   for (const Case& c : all) {
     if (!only.empty() && !among(only, c.name)) continue;

@@ -44,7 +44,7 @@ fn answer(input: &[u8]) {
     let mut out = empty_report();
     let k = filled(input, &mut out);
     if let Moved::Failed(e) = stream::write(STDOUT_FILENO, &out[..k]) {
-        stream::say(b"settle: the report could not be written whole", e);
+        failing::say(b"settle: the report could not be written whole", e);
     }
 }
 
@@ -52,6 +52,6 @@ fn main() {
     let mut input = empty_input();
     match stream::read(STDIN_FILENO, &mut input) {
         Moved::Bytes(n) => answer(&input[..n]),
-        Moved::Failed(e) => stream::say(b"settle: standard input could not be read", e),
+        Moved::Failed(e) => failing::say(b"settle: standard input could not be read", e),
     }
 }

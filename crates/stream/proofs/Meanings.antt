@@ -1,19 +1,19 @@
 -- What an answer of the system's means, by its cases.
 use mathlib.Core.Path.{_≡_, refl, _∙_}
-use mathlib.Core.Bool.{Bool, true, false, cond, false≢true, true≢false}
+use mathlib.Core.Bool.{Bool, true, false, cond, false≢true}
 use mathlib.Core.List.{List}
 use Prim.Native.Nat.{ℕ, _≤_}
 use native.Mathlib.Omega.{arith}
 use lib.Dec.{T}
 use lib.ListN.{length, take}
 use lib.IntN.{ℤ, pos, negsuc, natAbs}
-use lib.Signed.{ltZ, leZ, nonNeg}
+use lib.Signed.{leZ, nonNeg}
 use mir.Val.{Fits, SFits, toZ, ofZ}
 use mir.ValLaws.{toZ-ofZ}
 use mir.Syntax.{w32, w64}
-use borrow.Author.Tests.{ltb-true, leb-false, eq-eqb, ne-eqb}
+use borrow.Author.Tests.{leb-false, eq-eqb, ne-eqb}
 use Rattle.libc.specs.Io as C
-use Rattle.stream.specs.Stream.{passes, triedOf, AtMost, Within, Whole, Tries, Gets, errorNumber}
+use Rattle.stream.specs.Stream.{passes, triedOf, AtMost, Within, Whole, Tries, Gets}
 use Rattle.stream.specs.declared.Tried.{Tried}
 use Rattle.stream.specs.declared.Tried.the-variants.{Moved, Again, Failed}
 use Rattle.stream.specs.declared.Moved.the-variants.{Bytes}
@@ -87,25 +87,6 @@ whole-failed n same = let z : _≡_ {A = ℕ} 0 1 = cc in absurd (omega arith)
 
 pub whole-bytes : {all n : ℕ} → n ≡ all → Whole all (Bytes n)
 whole-bytes {all} {n} h k same = let w : n ≡ k = cc in omega (arith, h, w)
-
--- ---- the number of an error
-pub number-below : (e : ℤ) → ltZ e (pos 0) ≡ true → 0 ≡ errorNumber e
-unfolding errorNumber
-number-below (pos n) h = absurd (omega (arith, ltb-true n 0 h))
-number-below (negsuc n) h = refl
-
-pub number-own : (e : ℤ) → ltZ e (pos 0) ≡ false → natAbs e ≡ errorNumber e
-unfolding errorNumber
-number-own (pos n) h = refl
-number-own (negsuc n) h = absurd (true≢false h)
-
-pub number-sign : (e : ℤ) → ltZ e (pos 0) ≡ false → T (nonNeg e)
-number-sign (pos n) h = tt
-number-sign (negsuc n) h = absurd (true≢false h)
-
-pub number-fits : (e : ℤ) → SFits w32 e → Fits w64 (natAbs e)
-number-fits (pos n) f = record { fits = omega (arith, f .sfits) }
-number-fits (negsuc n) f = record { fits = omega (arith, f .sfits) }
 
 -- ---- tried again: what was kept so far is kept
 pub record Still (old : List ℕ) (from : ℕ) (new : List ℕ) : Type 0 where

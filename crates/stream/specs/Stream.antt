@@ -1,12 +1,11 @@
--- What an answer of the system's `read` and `write` means, what the functions over them answer, and the line about a failure.
+-- What an answer of the system's `read` and `write` means, and what the functions over them answer.
 use mathlib.Core.Path.{_≡_}
 use mathlib.Core.Bool.{Bool, false, _||_, cond}
-use mathlib.Core.List.{List, [], _∷_, _++_}
-use Prim.Native.Nat.{ℕ, _+_, _-_, _≤_}
+use mathlib.Core.List.{List}
+use Prim.Native.Nat.{ℕ, _-_, _≤_}
 use lib.Dec.{eqb}
 use lib.IntN.{ℤ, pos, negsuc}
 use lib.ListN.{length, take}
-use Rattle.iosa.specs.Text.{decimal}
 use Rattle.stream.specs.declared.Tried.{Tried}
 use Rattle.stream.specs.declared.Tried.the-variants.{Moved, Again, Failed}
 use Rattle.stream.specs.declared.Moved as M
@@ -41,20 +40,3 @@ pub record Gets (old : List ℕ) (from : ℕ) (new : List ℕ) (r : M.Moved) : T
 -- all of them
 abbrev pub Whole : ℕ → M.Moved → Type 0
 Whole all r = (n : ℕ) → r ≡ Bytes n → n ≡ all
-
--- ---- the line: what could not be done, and the number of the error
-abbrev pub errorWord : List ℕ
-errorWord = 32 ∷ 40 ∷ 101 ∷ 114 ∷ 114 ∷ 111 ∷ 114 ∷ 32 ∷ []
-
-abbrev pub closeWord : List ℕ
-closeWord = 41 ∷ 10 ∷ []
-
-unfoldable pub errorNumber : ℤ → ℕ
-errorNumber (pos n) = n
-errorNumber (negsuc n) = 0
-
-unfoldable pub failureLine : List ℕ → ℤ → List ℕ
-failureLine what e = what ++ (errorWord ++ (decimal (errorNumber e) ++ closeWord))
-
-abbrev pub longestWhat : ℕ
-longestWhat = 100

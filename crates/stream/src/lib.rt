@@ -1,23 +1,19 @@
-// A descriptor's bytes read to their end, bytes written to one whole, and the line that says what the system failed at.
+// A descriptor's bytes read to their end, and bytes written to one whole. What the system fails at is told apart from what ends.
 // No contract can say what the system reads or writes: what its answers mean is said by `meant`, and all else follows that.
 use libc::EAGAIN;
 use libc::EINTR;
 use libc::EIO;
 use libc::types::timespec;
 ghost use mathlib.Core.Path.{_≡_};
-ghost use Prim.Native.Nat.{_+_, _-_, _≤_};
+ghost use Prim.Native.Nat.{_-_, _≤_};
 ghost use lib.ListN.{length};
-ghost use Rattle.print.specs.Put.{Put};
-ghost use Rattle.stream.specs.Stream.{triedOf, Tries, Gets, AtMost, Within, Whole, failureLine, errorNumber, longestWhat};
+ghost use Rattle.stream.specs.Stream.{triedOf, Tries, Gets, AtMost, Within, Whole};
 
 // How often a call that is to be tried again is tried: no run uses them up, and a proved loop ends.
 const TRIES: u64 = u64::MAX;
 
 // How much is read behind a full buffer.
 const BEHIND: usize = 1 << 30;
-
-// The longest line about a failure.
-const LINE: usize = 128;
 
 // What one call of the system's came to.
 enum Tried {
@@ -193,29 +189,4 @@ pub fn write(fd: i32, buf: &[u8]) -> Moved
         }
     }
     Moved::Bytes(done)
-}
-
-fn number(error: i32) -> u64
-    ensures { λ r. ⌜ r ≡ errorNumber error ⌝ }
-{
-    if error < 0 { 0 } else { error as u64 }
-}
-
-fn put_failure(line: &mut [u8], what: &[u8], error: i32) -> usize
-    requires { ⌜ length (now what) + 15 ≤ length (now line) ⌝ }
-    ensures { λ r. ⌜ Put (now (line .entry)) 0 (failureLine (now (what .entry)) error) (now (line .exit)) r ⌝ }
-{
-    let word = print::put_word(line, 0, what);
-    let digits = print::put_word(line, word, b" (error ");
-    let close = print::put_decimal(line, digits, number(error));
-    print::put_word(line, close, b")\n")
-}
-
-// Says on standard error what could not be done, and the number of the error.
-pub fn say(what: &[u8], error: i32)
-    requires { ⌜ length (now what) ≤ longestWhat ⌝ }
-{
-    let mut line = [0u8; LINE];
-    let end = put_failure(&mut line, what, error);
-    write(libc::STDERR_FILENO, &line[..end]);
 }

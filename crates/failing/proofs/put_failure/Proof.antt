@@ -1,4 +1,4 @@
--- `stream::put_failure` meets its contract: the words and the number are put one after the other.
+-- `failing::put_failure` meets its contract: the words and the number are put one after the other.
 use mathlib.Core.Path.{_≡_, refl, sym, ap, _∙_}
 use mathlib.Core.List.{List, _++_}
 use Prim.Native.Nat.{ℕ, _+_}
@@ -8,10 +8,10 @@ use mir.ValLaws.{toZ-ofZ}
 use mir.Syntax.{w32}
 use Rattle.iosa.specs.Text.{decimal}
 use Rattle.print.proofs.LaidLaws.{Left, Next, left-as, left-room, left-next, left-last, last-room}
-use Rattle.stream.specs.Stream.{failureLine, errorNumber, errorWord, closeWord}
-use Rattle.stream.proofs.Line.{behind, digits, first-left}
-use Rattle.stream.proofs.put_failure.Statement.{statement}
-use Rattle.stream.proofs.put_failure.Tie as tie
+use Rattle.failing.specs.Line.{failureLine, errorNumber, errorWord, closeWord}
+use Rattle.failing.proofs.Line.{behind, digits, first-left}
+use Rattle.failing.proofs.put_failure.Statement.{statement}
+use Rattle.failing.proofs.put_failure.Tie as tie
 
 -- what is left to put at a place, of the whole line
 abbrev Rest : tie.Start → List ℕ → ℕ → List ℕ → Type 0

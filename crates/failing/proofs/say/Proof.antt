@@ -1,13 +1,13 @@
--- `stream::say` is safe: the line is as long as its buffer at most.
+-- `failing::say` is safe: the line is as long as its buffer at most.
 use mathlib.Core.Path.{sym}
 use Prim.Native.Nat.{_≤_}
 use denote.Ref.{now}
 use lib.ListN.{length}
 use lib.Seq.{length-take-le}
-use Rattle.stream.proofs.Line.{line-ends}
+use Rattle.failing.proofs.Line.{line-ends}
 use borrow.Author.Needs.{needs}
-use Rattle.stream.proofs.say.Statement.{statement}
-use Rattle.stream.proofs.say.Tie as tie
+use Rattle.failing.proofs.say.Statement.{statement}
+use Rattle.failing.proofs.say.Tie as tie
 
 -- the line ends within its buffer
 ends : (c : tie.After-put-failure) → c .put-failure .result ≤ length (c .put-failure .last .0)

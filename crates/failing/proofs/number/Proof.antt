@@ -1,4 +1,4 @@
--- `stream::number` meets its contract.
+-- `failing::number` meets its contract.
 use mathlib.Core.Path.{_≡_, sym, ap, _∙_}
 use mathlib.Core.Bool.{true, false}
 use lib.IntN.{ℤ, pos}
@@ -6,9 +6,9 @@ use lib.Signed.{ltZ}
 use mir.Val.{toZ, ofZ}
 use mir.ValLaws.{toZ-ofZ}
 use mir.Syntax.{w32}
-use Rattle.stream.proofs.Meanings.{number-below, number-own, number-sign, number-fits}
-use Rattle.stream.proofs.number.Statement.{statement}
-use Rattle.stream.proofs.number.Tie as tie
+use Rattle.failing.proofs.Numbers.{number-below, number-own, number-sign, number-fits}
+use Rattle.failing.proofs.number.Statement.{statement}
+use Rattle.failing.proofs.number.Tie as tie
 
 error : (c : tie.Start) → toZ w32 (ofZ w32 (c .args .error)) ≡ c .args .error
 error c = toZ-ofZ w32 (c .args .error) (c .fits .error)

@@ -9,7 +9,7 @@ use Rattle.iosa.specs.Text.{decimal}
 use Rattle.measure.proofs.Fields.{width-most}
 use Rattle.print.specs.Put.{Room, Put}
 use Rattle.print.proofs.LaidLaws.{Next, laid-length, left-all, left-as}
-use Rattle.stream.specs.Stream.{failureLine, errorNumber, errorWord, closeWord, longestWhat}
+use Rattle.failing.specs.Line.{failureLine, errorNumber, errorWord, closeWord, longestWhat}
 
 -- what follows the first word, and what follows the second
 abbrev pub behind : ℤ → List ℕ
