@@ -638,7 +638,7 @@ int main(int count, char** words) {
   signal(SIGPIPE, SIG_IGN);
   bool script = false;
   std::string system;
-  Limits limits = {32768, 256, 16, 10, 994466};
+  Limits limits = {32768, 256, 32, 100, 1322226};
   Words only, command;
   for (int k = 1; k < count; ++k) {
     const std::string word = words[k];
