@@ -21,7 +21,8 @@ use Rattle.iosa.specs.Model.{Model, declared}
 use Rattle.iosa.specs.WellFormed.{WellFormed}
 use Rattle.iosa.specs.Automaton.{Conforming, Joinable}
 use Rattle.iosa.specs.Product.{Within}
-use Rattle.iosa.specs.Timed.{valueOf, ticksOf, enablingAll, clockRowOf, agedFrom, fire}
+use Rattle.iosa.specs.Timed.{ticksOf, enablingAll, clockRowOf, agedFrom, fire}
+use Rattle.iosa.specs.TimedExactly.{valueOf}
 use Rattle.iosa.proofs.Settling.ProductOfMany.{wells}
 use Rattle.iosa.proofs.Timing.Enabling.{enabling-enables, enables-clock, clock-declared}
 use Rattle.moves.specs.Moves.{resetBy, afterBy}

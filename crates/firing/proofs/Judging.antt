@@ -21,7 +21,8 @@ use Rattle.iosa.specs.Automaton.{Conforming, Joinable}
 use Rattle.iosa.specs.Product.{Within}
 use Rattle.iosa.specs.Checks.{acceptOf}
 use Rattle.iosa.specs.Step.{Went, isStable, inRange, stateFault, lowest, urgentStep}
-use Rattle.iosa.specs.Timed.{enablingAll, unstableFault, outOfTicks, valuesFault, Timing, quietly, timedFrom, timedOf}
+use Rattle.iosa.specs.Timed.{enablingAll, unstableFault, outOfTicks, valuesFault, timedFrom, timedOf, quietly}
+use Rattle.iosa.specs.TimedExactly.{Timing}
 use Rattle.iosa.proofs.Settling.ProductOfMany.{wells}
 use Rattle.iosa.proofs.Timing.Ticks.{badValues, values-exactly}
 use Rattle.ticks.specs.Ticks.{Tick, Ticking, outside, byValue}

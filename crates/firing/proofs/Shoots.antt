@@ -10,7 +10,8 @@ use Rattle.iosa.specs.Model.{Row, Comp, Model}
 use Rattle.iosa.specs.WellFormed.{WellFormed}
 use Rattle.iosa.specs.Automaton.{Conditions, autoOf, Conforming, Joinable}
 use Rattle.iosa.specs.Product.{Within}
-use Rattle.iosa.specs.Step.{Gone, together}
+use Rattle.iosa.specs.Step.{together}
+use Rattle.iosa.specs.Stepped.{Gone}
 use Rattle.iosa.specs.Timed.{enablingAll, clockRowOf, fireOne, fireAll, firedBy, fire}
 use Rattle.iosa.proofs.Settling.Each.{each-all}
 use Rattle.iosa.proofs.Settling.ProductOfMany.{joinable-pairwise, wells}

@@ -16,7 +16,8 @@ use Rattle.answer.specs.declared.Firing.the-variants.{Refused}
 use Rattle.laws.specs.Sets.{_∈_}
 use Rattle.iosa.specs.Automaton.{Conforming, Joinable}
 use Rattle.iosa.specs.Model.{Model, declared}
-use Rattle.iosa.specs.Timed.{Timing, enablingAll, valueOf}
+use Rattle.iosa.specs.Timed.{enablingAll}
+use Rattle.iosa.specs.TimedExactly.{Timing, valueOf}
 use Rattle.layout.specs.Image.{modelOf}
 use Rattle.moves.specs.Standing.{Standing}
 use Rattle.ticks.specs.Ticks.{Ticking}

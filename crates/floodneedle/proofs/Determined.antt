@@ -7,8 +7,8 @@ use lib.IntN.{ℤ}
 use Rattle.answer.specs.Told.{Answer, doneOf}
 use Rattle.answer.specs.declared.State.{State}
 use Rattle.iosa.specs.Reading.{readOf}
-use Rattle.iosa.specs.Step.{Stepping}
-use Rattle.iosa.specs.Settle.{Settling}
+use Rattle.iosa.specs.Stepped.{Stepping}
+use Rattle.iosa.specs.Orders.{Settling}
 use Rattle.layout.specs.Lent.{tableAfter}
 use Rattle.table.specs.IsImage.{isImage}
 use Rattle.reading.specs.Read.{readOn}

@@ -14,9 +14,9 @@ use Rattle.answer.specs.declared.Stepped.{Stepped}
 use Rattle.answer.specs.declared.Settled.{Settled}
 use Rattle.answer.specs.declared.Timed.{Timed}
 use Rattle.iosa.specs.Start.{Beginning}
-use Rattle.iosa.specs.Step.{Stepping}
-use Rattle.iosa.specs.Settle.{Settling}
-use Rattle.iosa.specs.Timed.{Timing}
+use Rattle.iosa.specs.Stepped.{Stepping}
+use Rattle.iosa.specs.Orders.{Settling}
+use Rattle.iosa.specs.TimedExactly.{Timing}
 use Rattle.firing.specs.Shots.{TimingAnswers}
 use Rattle.settling.specs.Gives.{StepAnswers, SettleAnswers}
 use Rattle.outset.specs.declared.Outset.{Outset}

@@ -10,9 +10,10 @@ use Rattle.answer.specs.Told.{Answer, answered, refused, Step, moved, stable, S
 use Rattle.answer.specs.declared.State.{State}
 use Rattle.iosa.specs.Checks.{componentOf, compatibleOf, acceptOf, confluentOf}
 use Rattle.iosa.specs.Start.{Beginning}
-use Rattle.iosa.specs.Step.{Stepping}
-use Rattle.iosa.specs.Settle.{Settling}
-use Rattle.iosa.specs.Timed.{Timing, timedOf}
+use Rattle.iosa.specs.Stepped.{Stepping}
+use Rattle.iosa.specs.Orders.{Settling}
+use Rattle.iosa.specs.Timed.{timedOf}
+use Rattle.iosa.specs.TimedExactly.{Timing}
 use Rattle.outset.specs.Start.{stateIn}
 use Rattle.panel.specs.Advance.{outcomeOf}
 use Rattle.table.specs.OnTable.{onTable, checkOn}

@@ -5,3 +5,4 @@ pub mod Models
 pub mod Texts
 pub mod Lines
 pub mod Merged
+pub mod Whole

@@ -1,7 +1,7 @@
 -- Steps exactly, the product is an automaton again, and demand 3.
 pub mod Each
 pub mod Parts
-pub mod Closed
+pub mod OwnNames
 pub mod Descent
 pub mod Rule
 pub mod ProductConditions

@@ -9,17 +9,14 @@ use Rattle.answer.specs.Told.{tell, Answer, answered, refused}
 use Rattle.iosa.specs.Model.{Comp, Model}
 use Rattle.iosa.specs.Text.{textOf}
 use Rattle.iosa.specs.WellFormed.{WellFormed}
-use Rattle.iosa.specs.Faulty.{FaultAt}
-use Rattle.iosa.specs.Automaton.{UrgentRow}
+use Rattle.iosa.specs.Faulty.{LineFaultAt}
+use Rattle.iosa.specs.Automaton.{UrgentRow, Stable}
 use Rattle.iosa.specs.Product.{product, stateOf, Within}
-use Rattle.iosa.specs.Step.{Stepping}
-use Rattle.iosa.specs.Settle.{Settling}
-use Rattle.iosa.specs.Stepped.{StepsByRule, StepsByName}
-use Rattle.iosa.specs.Orders.{Called, CalledByList, NotEnabledAt}
-use Rattle.iosa.specs.Timed.{Timing}
-use Rattle.iosa.specs.TimedExactly.{TimedAnswer}
+use Rattle.iosa.specs.Stepped.{StepsByRule, StepsByName, Stepping}
+use Rattle.iosa.specs.Orders.{Called, CalledByList, NotEnabledAt, Settling}
+use Rattle.iosa.specs.TimedExactly.{Waits, InTicks, BelowZero, Shares, Timing, Shoots}
 use Rattle.iosa.specs.MergedAs.{MergedAnswer}
-use Rattle.iosa.specs.InOrder.{Check, _▹_, Gives, needs, room, accepted, confluent}
+use Rattle.iosa.specs.InOrder.{Check, _▹_, Gives, needs, room, noClock, accepted, conforms, joinable, confluent}
 
 -- nothing more is answered
 abbrev pub Fine : Answer (Unit {0}) → Type 0
@@ -28,6 +25,14 @@ Fine = Gives (λ _. Unit {0})
 -- "10 to 14 for each component in turn; then 15 to 17"
 abbrev pub AcceptAnswer : Comp → List Comp → Answer (Unit {0}) → Type 0
 AcceptAnswer c cs = accepted (c ∷ cs) ▹ Fine
+
+-- "one call for a component's own conditions", which "takes an index and gives 25 if there is none" (02, 10/13)
+abbrev pub ComponentAnswer : ℕ → Comp → List Comp → Answer (Unit {0}) → Type 0
+ComponentAnswer i c cs = needs 25 (i < length (c ∷ cs)) ▹ conforms (c ∷ cs) i ▹ Fine
+
+-- "another for the compatibility of several" (02, 10/13)
+abbrev pub CompatibleAnswer : Comp → List Comp → Answer (Unit {0}) → Type 0
+CompatibleAnswer c cs = joinable (c ∷ cs) ▹ Fine
 
 -- "then 18 where .. the confluence check is called"
 abbrev pub ConfluentAnswer : Comp → List Comp → Answer (Unit {0}) → Type 0
@@ -64,7 +69,9 @@ SettleListAnswer c cs s l = accepted (c ∷ cs) ▹ confluent (c ∷ cs) ▹ sta
 
 -- "as `accept`", then 21, 27, 28, 29, 30
 abbrev pub TimedStepAnswer : Comp → List Comp → List ℕ → List ℤ → Answer Timing → Type 0
-TimedStepAnswer c cs s vs = accepted (c ∷ cs) ▹ TimedAnswer c cs s vs
+TimedStepAnswer c cs s vs =
+    accepted (c ∷ cs) ▹ stateOk c cs s ▹ needs 27 (Stable (product c cs) (stateOf c cs s)) ▹ needs 28 (InTicks (c ∷ cs) vs)
+    ▹ noClock 29 (BelowZero (Waits c cs s) vs) ▹ noClock 30 (Shares (Waits c cs s) vs) ▹ Gives (Shoots c cs s vs)
 
 -- "as `accept`", then 24, 25, 26: a second table of so many bytes, and the bytes that it needs
 abbrev pub MergeCallAnswer : Comp → List Comp → ℕ → ℕ → ℕ → Answer Model → Type 0
@@ -74,7 +81,7 @@ MergeCallAnswer c cs i needed bytes = accepted (c ∷ cs) ▹ room needed bytes 
 -- "1; lines in file order, within a line 2 to 7; 8": or the one model whose text this is
 pub data ReadAnswer (t : List ℕ) : Answer Model → Type 0 where
   is1 : maxBytes < length t → ReadAnswer t (refused (tell 1 (0 ∷ [])))
-  is-fault : {n k : ℕ} → FaultAt t n k → ReadAnswer t (refused (tell n (k ∷ [])))
+  is-fault : {n k : ℕ} → LineFaultAt t n k → ReadAnswer t (refused (tell n (k ∷ [])))
   is8 : t ≡ [] → ReadAnswer t (refused (tell 8 (0 ∷ [])))
   is-text : {m : Model} → WellFormed m → textOf m ≡ t → ReadAnswer t (answered m)
 

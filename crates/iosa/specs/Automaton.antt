@@ -115,6 +115,10 @@ pub record Conditions (A : Automaton) : Type 0 where
 pub record MeetsAt (A : Automaton) (s : A .State) (a b : ℕ) : Type 0 where
   pub meet : {R Q : ℕ} {t u : A .State} → A .Row s 0 a R t → A .Row s 0 b Q u → (v : A .State) × A .Row t 0 b Q v × A .Row u 0 a R v
 
+-- they meet at s where the automaton has both
+abbrev pub Meets : (A : Automaton) → A .State → ℕ → ℕ → Type 0
+Meets A s a b = a ∈ alphabet A → b ∈ alphabet A → MeetsAt A s a b
+
 -- 000: "confluent with respect to actions a, b"
 pub record ConfluentFor (A : Automaton) (Counts : A .State → Type 0) (a b : ℕ) : Type 0 where
   pub meets : (s : A .State) → Counts s → MeetsAt A s a b

@@ -1,7 +1,7 @@
 -- Demand 3 (the mission; 01, "Confluence and settling"): what settling with any budget says of the series of the product's own rows.
 use mathlib.Core.Path.{_≡_}
 use mathlib.Core.Logic.{_⊎_, _↔_}
-use mathlib.Core.Bool.{true}
+use mathlib.Core.Bool.{true, false}
 use mathlib.Core.List.{List, _∷_}
 use Prim.Native.Nat.{ℕ, _≤_, _<_}
 use lib.ListN.{length}
@@ -10,7 +10,20 @@ use Rattle.iosa.specs.Automaton.{Stable}
 use Rattle.iosa.specs.Product.{product, stateOf, Series}
 use Rattle.iosa.specs.Step.{urgentStep}
 use Rattle.iosa.specs.Settle.{settle}
-pub use Rattle.iosa.specs.Orders.{GoesOn, Same, LowestSeries, rest, take, OurRun, SettledAs, Unsettled, Called, Listed, NotEnabledAt}
+use Rattle.iosa.specs.Orders.{Settling}
+pub use Rattle.iosa.specs.Orders.{GoesOn, Same, LowestSeries, rest, take, OurRun, Called, Listed, NotEnabledAt, not-enabled}
+
+-- settling answers stable, with n steps, resets R and state y
+pub record SettledAs (c : Comp) (cs : List Comp) (n R : ℕ) (y : product c cs .State) (d : Settling (List ℕ)) : Type 0 where
+  pub stable : d .stable ≡ true
+  pub steps : d .steps ≡ n
+  pub resets : d .resets ≡ R
+  pub state : stateOf c cs (d .state) ≡ y
+
+-- settling answers unsettled, with as many steps as its budget
+pub record Unsettled (budget : ℕ) (d : Settling (List ℕ)) : Type 0 where
+  pub unstable : d .stable ≡ false
+  pub steps : d .steps ≡ budget
 
 -- a series l with resets R from s stops in the stable y: no series is longer, each that stops is the same, and settling says so exactly when its
 -- budget is at least the number of steps

@@ -13,8 +13,10 @@ use Rattle.answer.specs.Told.{Told, tell, Answer, answered, refused, Shot, fire
 use Rattle.iosa.specs.Model.{Model, declared, rowCount}
 use Rattle.iosa.specs.Text.{textOf, digitsOf, decimal, joined, members, guardField, setField, fieldsAfter, compLine, actLine, clkLine, rowLine, kindOf, actPart, clkPart, rowLines, compText}
 use Rattle.iosa.specs.Reading.{readOf, exactly, moreDigits, number, moreNumbers, numbers, guardOrDash, numbersOrDash, kind, compEntry, actEntry, clkEntry, rowEntry, entry, outOfTurn, allBelow, outOfRange, allIn, lacks, ascending, setOf, follows, outOfOrder, tooMany, faultOf, takeIn, linesFrom}
-use Rattle.iosa.specs.Settle.{Settling, settleOf, settleListOf, settle, budgetFault, traceFault, play}
-use Rattle.iosa.specs.Timed.{Timing, timedOf, enablingAll, unstableFault, outOfTicks, valuesFault, belowZero, check29, isLeast, shares, check30, clockRow, clockRowOf, fireOne, fireAll, fallen, agedFrom, fire, timedFrom}
+use Rattle.iosa.specs.Settle.{settleOf, settleListOf, settle, budgetFault, traceFault, play}
+use Rattle.iosa.specs.Orders.{Settling}
+use Rattle.iosa.specs.Timed.{timedOf, enablingAll, unstableFault, outOfTicks, valuesFault, belowZero, check29, isLeast, shares, check30, clockRow, clockRowOf, fireOne, fireAll, fallen, agedFrom, fire, timedFrom}
+use Rattle.iosa.specs.TimedExactly.{Timing}
 use Rattle.iosa.specs.Merge.{mergeOf, rowsBy, eachWith, pairRows, productRows, merged, mergedAt, neighbourFault, sizeFault}
 use Rattle.laws.specs.Search.{seek}
 use Rattle.iosa.specs.WellFormed.{lower, before}
@@ -51,11 +53,11 @@ pub data Reply : Type 0 where
   ends : Bool → ℕ → ℕ → List ℕ → Reply
   -- v, action, resets, state, values
   fires : ℕ → ℕ → ℕ → List ℕ → List ℤ → Reply
-  rests : Reply
-  refuses : ℕ → List ℕ → Reply
+  stays-quiet : Reply
+  refuses-with : ℕ → List ℕ → Reply
 
 abbrev pub refusesTold : Told → Reply
-refusesTold t = refuses (t .number) (t .place)
+refusesTold t = refuses-with (t .number) (t .place)
 
 -- the reply of a call on the model read, or why the text is refused
 abbrev pub onModel : (Model → Reply) → Answer Model → Reply
@@ -76,7 +78,7 @@ replySettling (refused t) = refusesTold t
 
 abbrev pub replyShot : Shot → List ℕ → List ℤ → Reply
 replyShot (fired v a r) s vs = fires v a r s vs
-replyShot quiet s vs = rests
+replyShot quiet s vs = stays-quiet
 
 abbrev pub replyTiming : Answer Timing → Reply
 replyTiming (answered x) = replyShot (x .shot) (x .state) (x .values)
@@ -148,23 +150,23 @@ cases =
     ∷ P (lists M (1 ∷ 1 ∷ []) (2 ∷ 1 ∷ [])) (ends true 2 1 (0 ∷ 2 ∷ []))
     ∷ P (settles M (1 ∷ 0 ∷ []) 1) (ends false 1 1 (0 ∷ 1 ∷ []))
     ∷ P (settles M (1 ∷ 0 ∷ []) 2) (ends true 2 1 (0 ∷ 2 ∷ []))
-    ∷ P (settles M7 (1 ∷ 0 ∷ []) 100) (refuses 18 (1 ∷ 1 ∷ 1 ∷ 2 ∷ []))
-    ∷ P (settles M8 (1 ∷ 0 ∷ []) 100) (refuses 12 (1 ∷ 2 ∷ 1 ∷ []))
-    ∷ P (settles M9 (1 ∷ 0 ∷ []) 100) (refuses 14 (0 ∷ []))
-    ∷ P (settles M10 (1 ∷ 0 ∷ []) 100) (refuses 14 (0 ∷ []))
+    ∷ P (settles M7 (1 ∷ 0 ∷ []) 100) (refuses-with 18 (1 ∷ 1 ∷ 1 ∷ 2 ∷ []))
+    ∷ P (settles M8 (1 ∷ 0 ∷ []) 100) (refuses-with 12 (1 ∷ 2 ∷ 1 ∷ []))
+    ∷ P (settles M9 (1 ∷ 0 ∷ []) 100) (refuses-with 14 (0 ∷ []))
+    ∷ P (settles M10 (1 ∷ 0 ∷ []) 100) (refuses-with 14 (0 ∷ []))
     ∷ P (merges M 0) (text (bytesOf M11))
     ∷ P (times M (0 ∷ 0 ∷ []) (pos 5 ∷ []) 63) (fires 5 0 0 (1 ∷ 0 ∷ []) (replicate 64 (pos 0)))
-    ∷ P (lists M (1 ∷ 0 ∷ []) (2 ∷ [])) (refuses 23 (0 ∷ []))
+    ∷ P (lists M (1 ∷ 0 ∷ []) (2 ∷ [])) (refuses-with 23 (0 ∷ []))
     ∷ []
 
 -- the last bullets: the loop at 4,096 and 4,097, the empty text; "examples at 64 and 65 become 128 and 129" (request 12)
 unfoldable pub furtherCases : List Case
 furtherCases =
     P (settles loop (0 ∷ []) 4096) (ends false 4096 0 (0 ∷ []))
-    ∷ P (settles loop (0 ∷ []) 4097) (refuses 22 (0 ∷ []))
-    ∷ P (reads "") (refuses 8 (0 ∷ []))
+    ∷ P (settles loop (0 ∷ []) 4097) (refuses-with 22 (0 ∷ []))
+    ∷ P (reads "") (refuses-with 8 (0 ∷ []))
     ∷ P (reads "comp\t128\t0\n") (text (bytesOf "comp\t128\t0\n"))
-    ∷ P (reads "comp\t129\t0\n") (refuses 4 (1 ∷ []))
+    ∷ P (reads "comp\t129\t0\n") (refuses-with 4 (1 ∷ []))
     ∷ P (reads M) (text (bytesOf M))
     ∷ []
 
@@ -174,20 +176,20 @@ unfoldable pub componentCases : List Case
 componentCases =
     P (component M 0) fine
     ∷ P (component M 1) fine
-    ∷ P (component M 2) (refuses 25 (0 ∷ []))
+    ∷ P (component M 2) (refuses-with 25 (0 ∷ []))
     ∷ P (compatible M) fine
     ∷ P (accepts M) fine
     ∷ P (component M8 0) fine
-    ∷ P (component M8 1) (refuses 12 (1 ∷ 2 ∷ 1 ∷ []))
-    ∷ P (component M8 2) (refuses 25 (0 ∷ []))
+    ∷ P (component M8 1) (refuses-with 12 (1 ∷ 2 ∷ 1 ∷ []))
+    ∷ P (component M8 2) (refuses-with 25 (0 ∷ []))
     ∷ P (compatible M8) fine
-    ∷ P (accepts M8) (refuses 12 (1 ∷ 2 ∷ 1 ∷ []))
-    ∷ P (component shared 0) (refuses 14 (0 ∷ []))
+    ∷ P (accepts M8) (refuses-with 12 (1 ∷ 2 ∷ 1 ∷ []))
+    ∷ P (component shared 0) (refuses-with 14 (0 ∷ []))
     ∷ P (component shared 1) fine
-    ∷ P (component shared 2) (refuses 25 (0 ∷ []))
-    ∷ P (compatible shared) (refuses 15 (3 ∷ 0 ∷ 1 ∷ []))
-    ∷ P (accepts shared) (refuses 14 (0 ∷ []))
-    ∷ P (component repeating 1) (refuses 11 (2 ∷ []))
+    ∷ P (component shared 2) (refuses-with 25 (0 ∷ []))
+    ∷ P (compatible shared) (refuses-with 15 (3 ∷ 0 ∷ 1 ∷ []))
+    ∷ P (accepts shared) (refuses-with 14 (0 ∷ []))
+    ∷ P (component repeating 1) (refuses-with 11 (2 ∷ []))
     ∷ []
 
 -- the program's example: "For the state 1,0, budget 100 and model M"

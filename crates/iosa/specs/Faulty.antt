@@ -7,6 +7,7 @@ use mathlib.Core.List.{List, [], _∷_, _++_}
 use Prim.Native.Nat.{ℕ, suc, _≤_, _<_}
 use lib.ListN.{length}
 use Rattle.laws.specs.Sets.{_∈_}
+use Rattle.laws.specs.Lowest.{Lowest}
 use Rattle.answer.specs.Limits.{maxComponents, maxRows, maxStates, maxActions, maxClocks, maxBytes}
 use Rattle.answer.specs.Told.{tell, Answer, answered, refused}
 use Rattle.iosa.specs.Model.{Comp, Model, acts, rowCount}
@@ -92,48 +93,43 @@ pub record LineAt (bs : List ℕ) (e : Entry) (cs : List ℕ) : Type 0 where
   pub printed : bs ≡ lineOf e ++ cs
 
 -- ---- the faults of the line at the front of the bytes bs, by their numbers
-pub data Fault (p : Progress) (bs : List ℕ) (n : ℕ) : Type 0 where
+pub data LineFault (p : Progress) (bs : List ℕ) (n : ℕ) : Type 0 where
   -- 2 "line of wrong shape, or last line without LF"
-  wrong-shape : n ≡ 2 → ((e : Entry) (cs : List ℕ) → LineAt bs e cs → ⊥) → Fault p bs n
+  wrong-shape : n ≡ 2 → ((e : Entry) (cs : List ℕ) → LineAt bs e cs → ⊥) → LineFault p bs n
   -- 3 "line before any `comp`, or kinds out of turn"
-  out-of-turn : {e : Entry} {cs : List ℕ} → n ≡ 3 → LineAt bs e cs → ¬ InTurn (p .last) e → Fault p bs n
+  out-of-turn : {e : Entry} {cs : List ℕ} → n ≡ 3 → LineAt bs e cs → ¬ InTurn (p .last) e → LineFault p bs n
   -- 4 "number outside its range"
-  out-of-range : {e : Entry} {cs : List ℕ} → n ≡ 4 → LineAt bs e cs → ¬ InRange (current p) e → Fault p bs n
+  out-of-range : {e : Entry} {cs : List ℕ} → n ≡ 4 → LineAt bs e cs → ¬ InRange (current p) e → LineFault p bs n
   -- 5 "row names an action or clock its component lacks"
-  lacking : {e : Entry} {cs : List ℕ} → n ≡ 5 → LineAt bs e cs → ¬ Named (current p) e → Fault p bs n
+  not-named : {e : Entry} {cs : List ℕ} → n ≡ 5 → LineAt bs e cs → ¬ Named (current p) e → LineFault p bs n
   -- 6 "lines of one kind, or clocks in a resets field, not strictly ascending"
-  out-of-order : {e : Entry} {cs : List ℕ} → n ≡ 6 → LineAt bs e cs → ¬ InOrder (p .last) e → Fault p bs n
+  out-of-order : {e : Entry} {cs : List ℕ} → n ≡ 6 → LineAt bs e cs → ¬ InOrder (p .last) e → LineFault p bs n
   -- 7 "17th component or 1,025th row"; the 33rd since request 12
-  too-many : {e : Entry} {cs : List ℕ} → n ≡ 7 → LineAt bs e cs → ¬ Room (p .comps) e → Fault p bs n
-
--- "within a line 2 to 7": n is the line's lowest fault
-pub record Lowest (p : Progress) (bs : List ℕ) (n : ℕ) : Type 0 where
-  pub fault : Fault p bs n
-  pub least : (m : ℕ) → m < n → Fault p bs m → ⊥
+  too-many : {e : Entry} {cs : List ℕ} → n ≡ 7 → LineAt bs e cs → ¬ Room (p .comps) e → LineFault p bs n
 
 -- ---- the lines in their turn
 -- what stands before the line behind e
-abbrev pub taken : Progress → Entry → Progress
-taken p e = record { comps = takeIn (p .comps) e; last = some e }
+abbrev pub withLine : Progress → Entry → Progress
+withLine p e = record { comps = takeIn (p .comps) e; last = some e }
 
 -- the lines of t before line k are faultless, each in its turn; p stands before line k, and the bytes bs are left
 pub data Reaches (t : List ℕ) : ℕ → Progress → List ℕ → Type 0 where
   first-line : Reaches t 1 atStart t
   next-line : {k : ℕ} {p : Progress} {bs : List ℕ} {e : Entry} {cs : List ℕ} → Reaches t k p bs → LineAt bs e cs → Faultless p e
-      → Reaches t (suc k) (taken p e) cs
+      → Reaches t (suc k) (withLine p e) cs
 
 -- t, not too long, has a line k, the lines before it are faultless, and n is its lowest fault
-pub record FaultAt (t : List ℕ) (n k : ℕ) : Type 0 where
+pub record LineFaultAt (t : List ℕ) (n k : ℕ) : Type 0 where
   pub short : length t ≤ maxBytes
   pub progress : Progress
   pub bytes : List ℕ
   pub reached : Reaches t k progress bytes
   pub line : ¬ (bytes ≡ [])
-  pub lowest : Lowest progress bytes n
+  pub lowest : Lowest (LineFault progress bytes) n
 
 -- what is answered to t: a model, or 1, 8, or a line's lowest fault
-pub data Reply (t : List ℕ) (a : Answer Model) : Type 0 where
-  is-model : (m : Model) → a ≡ answered m → Reply t a
-  is-too-long : maxBytes < length t → a ≡ refused (tell 1 (0 ∷ [])) → Reply t a
-  is-empty : t ≡ [] → a ≡ refused (tell 8 (0 ∷ [])) → Reply t a
-  has-fault : (n k : ℕ) → FaultAt t n k → a ≡ refused (tell n (k ∷ [])) → Reply t a
+pub data ReadsAs (t : List ℕ) (a : Answer Model) : Type 0 where
+  is-model : (m : Model) → a ≡ answered m → ReadsAs t a
+  is-too-long : maxBytes < length t → a ≡ refused (tell 1 (0 ∷ [])) → ReadsAs t a
+  is-empty : t ≡ [] → a ≡ refused (tell 8 (0 ∷ [])) → ReadsAs t a
+  has-fault : (n k : ℕ) → LineFaultAt t n k → a ≡ refused (tell n (k ∷ [])) → ReadsAs t a

@@ -2,10 +2,13 @@
 use mathlib.Core.Path.{_≡_}
 use mathlib.Core.List.{[], _∷_}
 use Prim.Native.Nat.{ℕ, _≤_, _<_}
+use lib.ListN.{length}
+use Rattle.laws.specs.Lowest.{Lowest}
 use Rattle.answer.specs.Told.{Told, tell, Answer, answered, refused}
-use Rattle.iosa.specs.Model.{Model}
-use Rattle.iosa.specs.Automaton.{Conforming, Joinable, AllConfluent}
-use Rattle.iosa.specs.Faults.{Fault, Clash, First}
+use Rattle.iosa.specs.Model.{Model, compAt}
+use Rattle.iosa.specs.Automaton.{autoOf, Joinable, AllConfluent}
+use Rattle.iosa.specs.Thesis.{Definition41, HouseRule, AllDefinition41}
+use Rattle.iosa.specs.Faults.{Fault, InTurnOf, Clash, First}
 
 -- what a check tells where it refuses, and what holds where it passes
 pub record Check : Type 1 where
@@ -37,9 +40,21 @@ needs n P = record { Refuses = λ t. (P → ⊥) × (t ≡ tell n (0 ∷ [])); P
 abbrev pub room : ℕ → ℕ → Check
 room needed bytes = record { Refuses = λ t. (bytes < needed) × (t ≡ tell 24 (needed ∷ [])); Passes = needed ≤ bytes }
 
--- "10 to 14 for each component in turn; then 15 to 17": the first fault, or the conditions hold of each component and every two are compatible
+-- number n for a clock of which P holds, place the "lowest such clock"
+abbrev pub noClock : ℕ → (ℕ → Type 0) → Check
+noClock n P = record { Refuses = λ t. (x : ℕ) × Lowest P x × (t ≡ tell n (x ∷ [])); Passes = (x : ℕ) → P x → ⊥ }
+
+-- "10 to 14 for each component in turn; then 15 to 17": the first fault, or each component is of Definition 4.1 and every two are compatible
 abbrev pub accepted : Model → Check
-accepted m = record { Refuses = First (Fault m); Passes = Conforming m × Joinable m }
+accepted m = record { Refuses = First (Fault m); Passes = AllDefinition41 m × Joinable m }
+
+-- "10 to 14" of component i by itself: its first fault, or it is of Definition 4.1
+abbrev pub conforms : Model → ℕ → Check
+conforms m i = record { Refuses = First (InTurnOf m i); Passes = Definition41 (autoOf (compAt m i)) × HouseRule (autoOf (compAt m i)) }
+
+-- "15 to 17" by themselves: the first of them, or every two components are compatible
+abbrev pub joinable : Model → Check
+joinable m = record { Refuses = First (InTurnOf m (length m)); Passes = Joinable m }
 
 -- "then 18": the first clash, or every component is confluent
 abbrev pub confluent : Model → Check

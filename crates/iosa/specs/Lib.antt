@@ -2,6 +2,7 @@ pub mod Model
 pub mod Automaton
 pub mod Thesis
 pub mod Product
+pub mod Parts
 pub mod Start
 pub mod Text
 pub mod WellFormed

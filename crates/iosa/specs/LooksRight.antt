@@ -2,7 +2,7 @@
 use mathlib.Core.Bool.{true}
 use mathlib.Core.List.{List, [], _∷_}
 use Prim.Native.String.{String}
-use Rattle.iosa.specs.Examples.{Case, P, settles, ends, refuses}
+use Rattle.iosa.specs.Examples.{Case, P, settles, ends, refuses-with}
 
 -- "two inputs driven by two others clash too": of two `uin` actions each leads to a state of its own, for good
 abbrev pub inputsClash : String
@@ -18,7 +18,7 @@ activeMore = "comp\t2\t1\nact\t0\tout\nact\t1\tuout\nclk\t0\t1\nrow\t0\t0\t0\t0\
 
 unfoldable pub looksRight : List Case
 looksRight =
-    P (settles inputsClash (0 ∷ []) 1) (refuses 18 (0 ∷ 0 ∷ 0 ∷ 1 ∷ []))
-    ∷ P (settles resetsClash (0 ∷ []) 1) (refuses 18 (0 ∷ 0 ∷ 0 ∷ 1 ∷ []))
+    P (settles inputsClash (0 ∷ []) 1) (refuses-with 18 (0 ∷ 0 ∷ 0 ∷ 1 ∷ []))
+    ∷ P (settles resetsClash (0 ∷ []) 1) (refuses-with 18 (0 ∷ 0 ∷ 0 ∷ 1 ∷ []))
     ∷ P (settles activeMore (1 ∷ []) 1) (ends true 1 0 (0 ∷ []))
     ∷ []

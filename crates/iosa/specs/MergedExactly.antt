@@ -11,7 +11,8 @@ use Rattle.iosa.specs.Text.{textOf}
 use Rattle.iosa.specs.WellFormed.{WellFormed}
 use Rattle.iosa.specs.Automaton.{Leads, autoOf}
 use Rattle.iosa.specs.Product.{Joint, _⊗_}
-use Rattle.iosa.specs.Merge.{pairOf, merged, mergedAt}
+use Rattle.iosa.specs.Merge.{merged, mergedAt}
+use Rattle.iosa.specs.MergedAs.{pairOf}
 
 -- from x to y: x and y number pairs of states, and by R1, R2 or R3 the first pair goes to the second
 pub record PairRow (c d : Comp) (x C a R y : ℕ) : Type 0 where
@@ -59,9 +60,9 @@ pub record FitsIn (m : Model) (i : ℕ) : Type 0 where
 
 -- the answers for an accepted model and a buffer with room, each with what it is given for
 pub data MergeAnswer (m : Model) (i : ℕ) : Answer Model → Type 0 where
-  is25 : (suc i < length m → ⊥) → MergeAnswer m i (refused (tell 25 (0 ∷ [])))
-  is26 : suc i < length m → (FitsIn m i → ⊥) → MergeAnswer m i (refused (tell 26 (0 ∷ [])))
-  is-merged : suc i < length m → FitsIn m i → MergeAnswer m i (answered (mergedAt m i))
+  no-neighbour : (suc i < length m → ⊥) → MergeAnswer m i (refused (tell 25 (0 ∷ [])))
+  too-large : suc i < length m → (FitsIn m i → ⊥) → MergeAnswer m i (refused (tell 26 (0 ∷ [])))
+  small-enough : suc i < length m → FitsIn m i → MergeAnswer m i (answered (mergedAt m i))
 
 -- a composed state of m as one of the merged model: the two numbers at i and i+1 as the number of their pair
 abbrev pub pairedAt : Model → ℕ → List ℕ → List ℕ

@@ -1,7 +1,7 @@
 -- Series of urgent outputs in any order (the mission, demand 3; 01, "Confluence and settling"), and what settling by our rule or by a list answers of them.
 use mathlib.Core.Path.{_≡_}
 use mathlib.Core.Logic.{_⊎_, _↔_}
-use mathlib.Core.Bool.{true, false}
+use mathlib.Core.Bool.{Bool, true, false}
 use mathlib.Core.List.{List, [], _∷_, _++_}
 use Prim.Native.Nat.{ℕ, _≤_, _<_}
 use lib.ListN.{length}
@@ -9,7 +9,6 @@ use Rattle.laws.specs.Sets.{_∪_}
 use Rattle.iosa.specs.Model.{Comp}
 use Rattle.iosa.specs.Automaton.{Automaton, UrgentRow, Stable}
 use Rattle.iosa.specs.Product.{product, stateOf, Within, Series, count}
-use Rattle.iosa.specs.Settle.{Settling}
 
 -- an urgent output leaves y
 abbrev pub GoesOn : (A : Automaton) → A .State → Type 0
@@ -30,6 +29,14 @@ pub record OneEnd (A : Automaton) (x : A .State) : Type 0 where
   pub same : {l k : List ℕ} {R Q : ℕ} {y z : A .State} → Series A x l R y → Stable A y → Series A x k Q z → Stable A z → Same A l R y k Q z
 
 -- ---- settling by our rule
+-- "answers stable or unsettled, steps taken, clocks reset at least once, and the state. It writes the actions taken to .. a lent trace"
+pub record Settling (S : Type 0) : Type 0 where
+  pub stable : Bool
+  pub steps : ℕ
+  pub resets : ℕ
+  pub trace : List ℕ
+  pub state : S
+
 -- "Settling takes the lowest-numbered one": a series in which no lower-numbered urgent output is enabled where a step is taken
 pub data LowestSeries (A : Automaton) : A .State → List ℕ → ℕ → A .State → Type 0 where
   rest : {x : A .State} → LowestSeries A x [] 0 x
@@ -45,27 +52,16 @@ pub record OurRun (c : Comp) (cs : List Comp) (s : List ℕ) (budget : ℕ) (d :
   pub bounded : d .steps ≤ budget
   pub unsettled : d .stable ≡ false → d .steps ≡ budget
 
--- settling answers stable, with n steps, resets R and state y
-pub record SettledAs (c : Comp) (cs : List Comp) (n R : ℕ) (y : product c cs .State) (d : Settling (List ℕ)) : Type 0 where
-  pub stable : d .stable ≡ true
-  pub steps : d .steps ≡ n
-  pub resets : d .resets ≡ R
-  pub state : stateOf c cs (d .state) ≡ y
-
--- settling answers unsettled, with as many steps as its budget
-pub record Unsettled (budget : ℕ) (d : Settling (List ℕ)) : Type 0 where
-  pub unstable : d .stable ≡ false
-  pub steps : d .steps ≡ budget
-
--- what a call of settling that is not refused answers: the order does not matter, our run is one of the series, and its answer is that of every one
+-- what a call of settling that is not refused answers: the order does not matter, our run is one of the series, and it is stable exactly where the
+-- budget is enough for a series that stops. Then it is the same as every one (`same`), and else it has as many steps as its budget (`unsettled`)
 pub record Called (c : Comp) (cs : List Comp) (s : List ℕ) (budget : ℕ) (d : Settling (List ℕ)) : Type 0 where
   pub orders : OneEnd (product c cs) (stateOf c cs s)
   pub run : OurRun c cs s budget d
   pub enough : {l : List ℕ} {R : ℕ} {y : product c cs .State} → Series (product c cs) (stateOf c cs s) l R y → Stable (product c cs) y → length l ≤ budget
-      → SettledAs c cs (length l) R y d
+      → d .stable ≡ true
   pub short : {l : List ℕ} {R : ℕ} {y : product c cs .State} → Series (product c cs) (stateOf c cs s) l R y → Stable (product c cs) y → budget < length l
-      → Unsettled budget d
-  pub never : ((l : List ℕ) (R : ℕ) (y : product c cs .State) → Series (product c cs) (stateOf c cs s) l R y → Stable (product c cs) y → ⊥) → Unsettled budget d
+      → d .stable ≡ false
+  pub never : ((l : List ℕ) (R : ℕ) (y : product c cs .State) → Series (product c cs) (stateOf c cs s) l R y → Stable (product c cs) y → ⊥) → d .stable ≡ false
 
 -- ---- settling by list
 -- "Settling by list takes the listed actions .. in order and answers likewise, but writes no trace; stable tells only of the last state"
@@ -77,16 +73,9 @@ pub record Listed (c : Comp) (cs : List Comp) (s l : List ℕ) (d : Settling (Li
   pub trace : d .trace ≡ []
 
 -- 23 "listed action not an enabled urgent output", place its index: those before it are a series, and it is not enabled where that ends
-pub record NotEnabledAt (A : Automaton) (x : A .State) (l : List ℕ) (i : ℕ) : Type 0 where
-  pub before : List ℕ
-  pub action : ℕ
-  pub later : List ℕ
-  pub split : l ≡ before ++ (action ∷ later)
-  pub index : length before ≡ i
-  pub resets : ℕ
-  pub end : A .State
-  pub series : Series A x before resets end
-  pub disabled : (C R : ℕ) (y : A .State) → UrgentRow A end C action R y → ⊥
+pub data NotEnabledAt (A : Automaton) (x : A .State) : List ℕ → ℕ → Type 0 where
+  not-enabled : (before : List ℕ) (a : ℕ) (later : List ℕ) {R : ℕ} {y : A .State} → Series A x before R y
+      → ((C Q : ℕ) (z : A .State) → UrgentRow A y C a Q z → ⊥) → NotEnabledAt A x (before ++ (a ∷ later)) (length before)
 
 -- what a call of settling by list that is not refused answers
 pub record CalledByList (c : Comp) (cs : List Comp) (s l : List ℕ) (d : Settling (List ℕ)) : Type 0 where

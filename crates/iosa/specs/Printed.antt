@@ -7,7 +7,7 @@ use Rattle.answer.specs.Limits.{maxRequest}
 use Rattle.answer.specs.Told.{Told, tell, Answer, answered, refused}
 use Rattle.iosa.specs.Model.{Comp}
 use Rattle.iosa.specs.Stepped.{StepsBy}
-use Rattle.iosa.specs.Settle.{Settling}
+use Rattle.iosa.specs.Orders.{Settling}
 use Rattle.iosa.specs.Answers.{SettleAnswer, ReadAnswer}
 use Rattle.iosa.specs.Report.{Request, RequestFits, requestText, refusedLine, stepLine, lastLine}
 

@@ -12,8 +12,10 @@ use Rattle.iosa.specs.Model.{Model}
 use Rattle.iosa.specs.Text.{tab, lf, decimal, joined, setField, fieldsAfter}
 use Rattle.iosa.specs.Reading.{Got, got, then, exactly, theByte, number, numbers, field, readOf}
 use Rattle.iosa.specs.Line.{Fits, ListFits}
-use Rattle.iosa.specs.Step.{Gone, urgentStep}
-use Rattle.iosa.specs.Settle.{Settling, settleOf}
+use Rattle.iosa.specs.Step.{urgentStep}
+use Rattle.iosa.specs.Stepped.{Gone}
+use Rattle.iosa.specs.Settle.{settleOf}
+use Rattle.iosa.specs.Orders.{Settling}
 
 -- ---- the request line: "`from`, tab, state numbers joined by commas, tab, budget"
 pub record Request : Type 0 where

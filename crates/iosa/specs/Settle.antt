@@ -11,15 +11,9 @@ use Rattle.answer.specs.Limits.{maxBudget}
 use Rattle.answer.specs.Told.{Told, tell, Answer, answered, refused}
 use Rattle.iosa.specs.Model.{Model}
 use Rattle.iosa.specs.Checks.{confluentOf}
-use Rattle.iosa.specs.Step.{Gone, Went, lowest, urgentStep, isStable, stateFault, unless}
-
--- "answers stable or unsettled, steps taken, clocks reset at least once, and the state. It writes the actions taken to .. a lent trace"
-pub record Settling (S : Type 0) : Type 0 where
-  pub stable : Bool
-  pub steps : ℕ
-  pub resets : ℕ
-  pub trace : List ℕ
-  pub state : S
+use Rattle.iosa.specs.Step.{Went, lowest, urgentStep, isStable, stateFault, unless}
+use Rattle.iosa.specs.Stepped.{Gone}
+use Rattle.iosa.specs.Orders.{Settling}
 
 -- no step taken, and whether the state is stable
 abbrev pub resting : {S : Type 0} → Bool → S → Settling S

@@ -73,6 +73,10 @@ unfoldable pub members : ℕ → ℕ → ℕ → List ℕ
 members s zero k = []
 members s (suc n) k = cond (has s k) (k ∷ members s n (suc k)) (members s n (suc k))
 
+-- the clocks of a set, as a list
+abbrev pub clocksOf : ℕ → List ℕ
+clocksOf s = members s maxClocks 0
+
 -- "guard (a clock or `-`)"
 unfoldable pub guardField : ℕ → List ℕ
 guardField zero = dash ∷ []

@@ -18,17 +18,20 @@ pub record Among (A : Automaton) (s : A .State) (C a R : ℕ) (t : A .State) : T
   pub resets : R ⊆ A .clocks
   pub target : A .States t
 
-pub record Structure (A : Automaton) : Type 0 where
-  -- "A is a set of labels partitioned into disjoint sets of input labels and output labels"
-  pub partition : Apart (A .inputs) (A .outputs)
-  -- "from which a subset A^u ⊆ A is marked as urgent"
-  pub urgent : A .urgent ⊆ alphabet A
-  -- the rows lie among the states, the clocks and the labels
+-- the automaton keeps to its own states, clocks and labels
+pub record OwnNames (A : Automaton) : Type 0 where
   pub rows : {C a R : ℕ} {s t : A .State} → A .Row s C a R t → Among A s C a R t
   -- "C0 is the set of clocks that are initialized in the initial state"
   pub initialized : A .started ⊆ A .clocks
   -- "s0 ∈ S is the initial state"
   pub initial : A .States (A .start)
+
+pub record Structure (A : Automaton) : Type 0 where
+  -- "A is a set of labels partitioned into disjoint sets of input labels and output labels"
+  pub partition : Apart (A .inputs) (A .outputs)
+  -- "from which a subset A^u ⊆ A is marked as urgent"
+  pub urgent : A .urgent ⊆ alphabet A
+  pub own : OwnNames A
 
 -- ---- the last sentence of the definition
 -- enabling(s) = { y | s -{y},_,_-> _ }: y is one of them

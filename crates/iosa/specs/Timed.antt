@@ -2,26 +2,20 @@
 use mathlib.Core.Option.{Option, none, some}
 use mathlib.Core.Bool.{Bool, true, false, _&&_, _||_, not, cond}
 use mathlib.Core.List.{List, [], _∷_}
-use Prim.Native.Nat.{ℕ, zero, suc, _-_}
-use lib.ListN.{length, getD}
+use Prim.Native.Nat.{ℕ, zero, suc}
+use lib.ListN.{length}
 use lib.Dec.{eqb}
 use lib.IntN.{ℤ, pos, negsuc, _-ℤ_}
 use lib.Signed.{ltZ, leZ}
 use Rattle.laws.specs.Sets.{has, _∪_}
 use Rattle.laws.specs.Search.{seek, when, orElse, least, any}
 use Rattle.answer.specs.Limits.{maxClocks, maxTicks}
-use Rattle.answer.specs.Told.{Told, tell, Answer, answered, refused, Shot, fired, quiet}
+use Rattle.answer.specs.Told.{Told, tell, Answer, answered, refused, fired, quiet}
 use Rattle.iosa.specs.Model.{Row, Comp, Model, rowAt, declared}
 use Rattle.iosa.specs.Checks.{enablingOf, acceptOf}
-use Rattle.iosa.specs.Step.{Gone, goneBy, move, together, isStable, stateFault}
-
--- -2^40, where a clock that runs on stops
-abbrev pub floor : ℤ
-floor = negsuc (maxTicks - 1)
-
--- the value of clock x
-abbrev pub valueOf : List ℤ → ℕ → ℤ
-valueOf vs x = getD vs x (pos 0)
+use Rattle.iosa.specs.Step.{goneBy, move, together, isStable, stateFault}
+use Rattle.iosa.specs.Stepped.{Gone}
+use Rattle.iosa.specs.TimedExactly.{floor, valueOf, Timing}
 
 -- the enabling clocks of a composed state: those of all components' states
 unfoldable pub enablingAll : Model → List ℕ → ℕ
@@ -91,12 +85,7 @@ abbrev pub ticksOf : ℤ → ℕ
 ticksOf (pos n) = n
 ticksOf (negsuc n) = 0
 
--- ---- "The answer gives v, action, resets, state", and what the lent values are then
-pub record Timing : Type 0 where
-  pub shot : Shot
-  pub state : List ℕ
-  pub values : List ℤ
-
+-- ---- what the answer and the lent values are then
 -- "With no enabling clock the answer is quiet and nothing changes"
 abbrev pub quietly : List ℕ → List ℤ → Timing
 quietly s vs = record { shot = quiet; state = s; values = vs }

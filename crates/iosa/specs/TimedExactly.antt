@@ -3,17 +3,25 @@ use mathlib.Core.Path.{_≡_}
 use mathlib.Core.Logic.{_≢_}
 use mathlib.Core.Bool.{true, false, cond}
 use mathlib.Core.List.{List, [], _∷_}
-use Prim.Native.Nat.{ℕ, _<_}
-use lib.ListN.{length}
-use lib.IntN.{ℤ, pos, _-ℤ_}
+use Prim.Native.Nat.{ℕ, _-_, _<_}
+use lib.ListN.{length, getD}
+use lib.IntN.{ℤ, pos, negsuc, _-ℤ_}
 use lib.Signed.{ltZ, leZ}
 use Rattle.laws.specs.Sets.{has, only, _∈_}
+use Rattle.laws.specs.Lowest.{Lowest}
 use Rattle.answer.specs.Limits.{maxClocks, maxTicks}
-use Rattle.answer.specs.Told.{tell, Answer, answered, refused, fired}
+use Rattle.answer.specs.Told.{tell, Answer, answered, refused, Shot, fired, quiet}
 use Rattle.iosa.specs.Model.{Comp, Model, declared}
 use Rattle.iosa.specs.Automaton.{Stable, Enabling}
 use Rattle.iosa.specs.Product.{product, stateOf, Within}
-use Rattle.iosa.specs.Timed.{floor, valueOf, Timing, quietly}
+
+-- -2^40, where a clock that runs on stops
+abbrev pub floor : ℤ
+floor = negsuc (maxTicks - 1)
+
+-- the value of clock x
+abbrev pub valueOf : List ℤ → ℕ → ℤ
+valueOf vs x = getD vs x (pos 0)
 
 -- clock x guards a row of the product that leaves the composed state
 abbrev pub Waits : Comp → List Comp → List ℕ → ℕ → Type 0
@@ -42,11 +50,6 @@ pub record Shares (W : ℕ → Type 0) (vs : List ℤ) (x : ℕ) : Type 0 where
   pub differs : other ≢ x
   pub there : LeastOf W vs other
 
--- "lowest such clock"
-pub record Lowest (P : ℕ → Type 0) (x : ℕ) : Type 0 where
-  pub here : P x
-  pub before : (y : ℕ) → y < x → P y → ⊥
-
 -- "In a stable composed state the enabling clock with the least value v fires": every other enabling clock has a greater one.
 -- "The row of that clock is taken": a row of the product
 pub record Fires (c : Comp) (cs : List Comp) (s : List ℕ) (vs : List ℤ) (x v a R : ℕ) (s′ : List ℕ) : Type 0 where
@@ -65,6 +68,20 @@ pub record Falls (m : Model) (vs : List ℤ) (v : ℕ) (vs′ : List ℤ) : Type
   pub falls : (x : ℕ) → x < length vs → x ∈ declared m → valueOf vs′ x ≡ greater (valueOf vs x -ℤ pos v) floor
   pub stays : (x : ℕ) → has (declared m) x ≡ false → valueOf vs′ x ≡ valueOf vs x
 
+-- "The answer gives v, action, resets, state", and what the lent values are then
+pub record Timing : Type 0 where
+  pub shot : Shot
+  pub state : List ℕ
+  pub values : List ℤ
+
+-- what is answered where nothing is refused
+pub data Shoots (c : Comp) (cs : List Comp) (s : List ℕ) (vs : List ℤ) : Timing → Type 0 where
+  -- "With no enabling clock the answer is quiet and nothing changes"
+  no-shot : ((y : ℕ) → Waits c cs s y → ⊥) → Shoots c cs s vs (record { shot = quiet; state = s; values = vs })
+  one-shot : {x v a R : ℕ} {s′ : List ℕ} {vs′ : List ℤ} → Fires c cs s vs x v a R s′ → Falls (c ∷ cs) vs v vs′
+      → Shoots c cs s vs (record { shot = fired v a R; state = s′; values = vs′ })
+
+-- ---- the same, answer by answer
 -- none of 21, 27 and 28
 pub record Ready (c : Comp) (cs : List Comp) (s : List ℕ) (vs : List ℤ) : Type 0 where
   pub within : Within (c ∷ cs) s
@@ -76,10 +93,11 @@ pub data TimedAnswer (c : Comp) (cs : List Comp) (s : List ℕ) (vs : List ℤ) 
   is21 : (Within (c ∷ cs) s → ⊥) → TimedAnswer c cs s vs (refused (tell 21 (0 ∷ [])))
   is27 : Within (c ∷ cs) s → (Stable (product c cs) (stateOf c cs s) → ⊥) → TimedAnswer c cs s vs (refused (tell 27 (0 ∷ [])))
   is28 : Within (c ∷ cs) s → Stable (product c cs) (stateOf c cs s) → (InTicks (c ∷ cs) vs → ⊥) → TimedAnswer c cs s vs (refused (tell 28 (0 ∷ [])))
+  -- 29 and 30: "lowest such clock"
   is29 : {x : ℕ} → Ready c cs s vs → Lowest (BelowZero (Waits c cs s) vs) x → TimedAnswer c cs s vs (refused (tell 29 (x ∷ [])))
   is30 : {x : ℕ} → Ready c cs s vs → ((y : ℕ) → BelowZero (Waits c cs s) vs y → ⊥) → Lowest (Shares (Waits c cs s) vs) x
       → TimedAnswer c cs s vs (refused (tell 30 (x ∷ [])))
   -- "With no enabling clock the answer is quiet and nothing changes"
-  is-quiet : Ready c cs s vs → ((y : ℕ) → Waits c cs s y → ⊥) → TimedAnswer c cs s vs (answered (quietly s vs))
+  is-quiet : Ready c cs s vs → ((y : ℕ) → Waits c cs s y → ⊥) → TimedAnswer c cs s vs (answered (record { shot = quiet; state = s; values = vs }))
   is-fired : {x v a R : ℕ} {s′ : List ℕ} {vs′ : List ℤ} → Ready c cs s vs → Fires c cs s vs x v a R s′ → Falls (c ∷ cs) vs v vs′
       → TimedAnswer c cs s vs (answered (record { shot = fired v a R; state = s′; values = vs′ }))

@@ -18,6 +18,7 @@ use Rattle.iosa.specs.Checks.{rowFor}
 use Rattle.iosa.proofs.Acceptance.Order.{rows-ascend}
 use Rattle.layout.specs.Layout.{countOf, blockWord, firstOf, actionAt}
 use Rattle.layout.specs.Image.{rowIn, compOf, Image}
+use Rattle.layout.specs.Ranges.{firstBy, leavesBy}
 use Rattle.layout.proofs.Bridge.{row-for}
 use Rattle.layout.proofs.RowsAscend.{before-action}
 use Rattle.layout.proofs.RowsOfRange.{well-comp, range-from, range-to, range-row}
@@ -26,14 +27,6 @@ use Rattle.layout.proofs.ImageIsSane.{row-ranges}
 some-of : {A B : Type 0} (f : A → B) (o : Option A) → isSome (mapSome f o) ≡ true → isSome o ≡ true
 some-of f none e = e
 some-of f (some x) e = refl
-
--- the first row of the range of s with an action of S
-abbrev pub firstBy : List ℕ → ℕ → ℕ → ℕ → Option ℕ
-firstBy t i s S = seek (λ r. when (has S (actionAt t r)) r) (firstOf t i s) (firstOf t i (suc s))
-
--- an action of S that leaves s
-abbrev pub leavesBy : List ℕ → ℕ → ℕ → ℕ → ℕ → Bool
-leavesBy t i s S a = has S a && isSome (rowFor (compOf t i) s a)
 
 module _ (t : List ℕ) (im : Image t) (i s : ℕ) (h : i < countOf t) (below : s < blockWord t i 0) where
   abbrev InRange : ℕ → Type 0

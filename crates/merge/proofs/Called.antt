@@ -17,7 +17,7 @@ use Rattle.answer.specs.declared.Checked.the-variants.{Fine, Refused}
 use Rattle.iosa.specs.Model.{Model}
 use Rattle.iosa.specs.Checks.{acceptOf}
 use Rattle.iosa.specs.Merge.{neighbourFault, sizeFault, mergedAt, mergeOf}
-use Rattle.iosa.specs.MergedExactly.{FitsIn, is25, is26, is-merged}
+use Rattle.iosa.specs.MergedExactly.{FitsIn, no-neighbour, too-large, small-enough}
 use Rattle.iosa.proofs.Acceptance.Accepted.{accepted-exactly}
 use Rattle.iosa.proofs.Merging.Models.{merge-exactly, merged-model-is-well-formed}
 use Rattle.layout.specs.Layout.{imageWords, countOf, blockWord}
@@ -99,7 +99,7 @@ module _ (t : List ℕ) (i : ℕ) (was : List ℕ) where
       pub is-alone : (suc i < countOf t → ⊥) → (r : Checked) → r ≡ Refused (record { number = 25; place = Whole }) → Merging t i was r was
       unfolding told
       is-alone n r e =
-          rw e (refuses (tell 25 (0 ∷ [])) (roomy ∙ merge-exactly (modelOf t) i acc _ .1 (is25 (λ h. n (omega (arith, model-length t))))) (record { number = 25; place = Whole }) refl)
+          rw e (refuses (tell 25 (0 ∷ [])) (roomy ∙ merge-exactly (modelOf t) i acc _ .1 (no-neighbour (λ h. n (omega (arith, model-length t))))) (record { number = 25; place = Whole }) refl)
 
       module _ (next : suc i < countOf t) where
         inside : suc i < length (modelOf t)
@@ -108,7 +108,7 @@ module _ (t : List ℕ) (i : ℕ) (was : List ℕ) where
         pub is-big : (FitsIn (modelOf t) i → ⊥) → (r : Checked) → r ≡ Refused (record { number = 26; place = Whole }) → Merging t i was r was
         unfolding told
         is-big n r e =
-            rw e (refuses (tell 26 (0 ∷ [])) (roomy ∙ merge-exactly (modelOf t) i acc _ .1 (is26 inside n)) (record { number = 26; place = Whole }) refl)
+            rw e (refuses (tell 26 (0 ∷ [])) (roomy ∙ merge-exactly (modelOf t) i acc _ .1 (too-large inside n)) (record { number = 26; place = Whole }) refl)
 
         module _ (fits : FitsIn (modelOf t) i) where
           long : length (imageOf (mergedAt (modelOf t) i)) ≡ imageWords
@@ -125,5 +125,5 @@ module _ (t : List ℕ) (i : ℕ) (was : List ℕ) where
           pub is-merged-model : (into : List ℕ) → into ≡ sets was 0 (imageOf (mergedAt (modelOf t) i)) → Merging t i was Fine into
           unfolding saysChecked
           is-merged-model into e =
-              let k = roomy ∙ merge-exactly (modelOf t) i acc _ .1 (is-merged inside fits) in
+              let k = roomy ∙ merge-exactly (modelOf t) i acc _ .1 (small-enough inside fits) in
               record { answer = sym (ap (λ a. some (doneOf a)) k); table = e ∙ written ∙ sym (ap (λ a. tableAfter a was) k) }

@@ -7,7 +7,8 @@ use Rattle.answer.specs.State.{partsOf}
 use Rattle.answer.specs.declared.Outcome.{Outcome}
 use Rattle.answer.specs.declared.State.{State}
 use Rattle.iosa.specs.Model.{Comp}
-use Rattle.iosa.specs.Step.{Stepping, stepOf}
+use Rattle.iosa.specs.Step.{stepOf}
+use Rattle.iosa.specs.Stepped.{Stepping}
 use Rattle.iosa.specs.Answers.{StepAnswer}
 use Rattle.iosa.proofs.Answers.Models.{step-model-exactly}
 use Rattle.table.proofs.OnImageExactly.{on-table-leaves}

@@ -9,7 +9,7 @@ use Rattle.answer.specs.declared.Outcome.the-variants.{Moved, Stable, Refused}
 use Rattle.answer.specs.declared.Refusal.{Refusal}
 use Rattle.answer.specs.declared.State.{State}
 use Rattle.answer.specs.declared.Stepped.{Stepped}
-use Rattle.iosa.specs.Step.{Stepping}
+use Rattle.iosa.specs.Stepped.{Stepping}
 use Rattle.settling.specs.Gives.{StepAnswers}
 use Rattle.panel.specs.Advance.{outcomeOf, movedTo, stateAfter}
 

@@ -12,8 +12,8 @@ use Rattle.answer.proofs.StateLaws.{parts-length}
 use Rattle.iosa.specs.Model.{Comp, Model}
 use Rattle.iosa.specs.WellFormed.{WellFormed}
 use Rattle.iosa.specs.Product.{Within}
-use Rattle.iosa.specs.Step.{Stepping, stepOf}
-use Rattle.iosa.specs.Stepped.{StepsByRule, rests, moves}
+use Rattle.iosa.specs.Step.{stepOf}
+use Rattle.iosa.specs.Stepped.{StepsByRule, is-stable, moves, Stepping}
 use Rattle.iosa.proofs.Settling.Parts.{within-length}
 use Rattle.iosa.proofs.Settling.StepCalled.{step-answers-exactly}
 use Rattle.layout.specs.Image.{modelOf}
@@ -24,7 +24,7 @@ use Rattle.table.proofs.OnTableLaws.{on-image, on-no-image}
 use Rattle.run.specs.Calls.{stepOn}
 
 by-rule : (c : Comp) (cs : List Comp) (s : List ℕ) → Within (c ∷ cs) s → (v : Stepping) → StepsByRule c cs s v → length (v .state) ≡ length s
-by-rule c cs s w _ (rests st) = refl
+by-rule c cs s w _ (is-stable st) = refl
 by-rule c cs s w _ (moves {t = t} p f) = within-length (c ∷ cs) t (p .range) ∙ sym (within-length (c ∷ cs) s w)
 
 in-model : (m : Model) → WellFormed m → (s : List ℕ) (v : Stepping) → stepOf m s ≡ answered v → length (v .state) ≡ length s

@@ -9,7 +9,7 @@ use Rattle.answer.specs.State.{withParts}
 use Rattle.answer.specs.declared.Outcome.{Outcome}
 use Rattle.answer.specs.declared.Outcome.the-variants.{Moved, Stable, Refused}
 use Rattle.answer.specs.declared.State.{State}
-use Rattle.iosa.specs.Step.{Stepping}
+use Rattle.iosa.specs.Stepped.{Stepping}
 use Rattle.run.specs.Calls.{stepOn}
 use Rattle.panel.specs.declared.Taken.{Taken}
 

@@ -7,7 +7,7 @@ use Rattle.answer.specs.Told.{Answer, saysOutcome}
 use Rattle.answer.specs.State.{partsOf}
 use Rattle.answer.specs.declared.Outcome.{Outcome}
 use Rattle.answer.specs.declared.State.{State}
-use Rattle.iosa.specs.Step.{Stepping}
+use Rattle.iosa.specs.Stepped.{Stepping}
 use Rattle.iosa.specs.InOrder.{Leaves}
 use Rattle.iosa.specs.Answers.{StepAnswer}
 use Rattle.layout.specs.OnImage.{OnImage}

@@ -16,7 +16,8 @@ use Rattle.iosa.specs.Text.{tab, decimal, textOf}
 use Rattle.iosa.specs.Checks.{confluentOf}
 use Rattle.iosa.specs.Reading.{got, readOf}
 use Rattle.iosa.specs.Step.{Went, urgentStep, lowest, stateFault}
-use Rattle.iosa.specs.Settle.{Settling, settle, budgetFault, traceFault, settleOf}
+use Rattle.iosa.specs.Settle.{settle, budgetFault, traceFault, settleOf}
+use Rattle.iosa.specs.Orders.{Settling}
 use Rattle.iosa.specs.Report.{Request, requestText, stepLine, stepLines, lastLine, answerLines, requestOf, reportOf}
 use Rattle.iosa.specs.Examples.{reply}
 use Rattle.iosa.proofs.Settling.Rule.{lowest-some}

@@ -17,7 +17,8 @@ use Rattle.iosa.specs.Faults.{FaultAt, guarded, repeated, lacking, doubled, ina
 use Rattle.iosa.specs.Checks.{confluentOf}
 use Rattle.iosa.specs.Reading.{Got, Entry, Progress, entry, faultOf, takeIn, finish, linesFrom, atStart, readOf}
 use Rattle.iosa.specs.Step.{stateFault, inRange, urgentStep}
-use Rattle.iosa.specs.Settle.{Settling, settle, budgetFault, traceFault, settleOf}
+use Rattle.iosa.specs.Settle.{settle, budgetFault, traceFault, settleOf}
+use Rattle.iosa.specs.Orders.{Settling}
 use Rattle.iosa.specs.Report.{Request, requestOf, refusedLine, answerLines, runLines, reportOf}
 use Rattle.iosa.proofs.Acceptance.Accepted.{accepted-exactly}
 use Rattle.iosa.proofs.Acceptance.Clashes.{unconfluent-exactly}

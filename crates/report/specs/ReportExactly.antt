@@ -6,7 +6,10 @@ use Rattle.answer.specs.declared.Written.{Written}
 use Rattle.iosa.specs.InOrder.{_▹_, Gives, Leaves, room}
 use Rattle.iosa.specs.Lent.{Fills}
 use Rattle.iosa.specs.Printed.{Prints}
-use Rattle.steplines.specs.Run.{mostBytes}
+
+-- the bytes that `report` asks for, whatever the input: no report is longer (`no-report-is-longer`), and one is as long (`longest-reached`)
+abbrev pub longestReport : ℕ
+longestReport = 1322226
 
 abbrev pub ReportExactly : List ℕ → List ℕ → List ℕ → Written → Type 0
-ReportExactly input old new r = Leaves (room mostBytes (length old) ▹ Gives (Prints input)) (Fills old new r)
+ReportExactly input old new r = Leaves (room longestReport (length old) ▹ Gives (Prints input)) (Fills old new r)

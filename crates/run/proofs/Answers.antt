@@ -16,8 +16,10 @@ use Rattle.answer.specs.declared.Stepped.{Stepped}
 use Rattle.answer.specs.declared.Settled.{Settled}
 use Rattle.iosa.specs.Model.{Model}
 use Rattle.iosa.specs.Checks.{acceptOf, confluentOf}
-use Rattle.iosa.specs.Step.{Stepping, unless, takenBy, named, urgentStep, inRange, stateFault, stepOf, stepByOf}
-use Rattle.iosa.specs.Settle.{Settling, settle, play, budgetFault, traceFault, settleOf, settleListOf}
+use Rattle.iosa.specs.Step.{unless, takenBy, named, urgentStep, inRange, stateFault, stepOf, stepByOf}
+use Rattle.iosa.specs.Stepped.{Stepping}
+use Rattle.iosa.specs.Settle.{settle, play, budgetFault, traceFault, settleOf, settleListOf}
+use Rattle.iosa.specs.Orders.{Settling}
 use Rattle.settling.specs.Gives.{StepAnswers, StepGives, SettleAnswers, SettlingGives, byRuleOf, byNameOf}
 use Rattle.run.specs.Refusals.{refusedStep, refusedSettling}
 

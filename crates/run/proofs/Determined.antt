@@ -7,8 +7,8 @@ use Rattle.answer.specs.Told.{Answer, answered, refused}
 use Rattle.answer.specs.declared.State.{State}
 use Rattle.answer.specs.declared.Stepped.{Stepped}
 use Rattle.answer.specs.declared.Settled.{Settled}
-use Rattle.iosa.specs.Step.{Stepping}
-use Rattle.iosa.specs.Settle.{Settling}
+use Rattle.iosa.specs.Stepped.{Stepping}
+use Rattle.iosa.specs.Orders.{Settling}
 use Rattle.settling.specs.Gives.{StepAnswers, SettleAnswers}
 use Rattle.run.specs.Calls.{StepCall, StepByCall, SettleCall, SettleListCall, stepOn, stepByOn, settleOn, settleListOn}
 use Rattle.answer.proofs.SaysFixes.{outcome-fixed, verdict-fixed}

@@ -18,7 +18,8 @@ use Rattle.answer.specs.State.{partsOf}
 use Rattle.iosa.specs.Model.{Model}
 use Rattle.iosa.specs.Checks.{confluentOf}
 use Rattle.iosa.specs.Step.{inRange, stateFault, urgentStep}
-use Rattle.iosa.specs.Settle.{Settling, settle, play, budgetFault, settleOf, settleListOf}
+use Rattle.iosa.specs.Settle.{settle, play, budgetFault, settleOf, settleListOf}
+use Rattle.iosa.specs.Orders.{Settling}
 use Rattle.layout.specs.Image.{modelOf}
 use Rattle.settling.specs.Gives.{SettleAnswers, SettleGives, TraceHolds}
 use Rattle.table.specs.OnTable.{onTable, checkOn}

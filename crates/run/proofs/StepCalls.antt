@@ -13,7 +13,8 @@ use Rattle.answer.specs.declared.Stepped.{Stepped}
 use Rattle.answer.specs.State.{partsOf}
 use Rattle.iosa.specs.Model.{Model}
 use Rattle.iosa.specs.Checks.{acceptOf}
-use Rattle.iosa.specs.Step.{Stepping, inRange, stepOf, stepByOf}
+use Rattle.iosa.specs.Step.{inRange, stepOf, stepByOf}
+use Rattle.iosa.specs.Stepped.{Stepping}
 use Rattle.layout.specs.Image.{modelOf}
 use Rattle.settling.specs.Gives.{StepAnswers, StepGives, byRuleOf, byNameOf}
 use Rattle.table.specs.OnTable.{onTable, checkOn}

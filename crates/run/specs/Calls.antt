@@ -8,8 +8,10 @@ use Rattle.answer.specs.State.{partsOf}
 use Rattle.answer.specs.declared.State.{State}
 use Rattle.answer.specs.declared.Stepped.{Stepped}
 use Rattle.answer.specs.declared.Settled.{Settled}
-use Rattle.iosa.specs.Step.{Stepping, stepOf, stepByOf}
-use Rattle.iosa.specs.Settle.{Settling, settleOf, settleListOf}
+use Rattle.iosa.specs.Step.{stepOf, stepByOf}
+use Rattle.iosa.specs.Stepped.{Stepping}
+use Rattle.iosa.specs.Settle.{settleOf, settleListOf}
+use Rattle.iosa.specs.Orders.{Settling}
 use Rattle.table.specs.OnTable.{onTable}
 use Rattle.settling.specs.Gives.{StepAnswers, SettleAnswers, traced}
 

@@ -8,7 +8,7 @@ use Rattle.answer.specs.State.{partsOf}
 use Rattle.answer.specs.declared.State.{State}
 use Rattle.answer.specs.declared.Stepped.{Stepped}
 use Rattle.answer.specs.declared.Settled.{Settled}
-use Rattle.iosa.specs.Settle.{Settling}
+use Rattle.iosa.specs.Orders.{Settling}
 use Rattle.iosa.specs.InOrder.{Leaves}
 use Rattle.iosa.specs.Answers.{StepAnswer, StepByAnswer, SettleAnswer, SettleListAnswer}
 use Rattle.layout.specs.OnImage.{OnImage}

@@ -19,8 +19,10 @@ use Rattle.answer.specs.declared.Settled.{Settled}
 use Rattle.answer.specs.State.{partsOf, withParts}
 use Rattle.iosa.specs.Model.{Model}
 use Rattle.iosa.specs.Automaton.{Conforming, Joinable}
-use Rattle.iosa.specs.Step.{Gone, urgentStep, lowest, isStable}
-use Rattle.iosa.specs.Settle.{Settling, resting, afterListed, play}
+use Rattle.iosa.specs.Step.{urgentStep, lowest, isStable}
+use Rattle.iosa.specs.Stepped.{Gone}
+use Rattle.iosa.specs.Settle.{resting, afterListed, play}
+use Rattle.iosa.specs.Orders.{Settling}
 use Rattle.layout.specs.Image.{modelOf}
 use Rattle.moves.specs.Moves.{resetAll, afterAll, movedAll, offersAll, lowestAll}
 use Rattle.moves.proofs.StepsByOffers.{offered-step, no-offer-no-step}

@@ -19,8 +19,10 @@ use Rattle.answer.specs.State.{partsOf, withParts}
 use Rattle.iosa.specs.Model.{Model}
 use Rattle.iosa.specs.Automaton.{Conforming, Joinable}
 use Rattle.iosa.specs.Product.{Within}
-use Rattle.iosa.specs.Step.{Gone, Went, urgentStep, lowest, isStable}
-use Rattle.iosa.specs.Settle.{Settling, resting, settle}
+use Rattle.iosa.specs.Step.{Went, urgentStep, lowest, isStable}
+use Rattle.iosa.specs.Stepped.{Gone}
+use Rattle.iosa.specs.Settle.{resting, settle}
+use Rattle.iosa.specs.Orders.{Settling}
 use Rattle.layout.specs.Image.{modelOf}
 use Rattle.moves.specs.Moves.{resetAll, afterAll, movedAll, lowestAll}
 use Rattle.settling.specs.Gives.{Ready, EndsAt, SettleGives, TraceHolds, traced}

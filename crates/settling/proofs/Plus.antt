@@ -11,8 +11,10 @@ use lib.Bits.{bitOr}
 use Rattle.laws.specs.Sets.{_∪_}
 use Rattle.laws.specs.Search.{isSome}
 use Rattle.laws.proofs.SetLaws.{or-assoc}
-use Rattle.iosa.specs.Step.{Gone, Went, lowest}
-use Rattle.iosa.specs.Settle.{Settling, resting, after, settle}
+use Rattle.iosa.specs.Step.{Went, lowest}
+use Rattle.iosa.specs.Stepped.{Gone}
+use Rattle.iosa.specs.Settle.{resting, after, settle}
+use Rattle.iosa.specs.Orders.{Settling}
 
 module _ {S : Type 0} where
   -- k steps with resets r and actions l, before d

@@ -14,8 +14,10 @@ use Rattle.answer.specs.declared.Stepped.{Stepped}
 use Rattle.answer.specs.declared.Settled.{Settled}
 use Rattle.iosa.specs.Model.{Model}
 use Rattle.iosa.specs.Automaton.{Conforming, Joinable}
-use Rattle.iosa.specs.Step.{Stepping, taken, takenBy, named, lowest, urgentStep, isStable}
-use Rattle.iosa.specs.Settle.{Settling, settle}
+use Rattle.iosa.specs.Step.{taken, takenBy, named, lowest, urgentStep, isStable}
+use Rattle.iosa.specs.Stepped.{Stepping}
+use Rattle.iosa.specs.Settle.{settle}
+use Rattle.iosa.specs.Orders.{Settling}
 use Rattle.layout.specs.Image.{modelOf}
 use Rattle.moves.specs.Moves.{resetAll, afterAll}
 use Rattle.moves.specs.Standing.{Standing}

@@ -18,8 +18,10 @@ use Rattle.iosa.specs.Automaton.{Conforming, Joinable}
 use Rattle.iosa.specs.Product.{Within}
 use Rattle.iosa.specs.WellFormed.{WellComp, WellFormed}
 use Rattle.iosa.specs.Text.{tab, lf, comma, decimal, joined, setField, fieldsAfter}
-use Rattle.iosa.specs.Step.{Gone, urgentStep}
-use Rattle.iosa.specs.Settle.{Settling, settle}
+use Rattle.iosa.specs.Step.{urgentStep}
+use Rattle.iosa.specs.Stepped.{Gone}
+use Rattle.iosa.specs.Settle.{settle}
+use Rattle.iosa.specs.Orders.{Settling}
 use Rattle.iosa.specs.Report.{refusedLine, stepLine, stepLines, lastLine}
 use Rattle.iosa.proofs.Reading.Joined.{joined-none, joined-one, joined-more}
 use Rattle.iosa.proofs.Settling.Descent.{Keeps}

@@ -14,8 +14,10 @@ use Rattle.answer.specs.declared.State.{State}
 use Rattle.answer.specs.State.{partsOf, withParts}
 use Rattle.iosa.specs.Model.{Model}
 use Rattle.iosa.specs.Automaton.{Conforming, Joinable}
-use Rattle.iosa.specs.Step.{Gone, Went, urgentStep, lowest}
-use Rattle.iosa.specs.Settle.{Settling, resting, settle}
+use Rattle.iosa.specs.Step.{Went, urgentStep, lowest}
+use Rattle.iosa.specs.Stepped.{Gone}
+use Rattle.iosa.specs.Settle.{resting, settle}
+use Rattle.iosa.specs.Orders.{Settling}
 use Rattle.iosa.specs.Report.{stepLine, stepLines, lastLine}
 use Rattle.iosa.proofs.Settling.Rule.{lowest-some}
 use Rattle.layout.specs.Image.{modelOf}

@@ -4,7 +4,8 @@ use Prim.Native.Nat.{ℕ, _+_, _*_, _-_}
 use Rattle.answer.specs.Limits.{maxComponents, maxBudget}
 use Rattle.iosa.specs.Model.{Model}
 use Rattle.iosa.specs.Step.{urgentStep}
-use Rattle.iosa.specs.Settle.{Settling, settle}
+use Rattle.iosa.specs.Settle.{settle}
+use Rattle.iosa.specs.Orders.{Settling}
 use Rattle.iosa.specs.Report.{stepLines, lastLine}
 use Rattle.measure.specs.Measure.{setBytes}
 

@@ -7,8 +7,8 @@ use Rattle.answer.specs.State.{partsOf}
 use Rattle.answer.specs.declared.State.{State}
 use Rattle.answer.specs.declared.Refusal.{Refusal}
 use Rattle.iosa.specs.Text.{joined, setField, fieldsAfter}
-use Rattle.iosa.specs.Step.{Gone}
-use Rattle.iosa.specs.Settle.{Settling}
+use Rattle.iosa.specs.Stepped.{Gone}
+use Rattle.iosa.specs.Orders.{Settling}
 use Rattle.iosa.specs.Report.{stableWord, unsettledWord, refusedLine}
 
 -- "resets, state after", "clocks reset, state": the last fields, with LF

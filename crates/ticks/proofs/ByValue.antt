@@ -11,7 +11,7 @@ use mir.Syntax.{w64}
 use Rattle.answer.specs.Limits.{maxClocks}
 use Rattle.laws.specs.Search.{seek, when}
 use Rattle.laws.proofs.SearchLaws.{test-here, test-next}
-use Rattle.iosa.specs.Timed.{valueOf}
+use Rattle.iosa.specs.TimedExactly.{valueOf}
 use Rattle.ticks.specs.Ticks.{byValue}
 
 module _ (f : ℕ → ℤ → Bool) (vs : List ℤ) (k : ℕ) (h : k < maxClocks) (fits : SFits w64 (valueOf vs k)) (r : Bool) (e : r ≡ f k (toZ w64 (ofZ w64 (valueOf vs k)))) where

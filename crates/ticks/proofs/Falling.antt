@@ -12,7 +12,8 @@ use mir.Syntax.{w64}
 use borrow.Author.Tests.{leb-true}
 use Rattle.laws.specs.Sets.{has}
 use Rattle.answer.specs.Limits.{maxTicks}
-use Rattle.iosa.specs.Timed.{floor, fallen}
+use Rattle.iosa.specs.Timed.{fallen}
+use Rattle.iosa.specs.TimedExactly.{floor}
 use Rattle.ticks.specs.Ticks.{Tick, agedOne}
 
 -- ---- sizes

@@ -11,7 +11,7 @@ use Rattle.laws.specs.Sets.{has}
 use Rattle.laws.proofs.TestLaws.{not-so}
 use Rattle.laws.proofs.TickLaws.{at-most, not-less}
 use Rattle.answer.specs.Limits.{maxClocks, maxTicks}
-use Rattle.iosa.specs.Timed.{floor, valueOf}
+use Rattle.iosa.specs.TimedExactly.{floor, valueOf}
 use Rattle.ticks.specs.Ticks.{outside, negative, rivals, betterOf}
 
 at-most-is : (a b : ℤ) → leZ a b ≡ not (ltZ b a)

@@ -16,7 +16,8 @@ use Rattle.answer.specs.declared.Firing.the-variants.{Refused}
 use Rattle.iosa.specs.Model.{Model}
 use Rattle.iosa.specs.Checks.{acceptOf}
 use Rattle.iosa.specs.Step.{stateFault}
-use Rattle.iosa.specs.Timed.{enablingAll, unstableFault, valuesFault, Timing, timedFrom, timedOf}
+use Rattle.iosa.specs.Timed.{enablingAll, unstableFault, valuesFault, timedFrom, timedOf}
+use Rattle.iosa.specs.TimedExactly.{Timing}
 use Rattle.layout.specs.Image.{Image, modelOf}
 use Rattle.table.specs.OnTable.{onTable, checkOn}
 use Rattle.table.proofs.OnTableLaws.{on-image}

@@ -13,8 +13,8 @@ use Rattle.answer.specs.declared.State.{State}
 use Rattle.answer.specs.declared.Timed.{Timed}
 use Rattle.iosa.specs.Model.{Comp}
 use Rattle.iosa.specs.Checks.{acceptOf}
-use Rattle.iosa.specs.Timed.{valueOf, Timing, timedOf}
-use Rattle.iosa.specs.TimedExactly.{Waits, TimedAnswer}
+use Rattle.iosa.specs.Timed.{timedOf}
+use Rattle.iosa.specs.TimedExactly.{Waits, TimedAnswer, valueOf, Timing}
 use Rattle.iosa.proofs.Timing.Exactly.{timed-exactly}
 use Rattle.iosa.proofs.Timing.Answered.{enabling-clocks-end-from-zero-on}
 use Rattle.layout.specs.Image.{Image, modelOf}

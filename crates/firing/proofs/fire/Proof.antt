@@ -5,7 +5,8 @@ use denote.Ref.{now}
 use lib.IntN.{ℤ}
 use Rattle.answer.specs.State.{partsOf}
 use Rattle.iosa.specs.Model.{declared}
-use Rattle.iosa.specs.Timed.{valueOf, agedFrom}
+use Rattle.iosa.specs.Timed.{agedFrom}
+use Rattle.iosa.specs.TimedExactly.{valueOf}
 use Rattle.layout.specs.Image.{modelOf}
 use Rattle.layout.proofs.RowsOfRange.{well-formed}
 use Rattle.ticks.specs.Ticks.{Tick, Ticking}

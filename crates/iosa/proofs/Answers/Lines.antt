@@ -10,15 +10,16 @@ use Rattle.iosa.specs.Model.{Comp}
 use Rattle.iosa.specs.WellFormed.{WellFormed}
 use Rattle.iosa.specs.Automaton.{Conforming, Joinable}
 use Rattle.iosa.specs.Product.{product, Within}
-use Rattle.iosa.specs.Step.{Gone, urgentStep}
-use Rattle.iosa.specs.Settle.{Settling}
-use Rattle.iosa.specs.Orders.{OurRun}
+use Rattle.iosa.specs.Step.{urgentStep}
+use Rattle.iosa.specs.Stepped.{Gone}
+use Rattle.iosa.specs.Orders.{OurRun, Settling}
 use Rattle.iosa.specs.InOrder.{refuses, passes, gives}
 use Rattle.iosa.specs.Answers.{SettleAnswer}
 use Rattle.iosa.specs.Report.{stepLine, stepLines, lastLine, answerLines}
 use Rattle.iosa.specs.Printed.{lined, StepLines, no-step, step-line, RunPrinted, AnswerPrinted}
 use Rattle.iosa.proofs.Settling.Descent.{Run, stop, then}
 use Rattle.iosa.proofs.Settling.Steps.{step-is-a-row, steps-exactly}
+use Rattle.iosa.proofs.Thesis.Proposition41.{conforming-definition}
 use Rattle.iosa.proofs.Settling.SeriesAndRuns.{lowest-is-a-series, series-is-a-run}
 
 -- as many lines as actions
@@ -67,6 +68,6 @@ module _ (c : Comp) (cs : List Comp) (well : WellFormed (c ∷ cs)) (s : List �
   answer-printed (passes k (passes al (passes w (refuses r)))) out = (sym, sym)
   answer-printed (passes k (passes al (passes w (passes b (refuses r))))) out = (sym, sym)
   answer-printed (passes k (passes al (passes w (passes b (passes t (gives {x = d} r)))))) out = (
-    λ e. rw (← e) (printed-run c cs well (k .0) (k .1) s w budget d (r .run)),
-    run-printed c cs well (k .0) (k .1) s w d out,
+    λ e. rw (← e) (printed-run c cs well (conforming-definition (c ∷ cs) well .1 (k .0)) (k .1) s w budget d (r .run)),
+    run-printed c cs well (conforming-definition (c ∷ cs) well .1 (k .0)) (k .1) s w d out,
   )

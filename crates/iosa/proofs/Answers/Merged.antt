@@ -4,13 +4,15 @@ use mathlib.Core.Logic.{_↔_, ⊎-elim}
 use mathlib.Core.Bool.{true≢false}
 use mathlib.Core.Option.{Option, none}
 use mathlib.Core.List.{List, _∷_, List·Memᴰ as In}
-use Prim.Native.Nat.{ℕ, suc, _*_, _<_}
+use Prim.Native.Nat.{ℕ, zero, suc, _+_, _*_, _/_, _%_, _≤_, _<_}
+use native.Mathlib.Nat.{mod-lt, div-add-mod', div-lt-iff-lt-mul}
 use native.Mathlib.Omega.{arith}
 use lib.ListN.{length}
 use lib.Seq.{ext-getD}
 use Rattle.laws.specs.Sets.{_∪_, _∈_, Apart}
 use Rattle.laws.specs.Search.{orElse}
 use Rattle.laws.proofs.SetLaws.{in-or, or-in-l, or-in-r, same-members}
+use Rattle.laws.proofs.PairLaws.{pair-below}
 use Rattle.laws.proofs.TestLaws.{apart-cases}
 use Rattle.laws.proofs.ListLaws.{in-at, at-in, joined-length, joined-before, joined-here, joined-after, pairwise-from, pairwise-next}
 use Rattle.laws.proofs.OrderedLaws.{one-ordered-list}
@@ -20,8 +22,7 @@ use Rattle.iosa.specs.WellFormed.{WellComp, WellFormed}
 use Rattle.iosa.specs.Automaton.{Leads, autoOf, Conditions, Compatible, Conforming, Joinable}
 use Rattle.iosa.specs.Checks.{acceptOf}
 use Rattle.iosa.specs.Merge.{productRows, merged, mergedAt, neighbourFault, sizeFault, mergeOf}
-use Rattle.iosa.specs.MergedExactly.{FitsIn, MergeAnswer}
-use Rattle.iosa.specs.MergedExactly as ME
+use Rattle.iosa.specs.MergedExactly.{FitsIn, MergeAnswer, no-neighbour, too-large, small-enough}
 use Rattle.iosa.specs.MergedAs.{ProductOf, Replaced, Small, MergedAnswer, is25, is26, is-merged}
 use Rattle.iosa.specs.InOrder.{_▹_, room, accepted}
 use Rattle.iosa.specs.Answers.{MergeCallAnswer}
@@ -34,7 +35,7 @@ use Rattle.iosa.proofs.Merging.Labels.{kinds-apart}
 use Rattle.iosa.proofs.Merging.WellFormed.{apart-without, apart-left, apart-right, apart-outer, apart-inner}
 use Rattle.iosa.proofs.Merging.Models.{merge-exactly}
 use Rattle.iosa.proofs.Answers.InOrder.{Decided, refusedOr, either, or-refused, check-exactly}
-use Rattle.iosa.proofs.Answers.Models.{accepted-decided}
+use Rattle.iosa.proofs.Answers.Models.{check-accepted}
 
 -- ---- a row by what it says
 row-leads : (e : Comp) {r : Row} → In r (e .rows) → Leads e (r .from) (guardSet (r .guard)) (r .action) (r .resets) (r .target)
@@ -65,6 +66,17 @@ leads-row e r f t n = subst (λ q. In q (e .rows)) same (in-at noRow (e .rows) (
     same : rowAt e (n .place) ≡ r
     same = λ i. record { from = from i; guard = guard i; action = n .action i; resets = n .resets i; target = target i }
 
+leads-at : (e : Comp) {x y x′ y′ C a R : ℕ} → x ≡ x′ → y ≡ y′ → Leads e x C a R y → Leads e x′ C a R y′
+leads-at e f g n = record {
+  place = n .place;
+  inside = n .inside;
+  from = n .from ∙ f;
+  guard = n .guard;
+  action = n .action;
+  resets = n .resets;
+  target = n .target ∙ g;
+}
+
 -- ---- the kinds of the actions, by inputs, outputs and urgency
 module _ (c d e : Comp) (p : ProductOf c d e) (a : ℕ) where
   calm-in : a ∈ e .ins → (a ∈ urgents e → ⊥)
@@ -74,6 +86,11 @@ module _ (c d e : Comp) (p : ProductOf c d e) (a : ℕ) where
   calm-out : a ∈ e .outs → (a ∈ urgents e → ⊥)
   calm-out h u = ⊎-elim (λ i. p .input-or-output a (or-in-r (e .ins) (e .uins) a i) (or-in-l (e .outs) (e .uouts) a h))
       (p .out-or-uout a h) (in-or (e .uins) (e .uouts) a u)
+
+-- a number below n * k is that of a pair
+pair-of : (n k x : ℕ) → x < n * k → (s : ℕ) × (t : ℕ) × (s < n) × (t < k) × (x ≡ s * k + t)
+pair-of n zero x h = absurd (omega arith)
+pair-of n (suc j) x h = let some : 1 ≤ suc j = omega arith in (x / suc j, x % suc j, div-lt-iff-lt-mul some .1 h, mod-lt x some, sym (div-add-mod' x (suc j)))
 
 module _ (c d e e′ : Comp) (p : ProductOf c d e) (p′ : ProductOf c d e′) where
   urgent-there : (a : ℕ) → a ∈ urgents e → a ∈ urgents e′
@@ -106,9 +123,13 @@ module _ (c d e e′ : Comp) (p : ProductOf c d e) (p′ : ProductOf c d e′) w
 
   pub rows-there : (r : Row) → In r (e .rows) → In r (e′ .rows)
   rows-there r m =
-      let q = p .pairs (r .from) (guardSet (r .guard)) (r .action) (r .resets) (r .target) (row-leads e m) in
-      leads-row e′ r (q .from) (q .target)
-      (p′ .rows (q .s) (q .t) (q .s′) (q .t′) (guardSet (r .guard)) (r .action) (r .resets) (q .s-below) (q .t-below) (q .s′-below) (q .t′-below) .1 (q .joint))
+      let l = row-leads e m in
+      let w = p .within (r .from) (guardSet (r .guard)) (r .action) (r .resets) (r .target) l in
+      let x = pair-of (c .states) (d .states) (r .from) (rw (p .states) at (w .0)) in
+      let y = pair-of (c .states) (d .states) (r .target) (rw (p .states) at (w .1)) in
+      let C = guardSet (r .guard) in
+      leads-row e′ r (x .4) (y .4) (p′ .rows (x .0) (x .1) (y .0) (y .1) C (r .action) (r .resets) (x .2) (x .3) (y .2) (y .3) .1
+      (p .rows (x .0) (x .1) (y .0) (y .1) C (r .action) (r .resets) (x .2) (x .3) (y .2) (y .3) .0 (leads-at e (x .4) (y .4) l)))
 
 not-before-itself : (r : Row) → Before r r → ⊥
 not-before-itself r h = true≢false (sym h ∙ before-irreflexive r)
@@ -170,7 +191,10 @@ module _ (c d : Comp) (wc : WellComp c) (wd : WellComp d) (oc : Conditions (auto
         clocks = x .clocks;
         started = x .started;
         rows = x .rows;
-        pairs = x .pairs;
+        within = λ z C a R y l. (
+          rw (x .pairs z C a R y l .from) (pair-below (c .states) (d .states) (x .pairs z C a R y l .s-below) (x .pairs z C a R y l .t-below)),
+          rw (x .pairs z C a R y l .target) (pair-below (c .states) (d .states) (x .pairs z C a R y l .s′-below) (x .pairs z C a R y l .t′-below)),
+        );
         ascend = pairwise-next Before noRow (productRows c d) (merged-rows-ascend c d wc wd oc od j);
       }
 
@@ -219,19 +243,19 @@ module _ (m : Model) (i : ℕ) (w : WellFormed m) (o : Conforming m) (j : Joinab
 
 module _ (m : Model) (i : ℕ) (w : WellFormed m) (k : Conforming m × Joinable m) where
   there : {a : Answer Model} → MergeAnswer m i a → MergedAnswer m i a
-  there (ME.is25 n) = is25 n
-  there (ME.is26 h n) = is26 (computed-replaces m i w (k .0) (k .1) h) (λ s. n (small-fits m i w (k .0) (k .1) h s))
-  there (ME.is-merged h f) = is-merged (computed-replaces m i w (k .0) (k .1) h) (fits-small m i w (k .0) (k .1) h f)
+  there (no-neighbour n) = is25 n
+  there (too-large h n) = is26 (computed-replaces m i w (k .0) (k .1) h) (λ s. n (small-fits m i w (k .0) (k .1) h s))
+  there (small-enough h f) = is-merged (computed-replaces m i w (k .0) (k .1) h) (fits-small m i w (k .0) (k .1) h f)
 
   back : {a : Answer Model} → MergedAnswer m i a → MergeAnswer m i a
-  back (is25 n) = ME.is25 n
+  back (is25 n) = no-neighbour n
   back (is26 {n = n} r f) =
       let e = one-replaced m i w (k .0) (k .1) (r .neighbour) n r in
-      ME.is26 (r .neighbour) (λ g. f (subst (λ x. Small x i) e (fits-small m i w (k .0) (k .1) (r .neighbour) g)))
+      too-large (r .neighbour) (λ g. f (subst (λ x. Small x i) e (fits-small m i w (k .0) (k .1) (r .neighbour) g)))
   back (is-merged {n = n} r s) =
       let e = one-replaced m i w (k .0) (k .1) (r .neighbour) n r in
       subst (λ x. MergeAnswer m i (answered x)) e
-      (ME.is-merged (r .neighbour) (small-fits m i w (k .0) (k .1) (r .neighbour) (subst (λ x. Small x i) (sym e) s)))
+      (small-enough (r .neighbour) (small-fits m i w (k .0) (k .1) (r .neighbour) (subst (λ x. Small x i) (sym e) s)))
 
   pub merged-answers-exactly : (a : Answer Model) → MergeAnswer m i a ↔ MergedAnswer m i a
   merged-answers-exactly a = (there, back)
@@ -245,7 +269,7 @@ merge-model-exactly c cs w i needed bytes o d a =
     let p = orElse (neighbourFault m i) (sizeFault m i) in
     let x : Answer Model = answered (mergedAt m i) in
     let e = either (orElse (acceptOf m) (orElse o p)) x ∙ or-refused (acceptOf m) (orElse o p) x ∙ ap (refusedOr (acceptOf m)) (or-refused o p x) in
-    rw e (check-exactly (accepted m) (acceptOf m) (accepted-decided m w) (refusedOr o (refusedOr p x)) (room needed bytes ▹ MergedAnswer m i) (λ k.
+    rw e (check-accepted m w (refusedOr o (refusedOr p x)) (room needed bytes ▹ MergedAnswer m i) (λ k.
     check-exactly (room needed bytes) o d (refusedOr p x) (MergedAnswer m i) (λ r b.
     let ok = accepted-exactly m w .1 k in
     let f : mergeOf m i none ≡ refusedOr p x = either (orElse (acceptOf m) p) x ∙ ap (λ q. refusedOr (orElse q p) x) ok in

@@ -4,28 +4,29 @@ use mathlib.Core.Logic.{_↔_}
 use mathlib.Core.Bool.{not}
 use mathlib.Core.Option.{Option, none, some}
 use mathlib.Core.List.{List, [], _∷_}
-use Prim.Native.Nat.{ℕ, _≤_}
-use lib.ListN.{length}
+use Prim.Native.Nat.{ℕ, _≤_, _<_}
+use lib.ListN.{length, take}
 use lib.Dec.{ltb}
-use borrow.Author.Tests.{ltb-false, le-ltb, not-false}
+use borrow.Author.Tests.{ltb-true, ltb-false, lt-ltb, le-ltb, not-false}
 use Rattle.laws.specs.Search.{orElse}
 use Rattle.laws.proofs.SearchLaws.{no-some}
 use Rattle.answer.specs.Limits.{maxBudget}
 use Rattle.answer.specs.Told.{Told, tell, Answer, answered, refused, moved}
-use Rattle.iosa.specs.Model.{Comp, Model}
+use Rattle.iosa.specs.Model.{Comp, Model, compAt, rowCount}
 use Rattle.iosa.specs.WellFormed.{WellFormed}
 use Rattle.iosa.specs.Automaton.{UrgentRow, Conforming, Joinable, AllConfluent}
 use Rattle.iosa.specs.Product.{product, stateOf, Within}
-use Rattle.iosa.specs.Checks.{acceptOf, clashAmong, confluentOf}
-use Rattle.iosa.specs.Step.{Gone, named, lowest, urgentStep, inRange, stateFault, unless, Stepping, taken, takenBy, stepOf, stepByOf}
-use Rattle.iosa.specs.Settle.{Settling, settle, budgetFault, traceFault, play, settleOf, settleListOf}
-use Rattle.iosa.specs.Stepped.{StepsByRule, StepsByName, follows}
-use Rattle.iosa.specs.Orders.{OneEnd, Called}
-use Rattle.iosa.specs.InOrder.{_▹_, refuses, passes, Gives, gives, needs, room, accepted, confluent}
-use Rattle.iosa.specs.Answers.{Fine, stateOk, AcceptAnswer, ConfluentAnswer, StepAnswer, Enabled, StepByAnswer}
+use Rattle.iosa.specs.Checks.{faultAt, indexFault, componentOf, compatibleOf, acceptOf, clashAmong, confluentOf}
+use Rattle.iosa.specs.Step.{named, lowest, urgentStep, inRange, stateFault, unless, taken, takenBy, stepOf, stepByOf}
+use Rattle.iosa.specs.Settle.{settle, budgetFault, traceFault, play, settleOf, settleListOf}
+use Rattle.iosa.specs.Stepped.{StepsByRule, StepsByName, by-action, Gone, Stepping}
+use Rattle.iosa.specs.Orders.{OneEnd, Called, Settling}
+use Rattle.iosa.specs.InOrder.{_▹_, refuses, passes, Gives, gives, needs, room, accepted, conforms, joinable, confluent}
+use Rattle.iosa.specs.Answers.{Fine, stateOk, AcceptAnswer, ComponentAnswer, CompatibleAnswer, ConfluentAnswer, StepAnswer, Enabled, StepByAnswer}
 use Rattle.iosa.specs.Answers.{SettleAnswer, ListAnswer, is23, is-series, SettleListAnswer}
-use Rattle.iosa.proofs.Acceptance.Accepted.{accepted-exactly}
-use Rattle.iosa.proofs.Acceptance.Refused.{refused-exactly}
+use Rattle.iosa.proofs.Acceptance.Accepted.{conditions-exactly, joinable-exactly, accepted-exactly}
+use Rattle.iosa.proofs.Acceptance.Refused.{refused-exactly, component-refused-exactly, compatible-refused-exactly}
+use Rattle.iosa.proofs.Acceptance.InHalves.{there-own}
 use Rattle.iosa.proofs.Acceptance.Clashes.{clash-exactly}
 use Rattle.iosa.proofs.Acceptance.ConfluentExactly.{confluent-exactly}
 use Rattle.iosa.proofs.Settling.Range.{range-exactly}
@@ -34,13 +35,42 @@ use Rattle.iosa.proofs.Settling.Demand3.{demand-3}
 use Rattle.iosa.proofs.Settling.Listed.{list-that-is-a-series, list-that-is-no-series}
 use Rattle.iosa.proofs.Settling.Called.{one-end}
 use Rattle.iosa.proofs.Settling.StepCalled.{rule-taken, taken-rule}
+use Rattle.iosa.proofs.Thesis.Proposition41.{component-definition, conforming-definition, accepted-is-definition-4-1}
 use Rattle.iosa.proofs.Answers.InOrder.{Decided, refusedOr, either, or-refused, unless-refused}
 use Rattle.iosa.proofs.Answers.InOrder.{check-exactly, gives-exactly, needs-decided, room-decided}
 use Rattle.iosa.proofs.Answers.OneRun.{our-run-exactly}
 
 -- ---- the checks are decided
 pub accepted-decided : (m : Model) → WellFormed m → Decided (accepted m) (acceptOf m)
-accepted-decided m w = record { told = refused-exactly m w; fine = accepted-exactly m w }
+accepted-decided m w = record { told = refused-exactly m w; fine = accepted-is-definition-4-1 m w }
+
+-- what comes after 10 to 17 may count on the conditions as they are checked
+pub check-accepted : {A : Type 0} (m : Model) → WellFormed m → (x : Answer A) (R : Answer A → Type 0)
+    → (Conforming m × Joinable m → (a : Answer A) → (x ≡ a) ↔ R a) → (a : Answer A) → (refusedOr (acceptOf m) x ≡ a) ↔ (accepted m ▹ R) a
+check-accepted m w x R f = check-exactly (accepted m) (acceptOf m) (accepted-decided m w) x R (λ k. f (conforming-definition m w .1 (k .0), k .1))
+
+-- 25, and 10 to 14 of one component
+index-decided : (m : Model) (i : ℕ) → Decided (needs 25 (i < length m)) (indexFault m i)
+unfolding indexFault
+index-decided m i = needs-decided 25 (i < length m) (not (ltb i (length m))) (
+  λ e. ltb-true i (length m) (not-false (ltb i (length m)) e),
+  λ h. rw (lt-ltb i (length m) h),
+)
+
+conforms-decided : (m : Model) → WellFormed m → (i : ℕ) → i < length m → Decided (conforms m i) (faultAt i (rowCount (take i m)) (compAt m i))
+conforms-decided m w i h =
+    let d = component-definition m w i h in
+    record {
+      told = λ t. rw (there-own m i h) at (component-refused-exactly m w i h t);
+      fine = (
+        λ e. d .0 (conditions-exactly m w i .0 (there-own m i h ∙ e) .1),
+        λ p. sym (there-own m i h) ∙ conditions-exactly m w i .1 (h, d .1 p),
+      );
+    }
+
+-- 15 to 17
+joinable-decided : (m : Model) → WellFormed m → Decided (joinable m) (compatibleOf m)
+joinable-decided m w = record { told = compatible-refused-exactly m w; fine = joinable-exactly m w }
 
 pub confluent-decided : (m : Model) → WellFormed m → Conforming m × Joinable m → Decided (confluent m) (clashAmong 0 m)
 unfolding confluentOf
@@ -75,12 +105,24 @@ module _ (c : Comp) (cs : List Comp) (well : WellFormed (c ∷ cs)) where
 
   pub accept-model-exactly : (a : Answer (Unit {0})) → (unless (acceptOf m) tt ≡ a) ↔ AcceptAnswer c cs a
   accept-model-exactly a = rw (unless-refused (acceptOf m) done) (
-      check-exactly (accepted m) (acceptOf m) (accepted-decided m well) (answered done) Fine (λ p. unit-exactly) a)
+      check-accepted m well (answered done) Fine (λ p. unit-exactly) a)
+
+  pub component-model-exactly : (i : ℕ) (a : Answer (Unit {0})) → (unless (componentOf m i) tt ≡ a) ↔ ComponentAnswer i c cs a
+  unfolding componentOf
+  component-model-exactly i a =
+      let f = faultAt i (rowCount (take i m)) (compAt m i) in
+      rw (unless-refused (orElse (indexFault m i) f) done ∙ or-refused (indexFault m i) f (answered done)) (
+      check-exactly (needs 25 (i < length m)) (indexFault m i) (index-decided m i) (refusedOr f (answered done)) (conforms m i ▹ Fine) (λ h.
+      check-exactly (conforms m i) f (conforms-decided m well i h) (answered done) Fine (λ p. unit-exactly)) a)
+
+  pub compatible-model-exactly : (a : Answer (Unit {0})) → (unless (compatibleOf m) tt ≡ a) ↔ CompatibleAnswer c cs a
+  compatible-model-exactly a = rw (unless-refused (compatibleOf m) done) (
+      check-exactly (joinable m) (compatibleOf m) (joinable-decided m well) (answered done) Fine (λ p. unit-exactly) a)
 
   pub confluent-model-exactly : (a : Answer (Unit {0})) → (unless (confluentOf m) tt ≡ a) ↔ ConfluentAnswer c cs a
   unfolding confluentOf
   confluent-model-exactly a = rw (unless-refused (orElse (acceptOf m) (clashAmong 0 m)) done ∙ or-refused (acceptOf m) (clashAmong 0 m) (answered done)) (
-      check-exactly (accepted m) (acceptOf m) (accepted-decided m well) (refusedOr (clashAmong 0 m) (answered done)) (confluent m ▹ Fine) (λ k.
+      check-accepted m well (refusedOr (clashAmong 0 m) (answered done)) (confluent m ▹ Fine) (λ k.
       check-exactly (confluent m) (clashAmong 0 m) (confluent-decided m well k) (answered done) Fine (λ p. unit-exactly)) a)
 
   module _ (s : List ℕ) where
@@ -89,7 +131,7 @@ module _ (c : Comp) (cs : List Comp) (well : WellFormed (c ∷ cs)) where
     step-model-exactly a =
         let x = taken s (lowest (urgentStep m) s) in
         rw (unless-refused (orElse (acceptOf m) (stateFault m s)) x ∙ or-refused (acceptOf m) (stateFault m s) (answered x)) (
-        check-exactly (accepted m) (acceptOf m) (accepted-decided m well) (refusedOr (stateFault m s) (answered x))
+        check-accepted m well (refusedOr (stateFault m s) (answered x))
         (stateOk c cs s ▹ Gives (StepsByRule c cs s)) (λ k.
         check-exactly (stateOk c cs s) (stateFault m s) (state-decided c cs s) (answered x) (Gives (StepsByRule c cs s)) (λ w.
         gives-exactly x (StepsByRule c cs s) (λ v. (
@@ -115,13 +157,13 @@ module _ (c : Comp) (cs : List Comp) (well : WellFormed (c ∷ cs)) where
           p = step-is-a-row c cs well (k .0) (k .1) s w b g h
 
           by-row : StepsByName c cs s b (record { step = moved b (g .resets); state = g .after })
-          by-row = follows (record { row = p .0; range = p .1 })
+          by-row = by-action (record { row = p .0; range = p .1 })
 
           enabled : Enabled c cs s b
           enabled = (0, g .resets, stateOf c cs (g .after), p .0)
 
           one : {v : Stepping} → StepsByName c cs s b v → takenBy (named b (some g)) ≡ answered v
-          one (follows {R = R} {t = t} q) =
+          one (by-action {R = R} {t = t} q) =
               ap (λ o. takenBy (named b o)) (sym h ∙ steps-exactly c cs well (k .0) (k .1) s w b (record { resets = R; after = t }) .1 (q .row, q .range))
 
           back : {a : Answer Stepping} → (needs 23 (Enabled c cs s b) ▹ Gives (StepsByName c cs s b)) a → takenBy (named b (some g)) ≡ a
@@ -134,7 +176,7 @@ module _ (c : Comp) (cs : List Comp) (well : WellFormed (c ∷ cs)) where
         let x = takenBy (named b (urgentStep m s b)) in
         let R = needs 23 (Enabled c cs s b) ▹ Gives (StepsByName c cs s b) in
         rw (either (orElse (acceptOf m) (stateFault m s)) x ∙ or-refused (acceptOf m) (stateFault m s) x) (
-        check-exactly (accepted m) (acceptOf m) (accepted-decided m well) (refusedOr (stateFault m s) x) (stateOk c cs s ▹ R) (λ k.
+        check-accepted m well (refusedOr (stateFault m s) x) (stateOk c cs s ▹ R) (λ k.
         check-exactly (stateOk c cs s) (stateFault m s) (state-decided c cs s) x R (λ w. by-named k w b (urgentStep m s b) refl)) a)
 
     -- ---- settling
@@ -152,9 +194,9 @@ module _ (c : Comp) (cs : List Comp) (well : WellFormed (c ∷ cs)) where
             λ e. record {
               orders = orders-agree;
               run = o .0 e;
-              enough = λ run st h. rw (← e) (t .stops run st .enough budget h);
-              short = λ run st h. rw (← e) (t .stops run st .short budget h);
-              never = λ f. rw (← e) (t .never f budget);
+              enough = λ run st h. rw (← e) (t .stops run st .enough budget h .stable);
+              short = λ run st h. rw (← e) (t .stops run st .short budget h .unstable);
+              never = λ f. rw (← e) (t .never f budget .unstable);
             },
             λ r. o .1 (r .run),
           )
@@ -185,7 +227,7 @@ module _ (c : Comp) (cs : List Comp) (well : WellFormed (c ∷ cs)) where
         let e = or-refused (orElse (acceptOf m) (clashAmong 0 m)) (orElse (stateFault m s) p) x in
         let g = ap (refusedOr (orElse (acceptOf m) (clashAmong 0 m))) (or-refused (stateFault m s) p x) in
         rw (either (orElse (confluentOf m) (orElse (stateFault m s) p)) x ∙ e ∙ g ∙ or-refused (acceptOf m) (clashAmong 0 m) z) (
-        check-exactly (accepted m) (acceptOf m) (accepted-decided m well) (refusedOr (clashAmong 0 m) z) (confluent m ▹ stateOk c cs s ▹ R) (λ k.
+        check-accepted m well (refusedOr (clashAmong 0 m) z) (confluent m ▹ stateOk c cs s ▹ R) (λ k.
         check-exactly (confluent m) (clashAmong 0 m) (confluent-decided m well k) z (stateOk c cs s ▹ R) (λ al.
         check-exactly (stateOk c cs s) (stateFault m s) (state-decided c cs s) y R (λ w. f k al w))) a)
 

@@ -12,9 +12,10 @@ use Rattle.iosa.specs.Model.{Comp}
 use Rattle.iosa.specs.WellFormed.{WellFormed}
 use Rattle.iosa.specs.Automaton.{UrgentRow, Conforming, Joinable}
 use Rattle.iosa.specs.Product.{product, stateOf, Within}
-use Rattle.iosa.specs.Step.{Gone, Went, lowest, urgentStep}
-use Rattle.iosa.specs.Settle.{Settling, resting, after, settle}
-use Rattle.iosa.specs.Orders.{LowestSeries, rest, take, OurRun}
+use Rattle.iosa.specs.Step.{Went, lowest, urgentStep}
+use Rattle.iosa.specs.Stepped.{Gone}
+use Rattle.iosa.specs.Settle.{resting, after, settle}
+use Rattle.iosa.specs.Orders.{LowestSeries, rest, take, OurRun, Settling}
 use Rattle.iosa.proofs.Settling.Descent.{Stuck}
 use Rattle.iosa.proofs.Settling.Rule.{Bounded, LowRun, stay, low, lowest-none}
 use Rattle.iosa.proofs.Settling.Parts.{within-length}

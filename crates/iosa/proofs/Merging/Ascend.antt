@@ -18,7 +18,8 @@ use Rattle.iosa.specs.Model.{Row, Comp, noRow, guardSet, inputs, outputs
 use Rattle.iosa.specs.WellFormed.{lower, before, WellComp}
 use Rattle.iosa.specs.Automaton.{Leads, autoOf, Conditions, Compatible}
 use Rattle.iosa.specs.Checks.{leaves, unclocked}
-use Rattle.iosa.specs.Merge.{rowsBy, pairOf, firstMoves, secondMoves, bothMove, joinGuards, eachWith, pairRows, productRows}
+use Rattle.iosa.specs.Merge.{rowsBy, firstMoves, secondMoves, bothMove, joinGuards, eachWith, pairRows, productRows}
+use Rattle.iosa.specs.MergedAs.{pairOf}
 use Rattle.iosa.proofs.Acceptance.Order.{lower-less, lower-same, lower-cases, before-irreflexive, before-transitive}
 use Rattle.iosa.proofs.Acceptance.Guards.{guard-zero, guard-same}
 use Rattle.iosa.proofs.Merging.Rows.{rows-by-in, rows-by-lead, each-with-in, input-unguarded, pair-rows-in}

@@ -8,8 +8,9 @@ use Rattle.iosa.specs.Model.{Comp, inputs, urgents}
 use Rattle.iosa.specs.WellFormed.{WellComp}
 use Rattle.iosa.specs.Automaton.{Automaton, Leads, autoOf, Stable, Enabling, Active, Conditions, Compatible}
 use Rattle.iosa.specs.Product.{_⊗_}
-use Rattle.iosa.specs.Merge.{pairOf, merged}
-use Rattle.iosa.proofs.Settling.Closed.{component-closed}
+use Rattle.iosa.specs.Merge.{merged}
+use Rattle.iosa.specs.MergedAs.{pairOf}
+use Rattle.iosa.proofs.Settling.OwnNames.{component-own}
 use Rattle.iosa.proofs.Settling.ProductConditions.{product-is-an-automaton}
 use Rattle.iosa.proofs.Merging.Labels.{merged-inputs, merged-outputs, merged-urgent}
 use Rattle.iosa.proofs.Merging.Product.{merged-rows-are-pairs, product-rows-are-merged}
@@ -19,7 +20,7 @@ module _ (c d : Comp) (wc : WellComp c) (wd : WellComp d) (oc : Conditions (auto
   P = autoOf c ⊗ autoOf d
 
   conditions : Conditions (autoOf c ⊗ autoOf d)
-  conditions = product-is-an-automaton (autoOf c) (autoOf d) j oc od (component-closed c wc) (component-closed d wd)
+  conditions = product-is-an-automaton (autoOf c) (autoOf d) j oc od (component-own c wc) (component-own d wd)
 
   -- ---- the pair that a number stands for
   abbrev pair : ℕ → ℕ × ℕ

@@ -21,7 +21,7 @@ use Rattle.iosa.specs.Text.{textOf}
 use Rattle.iosa.specs.Automaton.{Conforming, Joinable}
 use Rattle.iosa.specs.Checks.{acceptOf}
 use Rattle.iosa.specs.Merge.{merged, mergedAt, neighbourFault, sizeFault, mergeOf}
-use Rattle.iosa.specs.MergedExactly.{MergedModel, FitsIn, MergeAnswer, is25, is26, is-merged}
+use Rattle.iosa.specs.MergedExactly.{MergedModel, FitsIn, MergeAnswer, no-neighbour, too-large, small-enough}
 use Rattle.iosa.proofs.Acceptance.Accepted.{accepted-exactly}
 use Rattle.iosa.proofs.Merging.Product.{merged-is-the-product}
 use Rattle.iosa.proofs.Merging.WellFormed.{merged-is-well-formed}
@@ -72,20 +72,20 @@ module _ (m : Model) (i : ℕ) (acc : acceptOf m ≡ none) where
   size-fine f = when-fine (tooBig m i) (size-decided m i) (tell 26 (0 ∷ [])) f
 
   so-answers : {t : Answer Model} → MergeAnswer m i t → mergeOf m i none ≡ t
-  so-answers (is25 n) = at25 n
-  so-answers (is26 h n) = by-faults (some (tell 26 (0 ∷ []))) (rw (acc, neighbour-fine h, size-faulty n))
-  so-answers (is-merged h f) = by-faults none (rw (acc, neighbour-fine h, size-fine f))
+  so-answers (no-neighbour n) = at25 n
+  so-answers (too-large h n) = by-faults (some (tell 26 (0 ∷ []))) (rw (acc, neighbour-fine h, size-faulty n))
+  so-answers (small-enough h f) = by-faults none (rw (acc, neighbour-fine h, size-fine f))
 
   answers-so : MergeAnswer m i (mergeOf m i none)
   answers-so = go (decided (suc i < length m) (not (ltb (suc i) (length m))) (neighbour-decided m i))
     where
       size : suc i < length m → FitsIn m i ⊎ (FitsIn m i → ⊥) → MergeAnswer m i (mergeOf m i none)
-      size h (inl f) = rw (so-answers (is-merged h f)) (is-merged h f)
-      size h (inr n) = rw (so-answers (is26 h n)) (is26 h n)
+      size h (inl f) = rw (so-answers (small-enough h f)) (small-enough h f)
+      size h (inr n) = rw (so-answers (too-large h n)) (too-large h n)
 
       go : (suc i < length m) ⊎ (suc i < length m → ⊥) → MergeAnswer m i (mergeOf m i none)
       go (inl h) = size h (decided (FitsIn m i) (tooBig m i) (size-decided m i))
-      go (inr n) = rw (so-answers (is25 n)) (is25 n)
+      go (inr n) = rw (so-answers (no-neighbour n)) (no-neighbour n)
 
   -- merging answers t exactly when t is what 01 says: 25, 26, or the model with the two replaced
   pub merge-exactly : (t : Answer Model) → (mergeOf m i none ≡ t) ↔ MergeAnswer m i t
@@ -167,9 +167,9 @@ merge-answered m i room n w e =
     go (accepted-exactly m w .0 (p .0)) (merge-exactly m i (p .0) (answered n) .0 (rw (p .1) at e)) refl
   where
     go : Conforming m × Joinable m → {t : Answer Model} → MergeAnswer m i t → t ≡ answered n → Answered m i n
-    go a (is25 h) z = absurd (let y : _≡_ {A = ℕ} 0 1 = cc in omega arith)
-    go a (is26 h f) z = absurd (let y : _≡_ {A = ℕ} 0 1 = cc in omega arith)
-    go a (is-merged h f) z = record { conforming = a .0; joinable = a .1; neighbour = h; fits = f; model = cc }
+    go a (no-neighbour h) z = absurd (let y : _≡_ {A = ℕ} 0 1 = cc in omega arith)
+    go a (too-large h f) z = absurd (let y : _≡_ {A = ℕ} 0 1 = cc in omega arith)
+    go a (small-enough h f) z = record { conforming = a .0; joinable = a .1; neighbour = h; fits = f; model = cc }
 
 -- a model again, with the product in the place of the two
 pub merging-is-exact : (m : Model) (i : ℕ) (room : Option Told) (n : Model) → WellFormed m → mergeOf m i room ≡ answered n → MergedModel m i n

@@ -12,8 +12,9 @@ use Rattle.iosa.specs.Model.{Row, Comp, noRow, guardSet}
 use Rattle.iosa.specs.WellFormed.{WellComp}
 use Rattle.iosa.specs.Automaton.{Leads, autoOf, Conditions, Compatible}
 use Rattle.iosa.specs.Product.{Joint, R1, R2, R3}
-use Rattle.iosa.specs.Merge.{pairOf, pairRows, productRows, merged}
-use Rattle.iosa.specs.MergedExactly.{PairRow, MergedExactly}
+use Rattle.iosa.specs.Merge.{pairRows, productRows, merged}
+use Rattle.iosa.specs.MergedAs.{pairOf}
+use Rattle.iosa.specs.MergedExactly.{MergedExactly, PairRow}
 use Rattle.iosa.proofs.Acceptance.Rows.{act-below, from-below, target-below}
 use Rattle.iosa.proofs.Merging.Labels.{merged-inputs, merged-outputs, merged-urgent}
 use Rattle.iosa.proofs.Merging.Rows.{pair-rows-in, in-pair-rows}

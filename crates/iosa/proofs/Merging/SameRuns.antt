@@ -13,11 +13,13 @@ use Rattle.iosa.specs.Model.{Comp, Model, noComp, compAt}
 use Rattle.iosa.specs.WellFormed.{WellComp, WellFormed}
 use Rattle.iosa.specs.Automaton.{Automaton, alphabet, autoOf, UrgentRow, Conditions, Conforming, Joinable}
 use Rattle.iosa.specs.Product.{_⊗_, product, stateOf, Within, Series, over, next}
-use Rattle.iosa.specs.Merge.{pairOf, merged, mergedAt, mergeOf}
+use Rattle.iosa.specs.Merge.{merged, mergedAt, mergeOf}
+use Rattle.iosa.specs.MergedAs.{pairOf}
 use Rattle.iosa.specs.MergedExactly.{FitsIn, pairedAt}
 use Rattle.iosa.proofs.Settling.Each.{All, each-all}
-use Rattle.iosa.proofs.Settling.Parts.{GoAll, end, and, parts-row, row-parts, within-length, alphabet-joins, label-parts, parts-label}
-use Rattle.iosa.proofs.Settling.ProductOfMany.{Pairwise, joinable-pairwise, wells, system-closed}
+use Rattle.iosa.proofs.Settling.Parts.{parts-row, row-parts, within-length, alphabet-joins, label-parts, parts-label}
+use Rattle.iosa.specs.Parts.{GoAll, end, and}
+use Rattle.iosa.proofs.Settling.ProductOfMany.{Pairwise, joinable-pairwise, wells, system-own}
 use Rattle.iosa.proofs.Settling.Moves.{go-within}
 use Rattle.iosa.proofs.Settling.Steps.{state-is-one-list}
 use Rattle.iosa.proofs.Merging.Labels.{merged-outputs, merged-urgent}
@@ -80,7 +82,7 @@ module _ (c : Comp) (cs : List Comp) (well : WellFormed (c ∷ cs)) (conf : Conf
   row-again : (a C R : ℕ) (s t : List ℕ) → Within (c ∷ cs) s → Within (c ∷ cs) t → product c cs .Row (stateOf c cs s) C a R (stateOf c cs t)
       → product e es .Row (stateOf e es (again s)) C a R (stateOf e es (again t))
   row-again a C R s t ok ok′ r =
-      let k = system-closed c cs well .action r in
+      let k = system-own c cs well .rows r .action in
       let p = row-parts c cs a s (stateOf c cs t) (within-length (c ∷ cs) s ok) k r in
       let z = state-is-one-list c cs t (p .0) (within-length (c ∷ cs) t ok′) (go-length (p .1)) (p .2) in
       let g : GoAll a (c ∷ cs) s C R t = rw z (p .1) in
@@ -89,7 +91,7 @@ module _ (c : Comp) (cs : List Comp) (well : WellFormed (c ∷ cs)) (conf : Conf
   row-back : (a C R : ℕ) (s t : List ℕ) → Within (c ∷ cs) s → Within (c ∷ cs) t → product e es .Row (stateOf e es (again s)) C a R (stateOf e es (again t))
       → product c cs .Row (stateOf c cs s) C a R (stateOf c cs t)
   row-back a C R s t ok ok′ r =
-      let k = system-closed e es well-again .action r in
+      let k = system-own e es well-again .rows r .action in
       let p = row-parts e es a (again s) (stateOf e es (again t)) (again-length s (within-length (c ∷ cs) s ok)) k r in
       let z = state-is-one-list e es (again t) (p .0) (again-length t (within-length (c ∷ cs) t ok′)) (go-length (p .1)) (p .2) in
       let g : GoAll a (e ∷ es) (again s) C R (again t) = rw z (p .1) in
@@ -122,7 +124,7 @@ module _ (c : Comp) (cs : List Comp) (well : WellFormed (c ∷ cs)) (conf : Conf
 
   row-goes : {a C R : ℕ} (s : List ℕ) (y : product c cs .State) → Within (c ∷ cs) s → product c cs .Row (stateOf c cs s) C a R y → Goes C a R s y
   row-goes {a} s y ok r =
-      let p = row-parts c cs a s y (within-length (c ∷ cs) s ok) (system-closed c cs well .action r) r in
+      let p = row-parts c cs a s y (within-length (c ∷ cs) s ok) (system-own c cs well .rows r .action) r in
       record { after = p .0; within = go-within (c ∷ cs) a w (p .1) .1; state = p .2 }
 
   record SeriesAgain (s l : List ℕ) (R : ℕ) (y : product c cs .State) : Type 0 where

@@ -12,10 +12,12 @@ use Rattle.iosa.specs.Model.{Comp, Model, compAt}
 use Rattle.iosa.specs.WellFormed.{WellComp}
 use Rattle.iosa.specs.Automaton.{Automaton, alphabet, autoOf, Conditions, Compatible}
 use Rattle.iosa.specs.Product.{_⊗_, Within}
-use Rattle.iosa.specs.Merge.{pairOf, merged, mergedAt}
+use Rattle.iosa.specs.Merge.{merged, mergedAt}
+use Rattle.iosa.specs.MergedAs.{pairOf}
 use Rattle.iosa.specs.MergedExactly.{pairedAt}
 use Rattle.iosa.proofs.Settling.Each.{All, Any}
-use Rattle.iosa.proofs.Settling.Parts.{Go, goes, rests, parts-go, go-parts, GoAll, and}
+use Rattle.iosa.proofs.Settling.Parts.{parts-go, go-parts}
+use Rattle.iosa.specs.Parts.{Go, goes, sits-out, GoAll, and}
 use Rattle.iosa.proofs.Settling.ProductOfMany.{Pairwise}
 use Rattle.iosa.proofs.Merging.Labels.{merged-inputs, merged-outputs}
 use Rattle.iosa.proofs.Merging.Product.{merged-rows-are-the-products, product-rows-are-merged}
@@ -28,15 +30,15 @@ module _ (c d : Comp) (wc : WellComp c) (wd : WellComp d) (oc : Conditions (auto
   two-go : {a s t C R s′ t′ : ℕ} → Go (autoOf c ⊗ autoOf d) a (s, t) C R (s′, t′) → Go (autoOf (merged c d)) a (pairOf d s t) C R (pairOf d s′ t′)
   unfolding merged
   two-go (goes h r) = goes (rw merged-alphabet h) (product-rows-are-merged c d wc wd oc od j r)
-  two-go (rests h p) = rests (rw merged-alphabet h) (pair-below (c .states) (d .states) (p .0) (p .1))
+  two-go (sits-out h p) = sits-out (rw merged-alphabet h) (pair-below (c .states) (d .states) (p .0) (p .1))
 
   go-two : {a x C R y : ℕ} (s t s′ t′ : ℕ) → s < c .states → t < d .states → s′ < c .states → t′ < d .states → x ≡ pairOf d s t → y ≡ pairOf d s′ t′
       → Go (autoOf (merged c d)) a x C R y → Go (autoOf c ⊗ autoOf d) a (s, t) C R (s′, t′)
   go-two {a} {C} {R} s t s′ t′ hs ht hs′ ht′ e f (goes h r) =
       goes (rw merged-alphabet at h) (merged-rows-are-the-products c d wc wd oc od j s t s′ t′ C a R hs ht hs′ ht′ .0 (rw (e, f) at r))
-  go-two s t s′ t′ hs ht hs′ ht′ e f (rests h p) =
+  go-two s t s′ t′ hs ht hs′ ht′ e f (sits-out h p) =
       let q = pair-parts (d .states) s′ s t′ t ht′ ht (sym f ∙ e) in
-      rw (q .0, q .1) (rests (rw merged-alphabet at h) (hs, ht))
+      rw (q .0, q .1) (sits-out (rw merged-alphabet at h) (hs, ht))
 
 -- ---- each component by one action
 regrouped : {a : ℕ} {m : Model} {s t : List ℕ} {C D R Q : ℕ} → C ≡ D → R ≡ Q → GoAll a m s C R t → GoAll a m s D Q t

@@ -15,7 +15,7 @@ use Rattle.iosa.specs.Model.{Row, Comp, noRow}
 use Rattle.iosa.specs.WellFormed.{WellRow, WellComp}
 use Rattle.iosa.specs.Automaton.{autoOf, Conditions, Compatible}
 use Rattle.iosa.specs.Merge.{productRows, merged}
-use Rattle.iosa.proofs.Settling.Closed.{component-closed, product-closed, or-within}
+use Rattle.iosa.proofs.Settling.OwnNames.{component-own, product-own, or-within}
 use Rattle.iosa.proofs.Merging.Labels.{kinds-apart, merged-inputs, merged-outputs}
 use Rattle.iosa.proofs.Merging.Product.{row-is-a-pair}
 use Rattle.iosa.proofs.Merging.Ascend.{Before, merged-rows-ascend}
@@ -46,12 +46,12 @@ module _ (c d : Comp) (wc : WellComp c) (wd : WellComp d) (oc : Conditions (auto
   unfolding merged
   row-is-well {x} m =
       let p = row-is-a-pair c d wc wd oc od j m in
-      let cl = product-closed (autoOf c) (autoOf d) (component-closed c wc) (component-closed d wd) in
-      let own = cl .own (p .joint) in
+      let cl = product-own (autoOf c) (autoOf d) (component-own c wc) (component-own d wd) in
+      let own = cl .rows (p .joint) in
       record {
         from = rw (p .from) (pair-below (c .states) (d .states) (p .s-below) (p .t-below));
         guard = own .guard;
-        action = rw (ap₂ _∪_ (merged-inputs c d wc wd j) (merged-outputs c d)) (cl .action (p .joint));
+        action = rw (ap₂ _∪_ (merged-inputs c d wc wd j) (merged-outputs c d)) (own .action);
         resets = own .resets;
         target = rw (p .target) (pair-below (c .states) (d .states) (p .s′-below) (p .t′-below));
       }

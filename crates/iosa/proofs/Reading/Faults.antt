@@ -8,11 +8,12 @@ use native.Mathlib.Omega.{arith}
 use native.Mathlib.Decide.{decLt}
 use lib.ListN.{length}
 use borrow.Author.Tests.{lt-ltb, le-ltb}
+use Rattle.laws.specs.Lowest.{Lowest}
 use Rattle.answer.specs.Limits.{maxBytes}
 use Rattle.answer.specs.Told.{Told, tell, Answer, answered, refused}
 use Rattle.iosa.specs.Model.{Comp, Model}
 use Rattle.iosa.specs.Reading.{Got, Entry, comp-entry, act-entry, clk-entry, row-entry, entry, Progress, atStart, turn, faultOf, rowOf, withAct, withClk, withRow, onLast, takeIn, finish, linesFrom, readOf}
-use Rattle.iosa.specs.Faulty.{InTurn, Lowest, taken, Reaches, first-line, next-line, FaultAt, Reply, is-model, is-too-long, is-empty, has-fault}
+use Rattle.iosa.specs.Faulty.{LineFault, InTurn, withLine, Reaches, first-line, next-line, LineFaultAt, ReadsAs, is-model, is-too-long, is-empty, has-fault}
 use Rattle.iosa.proofs.Reading.Lines.{line-exactly}
 use Rattle.iosa.proofs.Reading.LowestFault.{no-fault, fault-some, fault-none, none-fault, one-lowest, fault-number, shapeless}
 use Rattle.iosa.proofs.Reading.LinesFrom.{entry-shortens, lines-end, lines-shapeless, lines-fault, lines-next}
@@ -27,7 +28,7 @@ reading-goes-on (next-line {k} {p} {bs} {e} {cs} r read h) =
 -- how reading ends: behind the last line, or at the first line that has a fault
 data End (t : List ℕ) (a : Answer Model) : Type 0 where
   at-end : {k : ℕ} {p : Progress} → Reaches t k p [] → a ≡ finish (p .comps) → End t a
-  at-fault : {k : ℕ} {p : Progress} {bs : List ℕ} {n : ℕ} → Reaches t k p bs → ¬ (bs ≡ []) → Lowest p bs n → a ≡ refused (tell n (k ∷ [])) → End t a
+  at-fault : {k : ℕ} {p : Progress} {bs : List ℕ} {n : ℕ} → Reaches t k p bs → ¬ (bs ≡ []) → Lowest (LineFault p bs) n → a ≡ refused (tell n (k ∷ [])) → End t a
 
 -- the line at the front of the bytes: of wrong shape, faulty, or faultless
 data Line (p : Progress) (bs : List ℕ) : Type 0 where
@@ -58,14 +59,14 @@ reading-ends (suc f) {t} {k} {p} (b ∷ bs) r l = go (λ q cs r h. reading-ends 
     go ih (line-faultless g read h) =
         let s = entry-shortens (b ∷ bs) g read in
         subst (End t) (sym (lines-next k p (g .value) (g .rest) (suc f) f (b ∷ bs) l (omega arith) read h))
-        (ih (taken p (g .value)) (g .rest) (next-line r (line-exactly (b ∷ bs) (g .value) (g .rest) .0 read)
+        (ih (withLine p (g .value)) (g .rest) (next-line r (line-exactly (b ∷ bs) (g .value) (g .rest) .0 read)
         (fault-none p (b ∷ bs) (g .value) (g .rest) read h)) (omega arith))
 
 -- a line that has a fault is refused with its lowest
-line-refused : (k : ℕ) (p : Progress) (bs : List ℕ) (n : ℕ) → ¬ (bs ≡ []) → Lowest p bs n → linesFrom (length bs) k p bs ≡ refused (tell n (k ∷ []))
+line-refused : (k : ℕ) (p : Progress) (bs : List ℕ) (n : ℕ) → ¬ (bs ≡ []) → Lowest (LineFault p bs) n → linesFrom (length bs) k p bs ≡ refused (tell n (k ∷ []))
 line-refused k p bs n w h = go (line-is p bs)
   where
-    told : (m : ℕ) → Lowest p bs m → _≡_ {A = Answer Model} (refused (tell m (k ∷ []))) (refused (tell n (k ∷ [])))
+    told : (m : ℕ) → Lowest (LineFault p bs) m → _≡_ {A = Answer Model} (refused (tell m (k ∷ []))) (refused (tell n (k ∷ [])))
     told m l = ap {B = Answer Model} (λ m. refused (tell m (k ∷ []))) (one-lowest p bs m n l h)
 
     go : Line p bs → linesFrom (length bs) k p bs ≡ refused (tell n (k ∷ []))
@@ -73,7 +74,7 @@ line-refused k p bs n w h = go (line-is p bs)
     go (line-faulty g m read e) = lines-fault k p (g .value) (g .rest) (length bs) bs m (omega arith) read e ∙ told m (fault-some p bs (g .value) (g .rest) read m e)
     go (line-faultless g read e) =
         let q = fault-none p bs (g .value) (g .rest) read e in
-        absurd (no-fault p bs (g .value) (g .rest) read n (λ _. q .in-turn) (λ _. q .in-range) (λ _. q .named) (λ _. q .in-order) (λ _. q .room) (h .fault))
+        absurd (no-fault p bs (g .value) (g .rest) read n (λ _. q .in-turn) (λ _. q .in-range) (λ _. q .named) (λ _. q .in-order) (λ _. q .room) (h .here))
 
 -- ---- the whole text
 pub read-short : (t : List ℕ) → length t ≤ maxBytes → readOf t ≡ linesFrom (length t) 1 atStart t
@@ -115,15 +116,15 @@ not-refused e = let z : _≡_ {A = ℕ} 0 1 = cc in omega arith
 
 -- a refusal that is neither 1 nor 8 is of a line; 8 is of the end
 refused-at : {t : List ℕ} (a : Answer Model) (n k : ℕ) → End t a → a ≡ refused (tell n (k ∷ []))
-    → ((n ≡ 8) × (t ≡ [])) ⊎ ((p : Progress) × (bs : List ℕ) × Reaches t k p bs × ¬ (bs ≡ []) × Lowest p bs n)
+    → ((n ≡ 8) × (t ≡ [])) ⊎ ((p : Progress) × (bs : List ℕ) × Reaches t k p bs × ¬ (bs ≡ []) × Lowest (LineFault p bs) n)
 refused-at {t} a n k (at-end {p = p} r e) h = go (p .comps) refl
   where
-    go : (m : List Comp) → p .comps ≡ m → ((n ≡ 8) × (t ≡ [])) ⊎ ((p : Progress) × (bs : List ℕ) × Reaches t k p bs × ¬ (bs ≡ []) × Lowest p bs n)
+    go : (m : List Comp) → p .comps ≡ m → ((n ≡ 8) × (t ≡ [])) ⊎ ((p : Progress) × (bs : List ℕ) × Reaches t k p bs × ¬ (bs ≡ []) × Lowest (LineFault p bs) n)
     go [] w = inl (sym (same-told {j = 0} (ap finish (sym w) ∙ sym e ∙ h) .0), sym (none-taken r w .1))
     go (c ∷ cs) w = absurd (not-refused (ap finish (sym w) ∙ sym e ∙ h))
 refused-at {t} a n k (at-fault {p = p} {bs} r w l e) h =
     let z = same-told (sym e ∙ h) in
-    inr (p, bs, subst (λ i. Reaches t i p bs) (z .1) r, w, subst (Lowest p bs) (z .0) l)
+    inr (p, bs, subst (λ i. Reaches t i p bs) (z .1) r, w, subst (Lowest (LineFault p bs)) (z .0) l)
 
 -- 1 "text over 32,768 bytes", 8 "no component": place 0
 pub too-long-exactly : (t : List ℕ) → (readOf t ≡ refused (tell 1 (0 ∷ []))) ↔ (maxBytes < length t)
@@ -131,7 +132,7 @@ too-long-exactly t = (there, read-long t)
   where
     there : readOf t ≡ refused (tell 1 (0 ∷ [])) → maxBytes < length t
     there e = by-cases (decLt maxBytes (length t)) (λ h. h) (λ h.
-        ⊎-elim (λ q. absurd (let z : 1 ≡ 8 = q .0 in omega arith)) (λ q. absurd (omega (arith, fault-number (q .4 .fault) .0)))
+        ⊎-elim (λ q. absurd (let z : 1 ≡ 8 = q .0 in omega arith)) (λ q. absurd (omega (arith, fault-number (q .4 .here) .0)))
         (refused-at (readOf t) 1 0 (read-ends t (omega arith)) e))
 
 pub no-component-exactly : (t : List ℕ) → (readOf t ≡ refused (tell 8 (0 ∷ []))) ↔ (t ≡ [])
@@ -141,30 +142,30 @@ no-component-exactly t = (there, λ e. rw e)
     there : readOf t ≡ refused (tell 8 (0 ∷ [])) → t ≡ []
     there e = by-cases (decLt maxBytes (length t))
         (λ h. absurd (let z : 1 ≡ 8 = same-told (sym (read-long t h) ∙ e) .0 in omega arith))
-        (λ h. ⊎-elim (λ q. q .1) (λ q. absurd (omega (arith, fault-number (q .4 .fault) .1))) (refused-at (readOf t) 8 0 (read-ends t (omega arith)) e))
+        (λ h. ⊎-elim (λ q. q .1) (λ q. absurd (omega (arith, fault-number (q .4 .here) .1))) (refused-at (readOf t) 8 0 (read-ends t (omega arith)) e))
 
 -- 2 to 7
-pub fault-exactly : (t : List ℕ) (n k : ℕ) → 2 ≤ n → n ≤ 7 → (readOf t ≡ refused (tell n (k ∷ []))) ↔ FaultAt t n k
+pub fault-exactly : (t : List ℕ) (n k : ℕ) → 2 ≤ n → n ≤ 7 → (readOf t ≡ refused (tell n (k ∷ []))) ↔ LineFaultAt t n k
 fault-exactly t n k l h = (there, back)
   where
-    there : readOf t ≡ refused (tell n (k ∷ [])) → FaultAt t n k
+    there : readOf t ≡ refused (tell n (k ∷ [])) → LineFaultAt t n k
     there e = by-cases (decLt maxBytes (length t))
         (λ w. absurd (omega (arith, same-told (sym (read-long t w) ∙ e) .0)))
         (λ w. ⊎-elim (λ q. absurd (omega (arith, q .0)))
         (λ q. record { short = omega arith; progress = q .0; bytes = q .1; reached = q .2; line = q .3; lowest = q .4 })
         (refused-at (readOf t) n k (read-ends t (omega arith)) e))
 
-    back : FaultAt t n k → readOf t ≡ refused (tell n (k ∷ []))
+    back : LineFaultAt t n k → readOf t ≡ refused (tell n (k ∷ []))
     back a = read-short t (a .short) ∙ reading-goes-on (a .reached) ∙ line-refused k (a .progress) (a .bytes) n (a .line) (a .lowest)
 
 -- every answer: a model, or one of these refusals
-pub read-answers : (t : List ℕ) → Reply t (readOf t)
+pub read-answers : (t : List ℕ) → ReadsAs t (readOf t)
 read-answers t = by-cases (decLt maxBytes (length t)) (λ h. is-too-long h (read-long t h)) (λ h. go (omega arith) (read-ends t (omega arith)))
   where
-    go : length t ≤ maxBytes → End t (readOf t) → Reply t (readOf t)
+    go : length t ≤ maxBytes → End t (readOf t) → ReadsAs t (readOf t)
     go s (at-end {p = p} r e) = ended (p .comps) refl
       where
-        ended : (m : List Comp) → p .comps ≡ m → Reply t (readOf t)
+        ended : (m : List Comp) → p .comps ≡ m → ReadsAs t (readOf t)
         ended [] w = is-empty (sym (none-taken r w .1)) (e ∙ ap finish w)
         ended (c ∷ cs) w = is-model (reverse (c ∷ cs)) (e ∙ ap finish w)
     go s (at-fault {k} {p} {bs} {n} r w l e) = has-fault n k (record { short = s; progress = p; bytes = bs; reached = r; line = w; lowest = l }) e

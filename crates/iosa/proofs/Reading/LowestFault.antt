@@ -8,9 +8,10 @@ use native.Mathlib.Omega.{arith}
 use Rattle.laws.specs.Search.{when, orElse}
 use Rattle.laws.proofs.SearchLaws.{no-some}
 use Rattle.laws.proofs.TestLaws.{apart-cases}
+use Rattle.laws.specs.Lowest.{Lowest}
 use Rattle.iosa.specs.Reading.{Got, got, Entry, entry, Progress, current, outOfTurn, outOfRange, lacks, outOfOrder, tooMany, faultOf}
 use Rattle.iosa.specs.Faulty.{InTurn, InRange, Named, InOrder, Room, Faultless, LineAt}
-use Rattle.iosa.specs.Faulty.{Fault, wrong-shape, out-of-turn, out-of-range, lacking, out-of-order, too-many, Lowest}
+use Rattle.iosa.specs.Faulty.{LineFault, wrong-shape, out-of-turn, out-of-range, not-named, out-of-order, too-many}
 use Rattle.iosa.proofs.Reading.Lines.{line-exactly, no-line-exactly}
 use Rattle.iosa.proofs.Reading.Tests.{turn-decided, range-decided, names-decided, order-decided, room-decided}
 
@@ -23,11 +24,11 @@ module _ (p : Progress) (bs : List ℕ) (e : Entry) (cs : List ℕ) (read : entr
 
   -- a line of good shape has no fault m where what m would deny holds
   pub no-fault : (m : ℕ) → (m ≡ 3 → InTurn (p .last) e) → (m ≡ 4 → InRange (current p) e) → (m ≡ 5 → Named (current p) e) → (m ≡ 6 → InOrder (p .last) e) → (m ≡ 7 → Room (p .comps) e)
-      → Fault p bs m → ⊥
+      → LineFault p bs m → ⊥
   no-fault m a b c d f (wrong-shape n h) = h e cs here
   no-fault m a b c d f (out-of-turn n h w) = w (subst (InTurn (p .last)) (same-line h) (a n))
   no-fault m a b c d f (out-of-range n h w) = w (subst (InRange (current p)) (same-line h) (b n))
-  no-fault m a b c d f (lacking n h w) = w (subst (Named (current p)) (same-line h) (c n))
+  no-fault m a b c d f (not-named n h w) = w (subst (Named (current p)) (same-line h) (c n))
   no-fault m a b c d f (out-of-order n h w) = w (subst (InOrder (p .last)) (same-line h) (d n))
   no-fault m a b c d f (too-many n h w) = w (subst (Room (p .comps)) (same-line h) (f n))
 
@@ -52,40 +53,40 @@ module _ (p : Progress) (bs : List ℕ) (e : Entry) (cs : List ℕ) (read : entr
       }
 
   lowest : (a b c d f : Bool) → outOfTurn (p .last) e ≡ a → outOfRange (current p) e ≡ b → lacks (current p) e ≡ c → outOfOrder (p .last) e ≡ d → tooMany (p .comps) e ≡ f
-      → (n : ℕ) → chain a b c d f ≡ some n → Lowest p bs n
+      → (n : ℕ) → chain a b c d f ≡ some n → Lowest (LineFault p bs) n
   lowest true b c d f ea eb ec ed ef n h =
       let z : 3 ≡ n = Option·some-inj .0 h in
       record {
-        fault = out-of-turn (sym z) here (λ w. true≢false (sym ea ∙ turn-decided (p .last) e .1 w));
-        least = λ m l. no-fault m (λ q. absurd (omega arith)) (λ q. absurd (omega arith)) (λ q. absurd (omega arith)) (λ q. absurd (omega arith)) (λ q. absurd (omega arith));
+        here = out-of-turn (sym z) here (λ w. true≢false (sym ea ∙ turn-decided (p .last) e .1 w));
+        before = λ m l. no-fault m (λ q. absurd (omega arith)) (λ q. absurd (omega arith)) (λ q. absurd (omega arith)) (λ q. absurd (omega arith)) (λ q. absurd (omega arith));
       }
   lowest false true c d f ea eb ec ed ef n h =
       let z : 4 ≡ n = Option·some-inj .0 h in
       record {
-        fault = out-of-range (sym z) here (λ w. true≢false (sym eb ∙ range-decided (current p) e .1 w));
-        least = λ m l. no-fault m (λ q. turn-decided (p .last) e .0 ea) (λ q. absurd (omega arith)) (λ q. absurd (omega arith)) (λ q. absurd (omega arith)) (λ q. absurd (omega arith));
+        here = out-of-range (sym z) here (λ w. true≢false (sym eb ∙ range-decided (current p) e .1 w));
+        before = λ m l. no-fault m (λ q. turn-decided (p .last) e .0 ea) (λ q. absurd (omega arith)) (λ q. absurd (omega arith)) (λ q. absurd (omega arith)) (λ q. absurd (omega arith));
       }
   lowest false false true d f ea eb ec ed ef n h =
       let z : 5 ≡ n = Option·some-inj .0 h in
       record {
-        fault = lacking (sym z) here (λ w. true≢false (sym ec ∙ names-decided (current p) e .1 w));
-        least = λ m l. no-fault m (λ q. turn-decided (p .last) e .0 ea) (λ q. range-decided (current p) e .0 eb) (λ q. absurd (omega arith)) (λ q. absurd (omega arith)) (λ q. absurd (omega arith));
+        here = not-named (sym z) here (λ w. true≢false (sym ec ∙ names-decided (current p) e .1 w));
+        before = λ m l. no-fault m (λ q. turn-decided (p .last) e .0 ea) (λ q. range-decided (current p) e .0 eb) (λ q. absurd (omega arith)) (λ q. absurd (omega arith)) (λ q. absurd (omega arith));
       }
   lowest false false false true f ea eb ec ed ef n h =
       let z : 6 ≡ n = Option·some-inj .0 h in
       record {
-        fault = out-of-order (sym z) here (λ w. true≢false (sym ed ∙ order-decided (p .last) e .1 w));
-        least = λ m l. no-fault m (λ q. turn-decided (p .last) e .0 ea) (λ q. range-decided (current p) e .0 eb) (λ q. names-decided (current p) e .0 ec) (λ q. absurd (omega arith)) (λ q. absurd (omega arith));
+        here = out-of-order (sym z) here (λ w. true≢false (sym ed ∙ order-decided (p .last) e .1 w));
+        before = λ m l. no-fault m (λ q. turn-decided (p .last) e .0 ea) (λ q. range-decided (current p) e .0 eb) (λ q. names-decided (current p) e .0 ec) (λ q. absurd (omega arith)) (λ q. absurd (omega arith));
       }
   lowest false false false false true ea eb ec ed ef n h =
       let z : 7 ≡ n = Option·some-inj .0 h in
       record {
-        fault = too-many (sym z) here (λ w. true≢false (sym ef ∙ room-decided (p .comps) e .1 w));
-        least = λ m l. no-fault m (λ q. turn-decided (p .last) e .0 ea) (λ q. range-decided (current p) e .0 eb) (λ q. names-decided (current p) e .0 ec) (λ q. order-decided (p .last) e .0 ed) (λ q. absurd (omega arith));
+        here = too-many (sym z) here (λ w. true≢false (sym ef ∙ room-decided (p .comps) e .1 w));
+        before = λ m l. no-fault m (λ q. turn-decided (p .last) e .0 ea) (λ q. range-decided (current p) e .0 eb) (λ q. names-decided (current p) e .0 ec) (λ q. order-decided (p .last) e .0 ed) (λ q. absurd (omega arith));
       }
   lowest false false false false false ea eb ec ed ef n h = absurd (no-some refl h)
 
-  pub fault-some : (n : ℕ) → faultOf p e ≡ some n → Lowest p bs n
+  pub fault-some : (n : ℕ) → faultOf p e ≡ some n → Lowest (LineFault p bs) n
   unfolding faultOf
   fault-some n h = lowest (outOfTurn (p .last) e) (outOfRange (current p) e) (lacks (current p) e) (outOfOrder (p .last) e) (tooMany (p .comps) e) refl refl refl refl refl n h
 
@@ -103,16 +104,16 @@ none-fault p e f = rw (
   room-decided (p .comps) e .1 (f .room),
 )
 
-pub one-lowest : (p : Progress) (bs : List ℕ) (m n : ℕ) → Lowest p bs m → Lowest p bs n → m ≡ n
-one-lowest p bs m n a b = apart-cases m n (λ e. e) (λ h. absurd (b .least m h (a .fault))) (λ h. absurd (a .least n h (b .fault)))
+pub one-lowest : (p : Progress) (bs : List ℕ) (m n : ℕ) → Lowest (LineFault p bs) m → Lowest (LineFault p bs) n → m ≡ n
+one-lowest p bs m n a b = apart-cases m n (λ e. e) (λ h. absurd (b .before m h (a .here))) (λ h. absurd (a .before n h (b .here)))
 
-pub fault-number : {p : Progress} {bs : List ℕ} {n : ℕ} → Fault p bs n → (2 ≤ n) × (n ≤ 7)
+pub fault-number : {p : Progress} {bs : List ℕ} {n : ℕ} → LineFault p bs n → (2 ≤ n) × (n ≤ 7)
 fault-number (wrong-shape e h) = (omega arith, omega arith)
 fault-number (out-of-turn e h w) = (omega arith, omega arith)
 fault-number (out-of-range e h w) = (omega arith, omega arith)
-fault-number (lacking e h w) = (omega arith, omega arith)
+fault-number (not-named e h w) = (omega arith, omega arith)
 fault-number (out-of-order e h w) = (omega arith, omega arith)
 fault-number (too-many e h w) = (omega arith, omega arith)
 
-pub shapeless : (p : Progress) (bs : List ℕ) → entry bs ≡ none → Lowest p bs 2
-shapeless p bs e = record { fault = wrong-shape refl (no-line-exactly bs .0 e); least = λ m h w. omega (arith, fault-number w .0) }
+pub shapeless : (p : Progress) (bs : List ℕ) → entry bs ≡ none → Lowest (LineFault p bs) 2
+shapeless p bs e = record { here = wrong-shape refl (no-line-exactly bs .0 e); before = λ m h w. omega (arith, fault-number w .0) }

@@ -12,7 +12,7 @@ use Rattle.laws.specs.Sets.{has, only, _∈_, _⊆_}
 use Rattle.laws.proofs.SetLaws.{has-or, in-below, in-one, one-in, none-in, in-or, or-in-l, or-in-r, or-not, same-members}
 use Rattle.laws.proofs.TestLaws.{and-true, not-so}
 use Rattle.answer.specs.Limits.{maxClocks}
-use Rattle.iosa.specs.Text.{joined, members, setField}
+use Rattle.iosa.specs.Text.{clocksOf, joined, members, setField}
 use Rattle.iosa.specs.Reading.{allBelow, allIn, ascending, setOf}
 use Rattle.iosa.specs.Line.{AllFit, listField}
 
@@ -123,9 +123,6 @@ members-in s (suc n) k t h = go (members-in s n (suc k) t h) (has s k) refl
     go ih false e = ih
 
 -- ---- sets of clocks
-abbrev pub clocksOf : ℕ → List ℕ
-clocksOf s = members s maxClocks 0
-
 pub set-of-members : (s : ℕ) → s < 2 ^ maxClocks → setOf (clocksOf s) ≡ s
 set-of-members s h = same-members (setOf (clocksOf s)) s
     (in-set-of s (clocksOf s) (members-in s maxClocks 0 s (λ x p. p)))

@@ -9,10 +9,10 @@ use Rattle.laws.specs.Fold.{spread}
 use Rattle.iosa.specs.Model.{Comp}
 use Rattle.iosa.specs.Reading.{Entry, Progress, takeIn}
 use Rattle.iosa.specs.Line.{lineOf, LineFits}
-use Rattle.iosa.specs.Faulty.{Faultless, taken, Reaches, next-line}
+use Rattle.iosa.specs.Faulty.{Faultless, withLine, Reaches, next-line}
 
 -- a line as printed is read and taken in
-pub line-on : {t : List ℕ} {k : ℕ} {p : Progress} {bs : List ℕ} (e : Entry) (cs : List ℕ) → Reaches t k p bs → bs ≡ lineOf e ++ cs → LineFits e → Faultless p e → Reaches t (suc k) (taken p e) cs
+pub line-on : {t : List ℕ} {k : ℕ} {p : Progress} {bs : List ℕ} (e : Entry) (cs : List ℕ) → Reaches t k p bs → bs ≡ lineOf e ++ cs → LineFits e → Faultless p e → Reaches t (suc k) (withLine p e) cs
 line-on e cs r q l f = next-line r (record { fits = l; printed = q }) f
 
 -- the component c is being read, behind the components m, and d was its last line

@@ -7,12 +7,12 @@ use Prim.Native.Nat.{ℕ, zero, suc, _^_, _<_}
 use native.Mathlib.Omega.{arith}
 use Rattle.answer.specs.Limits.{maxClocks}
 use Rattle.iosa.specs.Model.{Row, Comp}
-use Rattle.iosa.specs.Text.{Kind, compLine, actLine, clkLine, rowLine, setField}
+use Rattle.iosa.specs.Text.{Kind, compLine, actLine, clkLine, rowLine, setField, clocksOf}
 use Rattle.iosa.specs.Reading.{Entry, comp-entry, act-entry, clk-entry, row-entry, entry, got, guardOf, rowOf, numbersOrDash}
 use Rattle.iosa.specs.Line.{Fits, lineOf, LineFits, Ends}
 use Rattle.iosa.proofs.Reading.Lines.{entry-exact}
 use Rattle.iosa.proofs.Reading.Fields.{list-exact}
-use Rattle.iosa.proofs.Reading.Members.{clocksOf, set-of-members, set-printed, members-fit}
+use Rattle.iosa.proofs.Reading.Members.{set-of-members, set-printed, members-fit}
 
 pub comp-line : (c : Comp) → compLine c ≡ lineOf (comp-entry (c .states) (c .start))
 unfolding compLine lineOf

@@ -13,12 +13,12 @@ use Rattle.laws.proofs.SetLaws.{in-below, in-one, subset-le}
 use Rattle.laws.proofs.ListLaws.{All}
 use Rattle.answer.specs.Limits.{maxRows, maxActions, maxClocks}
 use Rattle.iosa.specs.Model.{Row, Comp, noRow, acts, guardSet, rowCount}
-use Rattle.iosa.specs.Text.{rowLine, rowLines}
+use Rattle.iosa.specs.Text.{rowLine, rowLines, clocksOf}
 use Rattle.iosa.specs.WellFormed.{before, WellRow, WellComp}
 use Rattle.iosa.specs.Reading.{Entry, comp-entry, act-entry, clk-entry, row-entry, turn, takeIn}
 use Rattle.iosa.specs.Line.{GuardFits, LineFits}
 use Rattle.iosa.specs.Faulty.{GuardIs, InRange, Named, After}
-use Rattle.iosa.proofs.Reading.Members.{clocksOf, members-ascend, members-below, members-fit, members-within}
+use Rattle.iosa.proofs.Reading.Members.{members-ascend, members-below, members-fit, members-within}
 use Rattle.iosa.proofs.Reading.Tests.{below-decided, in-decided, ascends-decided}
 use Rattle.iosa.proofs.Reading.Printed.{guardRead, rowRead, row-back, row-line}
 use Rattle.iosa.proofs.Reading.Phases.{line-on, At, move}

@@ -18,8 +18,8 @@ use Rattle.iosa.specs.WellFormed.{WellFormed}
 use Rattle.iosa.specs.Product.{product, stateOf, Within}
 use Rattle.iosa.specs.Checks.{confluentOf}
 use Rattle.iosa.specs.Step.{urgentStep, inRange, stateFault}
-use Rattle.iosa.specs.Settle.{Settling, settle, budgetFault, traceFault, play, settleOf, settleListOf}
-use Rattle.iosa.specs.Orders.{OneEnd, Called}
+use Rattle.iosa.specs.Settle.{settle, budgetFault, traceFault, play, settleOf, settleListOf}
+use Rattle.iosa.specs.Orders.{OneEnd, Called, Settling}
 use Rattle.iosa.specs.Demand3.{Demand3}
 use Rattle.iosa.proofs.Acceptance.Accepted.{accepted-exactly}
 use Rattle.iosa.proofs.Acceptance.ConfluentExactly.{confluent-accepted}
@@ -119,7 +119,7 @@ demand-3-of-the-call c cs well s budget room d e =
     rw (← p .4) (record {
       orders = one-end t;
       run = our-run-is-a-series c cs well (k .0) (k .1) s (p .1) budget;
-      enough = λ run st h. t .stops run st .enough budget h;
-      short = λ run st h. t .stops run st .short budget h;
-      never = λ f. t .never f budget;
+      enough = λ run st h. t .stops run st .enough budget h .stable;
+      short = λ run st h. t .stops run st .short budget h .unstable;
+      never = λ f. t .never f budget .unstable;
     })

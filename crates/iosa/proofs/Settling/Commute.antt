@@ -7,11 +7,12 @@ use Rattle.iosa.specs.Model.{Comp}
 use Rattle.iosa.specs.WellFormed.{WellFormed}
 use Rattle.iosa.specs.Automaton.{Confluent, Conforming, Joinable, AllConfluent}
 use Rattle.iosa.specs.Product.{product, stateOf, Within}
-use Rattle.iosa.specs.Step.{Gone, urgentStep}
+use Rattle.iosa.specs.Step.{urgentStep, RowStep}
+use Rattle.iosa.specs.Stepped.{Gone}
 use Rattle.iosa.proofs.Settling.Parts.{within-length}
 use Rattle.iosa.proofs.Settling.ProductOfMany.{in-range-is-a-state}
 use Rattle.iosa.proofs.Settling.SystemConfluent.{system-is-confluent}
-use Rattle.iosa.proofs.Settling.Steps.{state-is-one-list, step-is-a-row, row-is-a-step, RowStep}
+use Rattle.iosa.proofs.Settling.Steps.{state-is-one-list, step-is-a-row, row-is-a-step}
 use Rattle.iosa.proofs.Settling.Descent.{Diamond}
 
 module _ (c : Comp) (cs : List Comp) (well : WellFormed (c ∷ cs)) (conf : Conforming (c ∷ cs)) (join : Joinable (c ∷ cs)) where

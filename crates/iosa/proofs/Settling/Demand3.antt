@@ -15,7 +15,8 @@ use Rattle.iosa.specs.Automaton.{Conforming, Joinable, Stable}
 use Rattle.iosa.specs.Product.{product, stateOf, Within, Series}
 use Rattle.iosa.specs.Checks.{confluentOf}
 use Rattle.iosa.specs.Step.{urgentStep}
-use Rattle.iosa.specs.Settle.{Settling, settle}
+use Rattle.iosa.specs.Settle.{settle}
+use Rattle.iosa.specs.Orders.{Settling}
 use Rattle.iosa.specs.Demand3.{Demand3, Stops, Same, GoesOn, OurRun}
 use Rattle.iosa.proofs.Acceptance.Accepted.{accepted-exactly}
 use Rattle.iosa.proofs.Acceptance.ConfluentExactly.{confluent-exactly, confluent-accepted}

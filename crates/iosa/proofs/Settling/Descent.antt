@@ -16,7 +16,7 @@ use Rattle.laws.specs.Sets.{_∪_}
 use Rattle.laws.proofs.SetLaws.{or-assoc}
 use Rattle.laws.proofs.SearchLaws.{no-some}
 use Rattle.iosa.specs.Product.{count}
-use Rattle.iosa.specs.Step.{Gone}
+use Rattle.iosa.specs.Stepped.{Gone}
 
 left-comm : (a b c : ℕ) → a ∪ (b ∪ c) ≡ b ∪ (a ∪ c)
 left-comm a b c = sym (or-assoc a b c) ∙ ap (λ n. n ∪ c) (or-comm a b) ∙ or-assoc b a c

@@ -1,5 +1,5 @@
 -- Settling by a list: a list that is a series is answered as that series, and any other is refused at its first action that is not enabled.
-use mathlib.Core.Path.{_≡_, refl, sym, _∙_, ap}
+use mathlib.Core.Path.{_≡_, refl, sym, _∙_, ap, subst}
 use mathlib.Core.Logic.{_↔_}
 use mathlib.Core.Bool.{Bool, true, false}
 use mathlib.Core.Option.{Option, none, some}
@@ -14,9 +14,11 @@ use Rattle.iosa.specs.Model.{Comp, Model}
 use Rattle.iosa.specs.WellFormed.{WellFormed}
 use Rattle.iosa.specs.Automaton.{Conforming, Joinable}
 use Rattle.iosa.specs.Product.{product, stateOf, Within}
-use Rattle.iosa.specs.Step.{Gone, urgentStep, isStable}
-use Rattle.iosa.specs.Settle.{Settling, afterListed, play}
-use Rattle.iosa.specs.Demand3.{Listed, NotEnabledAt}
+use Rattle.iosa.specs.Step.{urgentStep, isStable}
+use Rattle.iosa.specs.Stepped.{Gone}
+use Rattle.iosa.specs.Settle.{afterListed, play}
+use Rattle.iosa.specs.Orders.{Settling}
+use Rattle.iosa.specs.Demand3.{Listed, NotEnabledAt, not-enabled}
 use Rattle.iosa.proofs.Settling.Parts.{within-length}
 use Rattle.iosa.proofs.Settling.Descent.{Run, stop, then}
 use Rattle.iosa.proofs.Settling.Steps.{state-is-one-list, stable-exactly, row-is-a-step, no-row-no-step}
@@ -160,25 +162,17 @@ module _ (c : Comp) (cs : List Comp) (well : WellFormed (c ∷ cs)) (conf : Conf
           let n : 0 + p .0 ≡ p .0 = omega arith in (
             p .0,
             p .1 ∙ ap (λ k. tell 23 (k ∷ [])) n,
-            record {
-              before = b .before;
-              action = b .action;
-              later = b .later;
-              split = b .split;
-              index = b .index;
-              resets = b .resets;
-              end = stateOf c cs (b .end);
-              series = q .0;
-              disabled = λ C R y r. no-some (b .disabled) (row-is-a-step c cs well conf join (b .end) (q .1) y r .step);
-            },
+            subst (λ k. NotEnabledAt (product c cs) (stateOf c cs s) k (p .0)) (sym (b .split))
+                (subst (NotEnabledAt (product c cs) (stateOf c cs s) (b .before ++ (b .action ∷ b .later))) (b .index)
+                (not-enabled (b .before) (b .action) (b .later) (q .0) (λ C R y r. no-some (b .disabled) (row-is-a-step c cs well conf join (b .end) (q .1) y r .step)))),
           )
 
+      broken : {k : List ℕ} {i : ℕ} → NotEnabledAt (product c cs) (stateOf c cs s) k i → play (c ∷ cs) 0 k s ≡ refused (tell 23 (i ∷ []))
+      broken (not-enabled k a later r f) =
+          let q = series-is-a-run c cs well conf join s w refl r in
+          let n : 0 + length k ≡ length k = omega arith in
+          run-breaks (c ∷ cs) 0 a later (q .1) (no-row-no-step c cs well conf join (q .0) (q .3) a (rw (q .2) at f))
+          ∙ ap (λ j. refused (tell 23 (j ∷ []))) n
+
       back : (i : ℕ) × (t ≡ tell 23 (i ∷ [])) × NotEnabledAt (product c cs) (stateOf c cs s) l i → play (c ∷ cs) 0 l s ≡ refused t
-      back p =
-          let b = p .2 in
-          let q = series-is-a-run c cs well conf join s w refl (b .series) in
-          let n : 0 + length (b .before) ≡ p .0 = omega (arith, b .index) in
-          ap (λ k. play (c ∷ cs) 0 k s) (b .split)
-          ∙ run-breaks (c ∷ cs) 0 (b .action) (b .later) (q .1) (no-row-no-step c cs well conf join (q .0) (q .3) (b .action) (rw (q .2) at (b .disabled)))
-          ∙ ap (λ k. refused (tell 23 (k ∷ []))) n
-          ∙ ap refused (sym (p .1))
+      back p = broken (p .2) ∙ ap refused (sym (p .1))

@@ -11,11 +11,12 @@ use Rattle.iosa.specs.WellFormed.{WellComp}
 use Rattle.iosa.specs.Automaton.{autoOf}
 use Rattle.iosa.specs.Product.{Within}
 use Rattle.iosa.specs.Checks.{rowFor, unclocked}
-use Rattle.iosa.specs.Step.{Gone, goneBy, move, together, moveAll}
+use Rattle.iosa.specs.Step.{goneBy, move, together, moveAll}
+use Rattle.iosa.specs.Stepped.{Gone}
 use Rattle.iosa.proofs.Acceptance.Rows.{Single, row-leads, leads-row}
 use Rattle.iosa.proofs.Settling.Each.{All}
-use Rattle.iosa.proofs.Settling.Parts.{Go, goes, rests, GoAll, end, and}
-use Rattle.iosa.proofs.Settling.Closed.{component-closed, go-own}
+use Rattle.iosa.specs.Parts.{Go, goes, sits-out, GoAll, end, and}
+use Rattle.iosa.proofs.Settling.OwnNames.{component-own, go-own}
 
 -- ---- one component
 module _ (c : Comp) (one : Single c) (s a : ℕ) (un : a ∈ acts c → a ∈ unclocked c) where
@@ -30,11 +31,11 @@ module _ (c : Comp) (one : Single c) (s a : ℕ) (un : a ∈ acts c → a ∈ un
       go : (b : Bool) → has (acts c) a ≡ b → (elim b as (λ _. Option (Gone ℕ)) [ true ↦ goneBy (rowFor c s a) | false ↦ some (record { resets = 0; after = s }) ]) ≡ some g
           → Go (autoOf c) a s 0 (g .resets) (g .after)
       go true h e = by (rowFor c s a) h refl e
-      go false h e = rw (← Option·some-inj .0 e) (rests h ok)
+      go false h e = rw (← Option·some-inj .0 e) (sits-out h ok)
 
   pub goes-move : {C R t : ℕ} → Go (autoOf c) a s C R t → (C ≡ 0) × (move c s a ≡ some (record { resets = R; after = t }))
   unfolding move
-  goes-move (rests h p) = (refl, rw (h, move))
+  goes-move (sits-out h p) = (refl, rw (h, move))
   goes-move (goes h l) =
       let r = leads-row c one s a (un h) l in
       (one .condA .unguarded l (un h), rw (h, move) (rw (r .1) (λ i. some (record { resets = r .2 i; after = r .3 i }))))
@@ -80,6 +81,6 @@ go-moves m a si un (and {c = c} {cs = cs} {s = s} g rest) =
 pub go-within : (m : Model) (a : ℕ) → All WellComp m → {s t : List ℕ} {C R : ℕ} → GoAll a m s C R t → Within m s × Within m t
 go-within m a w end = (tt, tt)
 go-within m a w (and {c = c} {cs = cs} g rest) =
-    let o = go-own (autoOf c) (component-closed c (w .0)) g in
+    let o = go-own (autoOf c) (component-own c (w .0)) g in
     let r = go-within cs a (w .1) rest in
     ((o .from, r .0), (o .target, r .1))

@@ -12,17 +12,13 @@ use Rattle.laws.proofs.SetLaws.{or-assoc, has-or, has-without, has-ext, or-in-l
 use Rattle.iosa.specs.Model.{Comp, Model, acts}
 use Rattle.iosa.specs.Automaton.{Automaton, alphabet, autoOf}
 use Rattle.iosa.specs.Product.{Joint, R1, R2, R3, _⊗_, productFrom, product, embed, stateOf, Within}
+use Rattle.iosa.specs.Parts.{Go, goes, sits-out, GoAll, end, and}
 use Rattle.iosa.proofs.Settling.Each.{Any}
-
--- by action a: a row, or rest where the automaton lacks a
-pub data Go (A : Automaton) (a : ℕ) : A .State → ℕ → ℕ → A .State → Type 0 where
-  goes : {s t : A .State} {C R : ℕ} → a ∈ alphabet A → A .Row s C a R t → Go A a s C R t
-  rests : {s : A .State} → has (alphabet A) a ≡ false → A .States s → Go A a s 0 0 s
 
 -- where the action is known, it is a row
 pub go-row : (A : Automaton) {a : ℕ} {x y : A .State} {C R : ℕ} → a ∈ alphabet A → Go A a x C R y → A .Row x C a R y
 go-row A h (goes k r) = r
-go-row A h (rests k p) = absurd (true≢false (sym h ∙ k))
+go-row A h (sits-out k p) = absurd (true≢false (sym h ∙ k))
 
 -- ---- two automata
 -- the actions of a product are those of either side
@@ -60,15 +56,15 @@ pub record Parts (A B : Automaton) (a : ℕ) (x : A .State × B .State) (C R : �
 
 module _ (A B : Automaton) (a : ℕ) where
   pub joint-parts : {s s′ : A .State} {t t′ : B .State} {C R : ℕ} → Joint A B a s t C R s′ t′ → Parts A B a (s, t) C R (s′, t′)
-  joint-parts (R1 {C = C} {R = R} h k p r) = record { guard₁ = C; guard₂ = 0; resets₁ = R; resets₂ = 0; left = goes h r; right = rests k p; guards = sym (or-zero-r C); sets = sym (or-zero-r R) }
-  joint-parts (R2 {C = C} {R = R} h k p r) = record { guard₁ = 0; guard₂ = C; resets₁ = 0; resets₂ = R; left = rests h p; right = goes k r; guards = refl; sets = refl }
+  joint-parts (R1 {C = C} {R = R} h k p r) = record { guard₁ = C; guard₂ = 0; resets₁ = R; resets₂ = 0; left = goes h r; right = sits-out k p; guards = sym (or-zero-r C); sets = sym (or-zero-r R) }
+  joint-parts (R2 {C = C} {R = R} h k p r) = record { guard₁ = 0; guard₂ = C; resets₁ = 0; resets₂ = R; left = sits-out h p; right = goes k r; guards = refl; sets = refl }
   joint-parts (R3 {C = C} {D = D} {R = R} {Q = Q} h k r q) = record { guard₁ = C; guard₂ = D; resets₁ = R; resets₂ = Q; left = goes h r; right = goes k q; guards = refl; sets = refl }
 
   pub go-parts : {x y : A .State × B .State} {C R : ℕ} → Go (A ⊗ B) a x C R y → Parts A B a x C R y
   go-parts (goes h r) = joint-parts r
-  go-parts (rests h p) =
+  go-parts (sits-out h p) =
       let n = not-or (alphabet A) (alphabet B) a (rw (alphabet-joins A B) at h) in
-      record { guard₁ = 0; guard₂ = 0; resets₁ = 0; resets₂ = 0; left = rests (n .0) (p .0); right = rests (n .1) (p .1); guards = refl; sets = refl }
+      record { guard₁ = 0; guard₂ = 0; resets₁ = 0; resets₂ = 0; left = sits-out (n .0) (p .0); right = sits-out (n .1) (p .1); guards = refl; sets = refl }
 
   known : (a ∈ alphabet A) ⊎ (a ∈ alphabet B) → a ∈ alphabet (A ⊗ B)
   known u = rw (alphabet-joins A B) (⊎-elim (or-in-l (alphabet A) (alphabet B) a) (or-in-r (alphabet A) (alphabet B) a) u)
@@ -81,17 +77,11 @@ module _ (A B : Automaton) (a : ℕ) where
 
   pub parts-go : {s s′ : A .State} {t t′ : B .State} {C D R Q : ℕ} → Go A a s C R s′ → Go B a t D Q t′ → Go (A ⊗ B) a (s, t) (C ∪ D) (R ∪ Q) (s′, t′)
   parts-go (goes h r) (goes k q) = goes (known (inl h)) (R3 h k r q)
-  parts-go {C} {R} (goes h r) (rests k p) = rw (or-zero-r C, or-zero-r R) (goes (known (inl h)) (R1 h k p r))
-  parts-go (rests h p) (goes k q) = goes (known (inr k)) (R2 h k p q)
-  parts-go (rests h p) (rests k q) = rests (rw (alphabet-joins A B) (or-not (alphabet A) (alphabet B) a h k)) (p, q)
+  parts-go {C} {R} (goes h r) (sits-out k p) = rw (or-zero-r C, or-zero-r R) (goes (known (inl h)) (R1 h k p r))
+  parts-go (sits-out h p) (goes k q) = goes (known (inr k)) (R2 h k p q)
+  parts-go (sits-out h p) (sits-out k q) = sits-out (rw (alphabet-joins A B) (or-not (alphabet A) (alphabet B) a h k)) (p, q)
 
 -- ---- a list of components, from the left
--- every component by action a: one number for each
-pub data GoAll (a : ℕ) : List Comp → List ℕ → ℕ → ℕ → List ℕ → Type 0 where
-  end : GoAll a [] [] 0 0 []
-  and : {c : Comp} {cs : List Comp} {s t C D R Q : ℕ} {ss ts : List ℕ} → Go (autoOf c) a s C R t → GoAll a cs ss D Q ts
-      → GoAll a (c ∷ cs) (s ∷ ss) (C ∪ D) (R ∪ Q) (t ∷ ts)
-
 pub all-go : {a : ℕ} (A : Automaton) {x y : A .State} {cs : List Comp} {ss ts : List ℕ} {C R D Q : ℕ} → Go A a x C R y → GoAll a cs ss D Q ts
     → Go (productFrom A cs) a (embed A cs x ss) (C ∪ D) (R ∪ Q) (embed A cs y ts)
 all-go A {C} {R} g end = rw (or-zero-r C, or-zero-r R) g

@@ -9,8 +9,10 @@ use Rattle.laws.proofs.SetLaws.{or-in-l, or-in-r, in-or, not-or, or-not, in-wit
 use Rattle.laws.proofs.TestLaws.{not-so}
 use Rattle.iosa.specs.Automaton.{Automaton, alphabet, Stable, Enabling, CondA, CondB, CondC, CondD, CondE, Active, CondF, Conditions, Compatible}
 use Rattle.iosa.specs.Product.{_⊗_}
-use Rattle.iosa.proofs.Settling.Parts.{Go, goes, rests, Parts, go-row, joint-parts, parts-go, alphabet-joins}
-use Rattle.iosa.proofs.Settling.Closed.{Closed, go-own, or-within}
+use Rattle.iosa.proofs.Settling.Parts.{Parts, go-row, joint-parts, parts-go, alphabet-joins}
+use Rattle.iosa.specs.Parts.{Go, goes, sits-out}
+use Rattle.iosa.specs.Thesis.{OwnNames}
+use Rattle.iosa.proofs.Settling.OwnNames.{go-own, or-within}
 
 pub compatible-sym : (A B : Automaton) → Compatible A B → Compatible B A
 compatible-sym A B k = record {
@@ -55,13 +57,13 @@ module _ (A : Automaton) where
   module _ (a : ℕ) (un : a ∈ alphabet A → a ∈ A .inputs ∪ A .urgent) where
     go-unguarded : CondA A → {s t : A .State} {C R : ℕ} → Go A a s C R t → C ≡ 0
     go-unguarded ca (goes h r) = ca .unguarded r (un h)
-    go-unguarded ca (rests h p) = refl
+    go-unguarded ca (sits-out h p) = refl
 
   go-same : (K a : ℕ) → (a ∈ alphabet A → a ∈ K) → OneRow A K → {s t u : A .State} {C D R Q : ℕ} → Go A a s C R t → Go A a s D Q u → (C ≡ D) × (R ≡ Q) × (t ≡ u)
   go-same K a f ce (goes h r) (goes k q) = ce .same (f h) r q
-  go-same K a f ce (goes h r) (rests k p) = absurd (true≢false (sym h ∙ k))
-  go-same K a f ce (rests h p) (goes k q) = absurd (true≢false (sym k ∙ h))
-  go-same K a f ce (rests h p) (rests k q) = (refl, refl, refl)
+  go-same K a f ce (goes h r) (sits-out k p) = absurd (true≢false (sym h ∙ k))
+  go-same K a f ce (sits-out h p) (goes k q) = absurd (true≢false (sym k ∙ h))
+  go-same K a f ce (sits-out h p) (sits-out k q) = (refl, refl, refl)
 
   -- by an action that is no output of A, it always can go
   go-input : CondD A → (a : ℕ) → (a ∈ A .outputs → ⊥) → (s : A .State) → A .States s → (R : ℕ) × (t : A .State) × Go A a s 0 R t
@@ -69,23 +71,23 @@ module _ (A : Automaton) where
     where
       go : (b : Bool) → has (alphabet A) a ≡ b → (R : ℕ) × (t : A .State) × Go A a s 0 R t
       go true h = let r = cd .row s ok a (known-input a n h) in (r .0, r .1, goes h (r .2))
-      go false h = (0, s, rests h ok)
+      go false h = (0, s, sits-out h ok)
 
   -- a guard makes it a row, and no rest
   go-enabling : {a C R : ℕ} {s t : A .State} (x : ℕ) → x ∈ C → Go A a s C R t → A .Row s C a R t
   go-enabling x h (goes k r) = r
-  go-enabling x h (rests k p) = absurd (none-in x h)
+  go-enabling x h (sits-out k p) = absurd (none-in x h)
 
   -- a clock guards only outputs that are not urgent
-  guard-output : CondA A → Closed A → {a C R : ℕ} {s t : A .State} (x : ℕ) → x ∈ C → A .Row s C a R t → a ∈ A .outputs
+  guard-output : CondA A → OwnNames A → {a C R : ℕ} {s t : A .State} (x : ℕ) → x ∈ C → A .Row s C a R t → a ∈ A .outputs
   guard-output ca cl {a} {C} x h r = ⊎-elim
       (λ k. absurd (none-in x (rw (ca .unguarded r (input-unclocked a k)) at h)))
       (λ k. k)
-      (in-or (A .inputs) (A .outputs) a (cl .action r))
+      (in-or (A .inputs) (A .outputs) a (cl .rows r .action))
 
   go-kept : (active : A .State → ℕ) → Active A active → {a C R : ℕ} {s t : A .State} → Go A a t C R s → active s ⊆ active t ∖ C ∪ R
   go-kept active f (goes h r) = λ x k. f .kept r x k
-  go-kept active f (rests {s = s} h p) = λ x k. or-in-l (active s ∖ 0) 0 x (without-in (active s) 0 x k (not-so (has 0 x) (none-in x)))
+  go-kept active f (sits-out {s = s} h p) = λ x k. or-in-l (active s ∖ 0) 0 x (without-in (active s) 0 x k (not-so (has 0 x) (none-in x)))
 
 -- ---- two of them
 -- what is unclocked in the whole, an input that nobody outputs or an urgent action, is so in the side that has it
@@ -115,7 +117,7 @@ module _ (A B : Automaton) (k : Compatible A B) (a : ℕ) where
       (or-in-r (A .outputs) (B .outputs)) (λ p. urgent-right p h) u h
 
 -- the clock of a guard is one side's: its rows by that clock are one, and the other side follows, to which the action is an input or nothing
-module _ (A B : Automaton) (k : Compatible A B) (ca : CondA A) (cc′ : CondC A) (ce : OneRow B (B .inputs)) (oa : Closed A) where
+module _ (A B : Automaton) (k : Compatible A B) (ca : CondA A) (cc′ : CondC A) (ce : OneRow B (B .inputs)) (oa : OwnNames A) where
   one-clock : {a b C D R Q C′ D′ R′ Q′ : ℕ} {s t u : A .State} {s′ t′ u′ : B .State} (x : ℕ) → x ∈ C → x ∈ D
       → Go A a s C R t → Go B a s′ C′ R′ t′ → Go A b s D Q u → Go B b s′ D′ Q′ u′
       → (a ≡ b) × (C ≡ D) × (R ≡ Q) × (t ≡ u) × (C′ ≡ D′) × (R′ ≡ Q′) × (t′ ≡ u′)
@@ -138,12 +140,12 @@ module _ (X P : Automaton) (s : X .State) (p : P .State) (out : X .outputs ⊆ P
   pub stable-side : Stable P p → Stable X s
   stable-side st = record { rests = λ {C} {a} {R} {t} r. st .rests (record { output = out a (r .output); urgent = ur a (r .urgent); row = lift C a R t (r .output) (r .row) .2 }) }
 
-  enabling-side : CondA X → Closed X → (x : ℕ) → Enabling X s x → Enabling P p x
+  enabling-side : CondA X → OwnNames X → (x : ℕ) → Enabling X s x → Enabling P p x
   enabling-side ca o x e =
       let w = lift (e .guard) (e .action) (e .resets) (e .target) (guard-output X ca o x (e .guards) (e .row)) (e .row) in
       record { guard = e .guard; action = e .action; resets = w .0; target = w .1; guards = e .guards; row = w .2 }
 
-  equal-side : CondA X → Closed X → (active : X .State → ℕ) → Active X active → X .States s → Stable P p → (x : ℕ) → x ∈ active s → Enabling P p x
+  equal-side : CondA X → OwnNames X → (active : X .State → ℕ) → Active X active → X .States s → Stable P p → (x : ℕ) → x ∈ active s → Enabling P p x
   equal-side ca o active f ok st x h = enabling-side ca o x (f .equal s ok (stable-side st) x h)
 
 -- one row by an action of K, where K is among K₁ of A and among K₂ of B
@@ -158,7 +160,7 @@ module _ (A B : Automaton) (K K₁ K₂ : ℕ) (f : (a : ℕ) → a ∈ K → a 
           (p .guards ∙ ap₂ _∪_ (x .0) (y .0) ∙ sym (q .guards), p .sets ∙ ap₂ _∪_ (x .1) (y .1) ∙ sym (q .sets), λ i. (x .2 i, y .2 i))
 
 -- the conditions, one by one
-module _ (A B : Automaton) (k : Compatible A B) (ca : Constraints A) (cb : Constraints B) (oa : Closed A) (ob : Closed B) where
+module _ (A B : Automaton) (k : Compatible A B) (ca : Constraints A) (cb : Constraints B) (oa : OwnNames A) (ob : OwnNames B) where
   product-meets-a : CondA (A ⊗ B)
   product-meets-a = record {
     unguarded = λ {C} {a} {R} {s} {t} r u.
@@ -181,15 +183,15 @@ module _ (A B : Automaton) (k : Compatible A B) (ca : Constraints A) (cb : Const
       → (Q : ℕ) × (y : A .State × B .State) × (A ⊗ B) .Row (s, t) C a Q y
   with-left {a} {C} {R} {s} {s′} t ok o r =
       let q = go-input B (cb .condD) a (λ p. k .outputs a o p) t ok in
-      let g = parts-go A B a (goes (oa .action r) r) (q .2) in
-      (R ∪ q .0, (s′, q .1), rw (or-zero-r C) at (go-row (A ⊗ B) (rw (alphabet-joins A B) (or-in-l (alphabet A) (alphabet B) a (oa .action r))) g))
+      let g = parts-go A B a (goes (oa .rows r .action) r) (q .2) in
+      (R ∪ q .0, (s′, q .1), rw (or-zero-r C) at (go-row (A ⊗ B) (rw (alphabet-joins A B) (or-in-l (alphabet A) (alphabet B) a (oa .rows r .action))) g))
 
   pub with-right : {a C R : ℕ} (s : A .State) {t t′ : B .State} → A .States s → a ∈ B .outputs → B .Row t C a R t′
       → (Q : ℕ) × (y : A .State × B .State) × (A ⊗ B) .Row (s, t) C a Q y
   with-right {a} {C} {R} s {t} {t′} ok o r =
       let q = go-input A (ca .condD) a (λ p. k .outputs a p o) s ok in
-      let g = parts-go A B a (q .2) (goes (ob .action r) r) in
-      (q .0 ∪ R, (q .1, t′), go-row (A ⊗ B) (rw (alphabet-joins A B) (or-in-r (alphabet A) (alphabet B) a (ob .action r))) g)
+      let g = parts-go A B a (q .2) (goes (ob .rows r .action) r) in
+      (q .0 ∪ R, (q .1, t′), go-row (A ⊗ B) (rw (alphabet-joins A B) (or-in-r (alphabet A) (alphabet B) a (ob .rows r .action))) g)
 
   product-meets-b : CondB (A ⊗ B)
   product-meets-b = record { guarded = λ {C} {a} {R} {s} {t} r o n. build o n (joint-parts A B a r) }
@@ -308,7 +310,7 @@ product-keeps-house-rule A B k ea eb =
     record { same = e .same }
 
 -- Proposition 4.1, with the house rule
-pub product-is-an-automaton : (A B : Automaton) → Compatible A B → Conditions A → Conditions B → Closed A → Closed B → Conditions (A ⊗ B)
+pub product-is-an-automaton : (A B : Automaton) → Compatible A B → Conditions A → Conditions B → OwnNames A → OwnNames B → Conditions (A ⊗ B)
 product-is-an-automaton A B k ca cb oa ob =
     let c = product-keeps-constraints A B k (conditions-constraints A ca) (conditions-constraints B cb) oa ob in
     record {

@@ -3,23 +3,20 @@ use mathlib.Core.Path.{_≡_, sym}
 use Prim.Native.Nat.{ℕ}
 use Rattle.laws.specs.Sets.{_∈_}
 use Rattle.laws.proofs.SetLaws.{or-none}
-use Rattle.iosa.specs.Automaton.{Automaton, alphabet, MeetsAt, ConfluentFor, Confluent, Compatible}
+use Rattle.iosa.specs.Automaton.{Automaton, alphabet, MeetsAt, Meets, ConfluentFor, Confluent, Compatible}
 use Rattle.iosa.specs.Product.{_⊗_}
-use Rattle.iosa.proofs.Settling.Parts.{Go, goes, rests, Parts, go-row, joint-parts, parts-go, joint-known}
-use Rattle.iosa.proofs.Settling.Closed.{Closed}
+use Rattle.iosa.proofs.Settling.Parts.{Parts, go-row, joint-parts, parts-go, joint-known}
+use Rattle.iosa.specs.Parts.{Go, goes, sits-out}
+use Rattle.iosa.specs.Thesis.{OwnNames}
 use Rattle.iosa.proofs.Settling.ProductConditions.{urgent-left, urgent-right}
 
--- where it has both a and b, they meet at s
-abbrev pub Meets : (A : Automaton) → A .State → ℕ → ℕ → Type 0
-Meets A s a b = a ∈ alphabet A → b ∈ alphabet A → MeetsAt A s a b
-
 -- one automaton, by rows or at rest
-go-meet : (A : Automaton) → Closed A → {a b R Q : ℕ} {s t u : A .State} → Meets A s a b → Go A a s 0 R t → Go A b s 0 Q u
+go-meet : (A : Automaton) → OwnNames A → {a b R Q : ℕ} {s t u : A .State} → Meets A s a b → Go A a s 0 R t → Go A b s 0 Q u
     → (v : A .State) × Go A b t 0 Q v × Go A a u 0 R v
 go-meet A own k (goes h r) (goes j q) = let x = k h j .meet r q in (x .0, goes j (x .1), goes h (x .2))
-go-meet A own {t} k (goes h r) (rests j p) = (t, rests j (own .own r .target), goes h r)
-go-meet A own {u} k (rests h p) (goes j q) = (u, goes j q, rests h (own .own q .target))
-go-meet A own {s} k (rests h p) (rests j q) = (s, rests j q, rests h p)
+go-meet A own {t} k (goes h r) (sits-out j p) = (t, sits-out j (own .rows r .target), goes h r)
+go-meet A own {u} k (sits-out h p) (goes j q) = (u, goes j q, sits-out h (own .rows q .target))
+go-meet A own {s} k (sits-out h p) (sits-out j q) = (s, sits-out j q, sits-out h p)
 
 unguarded-parts : {A B : Automaton} {a R : ℕ} {x y : A .State × B .State} (p : Parts A B a x 0 R y)
     → Go A a (x .0) 0 (p .resets₁) (y .0) × Go B a (x .1) 0 (p .resets₂) (y .1)
@@ -29,7 +26,7 @@ row-resets : (A : Automaton) (s t : A .State) (C a : ℕ) {R Q : ℕ} → R ≡ 
 row-resets A s t C a e r = rw e r
 
 -- ---- two actions at one state: neither urgency nor compatibility is asked for
-module _ (A B : Automaton) (oa : Closed A) (ob : Closed B) (s : A .State) (t : B .State) (a b : ℕ) where
+module _ (A B : Automaton) (oa : OwnNames A) (ob : OwnNames B) (s : A .State) (t : B .State) (a b : ℕ) where
   pub product-meets-at : Meets A s a b → Meets B t a b → MeetsAt (A ⊗ B) (s, t) a b
   product-meets-at k j = record { meet = λ r q. build (joint-known A B a r) (joint-known A B b q) (joint-parts A B a r) (joint-parts A B b q) }
     where
@@ -45,20 +42,16 @@ module _ (A B : Automaton) (oa : Closed A) (ob : Closed B) (s : A .State) (t : B
             row-resets (A ⊗ B) y (l .0, r .0) 0 a (p .sets) (go-row (A ⊗ B) ha (parts-go A B a (l .2) (r .2))),
           )
 
--- where both sides' states count, the pair counts
-abbrev pub BothCount : (A B : Automaton) → (A .State → Type 0) → (B .State → Type 0) → (A ⊗ B) .State → Type 0
-BothCount A B P Q x = P (x .0) × Q (x .1)
-
 -- ---- Proposition 4.2
-module _ (A B : Automaton) (P : A .State → Type 0) (Q : B .State → Type 0) (oa : Closed A) (ob : Closed B) where
+module _ (A B : Automaton) (P : A .State → Type 0) (Q : B .State → Type 0) (oa : OwnNames A) (ob : OwnNames B) where
   -- "If both are confluent w.r.t. urgent actions a and b, then so is" the product
-  pub product-is-confluent-for : (a b : ℕ) → ConfluentFor A P a b → ConfluentFor B Q a b → ConfluentFor (A ⊗ B) (BothCount A B P Q) a b
+  pub product-is-confluent-for : (a b : ℕ) → ConfluentFor A P a b → ConfluentFor B Q a b → ConfluentFor (A ⊗ B) (λ x. P (x .0) × Q (x .1)) a b
   product-is-confluent-for a b k j = record {
     meets = λ x ok. product-meets-at A B oa ob (x .0) (x .1) a b (λ h i. k .meets (x .0) (ok .0)) (λ h i. j .meets (x .1) (ok .1));
   }
 
   -- "Therefore, if" both "are confluent", the product "is also confluent"
-  pub product-is-confluent : Compatible A B → Confluent A P → Confluent B Q → Confluent (A ⊗ B) (BothCount A B P Q)
+  pub product-is-confluent : Compatible A B → Confluent A P → Confluent B Q → Confluent (A ⊗ B) (λ x. P (x .0) × Q (x .1))
   product-is-confluent c k j = record {
     pair = λ a b ne ua ub. record {
       meets = λ x ok. product-meets-at A B oa ob (x .0) (x .1) a b

@@ -11,7 +11,8 @@ use Rattle.iosa.specs.Automaton.{Automaton, alphabet, autoOf, Conditions
 use Rattle.iosa.specs.Product.{_⊗_, productFrom, product, embed, stateOf, Within}
 use Rattle.iosa.proofs.Settling.Each.{All, each-all}
 use Rattle.iosa.proofs.Settling.Parts.{alphabet-joins}
-use Rattle.iosa.proofs.Settling.Closed.{Closed, component-closed, product-closed, products-closed}
+use Rattle.iosa.specs.Thesis.{OwnNames}
+use Rattle.iosa.proofs.Settling.OwnNames.{component-own, product-own, products-own}
 use Rattle.iosa.proofs.Settling.ProductConditions.{product-is-an-automaton}
 
 -- what is compatible with both sides is compatible with their product
@@ -46,12 +47,12 @@ fits-on : (A B : Automaton) (cs : Model) → Fits A cs → Fits B cs → Fits (A
 fits-on A B [] f g = tt
 fits-on A B (c ∷ cs) f g = (compatible-goes-on A B (autoOf c) (f .0) (g .0), fits-on A B cs (f .1) (g .1))
 
-pub products-conform : (cs : Model) (A : Automaton) → Closed A → Conditions A → All WellComp cs → All (λ c. Conditions (autoOf c)) cs → Fits A cs → Pairwise cs
+pub products-conform : (cs : Model) (A : Automaton) → OwnNames A → Conditions A → All WellComp cs → All (λ c. Conditions (autoOf c)) cs → Fits A cs → Pairwise cs
     → Conditions (productFrom A cs)
 products-conform [] A o k w al f p = k
 products-conform (c ∷ cs) A o k w al f p =
-    let q = component-closed c (w .0) in
-    products-conform cs (A ⊗ autoOf c) (product-closed A (autoOf c) o q) (product-is-an-automaton A (autoOf c) (f .0) k (al .0) o q) (w .1) (al .1)
+    let q = component-own c (w .0) in
+    products-conform cs (A ⊗ autoOf c) (product-own A (autoOf c) o q) (product-is-an-automaton A (autoOf c) (f .0) k (al .0) o q) (w .1) (al .1)
     (fits-on A (autoOf c) cs (f .1) (p .0)) (p .1)
 
 pub wells : (m : Model) → WellFormed m → All WellComp m
@@ -59,15 +60,15 @@ wells m w = each-all WellComp m (w .each)
 
 -- ---- a system
 module _ (c : Comp) (cs : List Comp) (well : WellFormed (c ∷ cs)) where
-  pub system-closed : Closed (product c cs)
-  system-closed = let w = wells (c ∷ cs) well in products-closed cs (autoOf c) (component-closed c (w .0)) (w .1)
+  pub system-own : OwnNames (product c cs)
+  system-own = let w = wells (c ∷ cs) well in products-own cs (autoOf c) (component-own c (w .0)) (w .1)
 
   pub system-is-an-automaton : Conforming (c ∷ cs) → Joinable (c ∷ cs) → Conditions (product c cs)
   system-is-an-automaton k j =
       let w = wells (c ∷ cs) well in
       let a = each-all (λ d. Conditions (autoOf d)) (c ∷ cs) (k .each) in
       let p = joinable-pairwise (c ∷ cs) j in
-      products-conform cs (autoOf c) (component-closed c (w .0)) (a .0) (w .1) (a .1) (p .0) (p .1)
+      products-conform cs (autoOf c) (component-own c (w .0)) (a .0) (w .1) (a .1) (p .0) (p .1)
 
 -- ---- a composed state in range is a state of the product, and every state of the product is one
 embed-states : (cs : List Comp) (A : Automaton) (x : A .State) (ss : List ℕ) → A .States x → Within cs ss → productFrom A cs .States (embed A cs x ss)

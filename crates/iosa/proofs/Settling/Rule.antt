@@ -10,8 +10,10 @@ use lib.ListN.{length}
 use Rattle.laws.specs.Sets.{_∪_}
 use Rattle.laws.proofs.SearchLaws.{no-some, seek-some, seek-none}
 use Rattle.answer.specs.Limits.{maxActions}
-use Rattle.iosa.specs.Step.{Gone, Went, named, lowest}
-use Rattle.iosa.specs.Settle.{Settling, resting, after, settle}
+use Rattle.iosa.specs.Step.{Went, named, lowest}
+use Rattle.iosa.specs.Stepped.{Gone}
+use Rattle.iosa.specs.Settle.{resting, after, settle}
+use Rattle.iosa.specs.Orders.{Settling}
 use Rattle.iosa.proofs.Settling.Descent.{Run, stop, then, Stuck, Keeps, Diamond, none-is-longer, all-that-stop-are-alike}
 
 module _ {S : Type 0} where

@@ -14,8 +14,8 @@ use Rattle.iosa.specs.WellFormed.{WellFormed}
 use Rattle.iosa.specs.Automaton.{Conforming, Joinable, UrgentRow}
 use Rattle.iosa.specs.Product.{product, stateOf, Within}
 use Rattle.iosa.specs.Checks.{acceptOf}
-use Rattle.iosa.specs.Step.{Gone, Went, named, lowest, urgentStep, stateFault, unless, Stepping, taken, stepOf, takenBy, stepByOf}
-use Rattle.iosa.specs.Stepped.{StepsByRule, rests, moves, StepsByName, follows}
+use Rattle.iosa.specs.Step.{Went, named, lowest, urgentStep, stateFault, unless, taken, stepOf, takenBy, stepByOf}
+use Rattle.iosa.specs.Stepped.{StepsByRule, is-stable, moves, StepsByName, by-action, Gone, Stepping}
 use Rattle.iosa.proofs.Acceptance.Accepted.{accepted-exactly}
 use Rattle.iosa.proofs.Settling.Rule.{lowest-none, lowest-some}
 use Rattle.iosa.proofs.Settling.Steps.{step-is-a-row, row-is-a-step, steps-exactly, steps-are-bounded, stable-stuck, stuck-stable, no-row-no-step}
@@ -32,14 +32,14 @@ module _ {S : Type 0} (step : S → ℕ → Option (Gone S)) where
 
 module _ (c : Comp) (cs : List Comp) (well : WellFormed (c ∷ cs)) (conf : Conforming (c ∷ cs)) (join : Joinable (c ∷ cs)) (s : List ℕ) (w : Within (c ∷ cs) s) where
   pub rule-taken : (o : Option (Went (List ℕ))) → lowest (urgentStep (c ∷ cs)) s ≡ o → StepsByRule c cs s (taken s o)
-  rule-taken none e = rests (stuck-stable c cs well conf join s w (lowest-none (urgentStep (c ∷ cs)) s (steps-are-bounded c cs well conf join) e))
+  rule-taken none e = is-stable (stuck-stable c cs well conf join s w (lowest-none (urgentStep (c ∷ cs)) s (steps-are-bounded c cs well conf join) e))
   rule-taken (some v) e =
       let q = lowest-some (urgentStep (c ∷ cs)) s v e in
       let p = step-is-a-row c cs well conf join s w (v .action) (v .gone) (q .0) in
       moves (record { row = p .0; range = p .1 }) (λ b C Q y h r. no-some (q .1 b h) (row-is-a-step c cs well conf join s w y r .step))
 
   pub taken-rule : {x : Stepping} → StepsByRule c cs s x → taken s (lowest (urgentStep (c ∷ cs)) s) ≡ x
-  taken-rule (rests st) = ap (taken s) (stuck-lowest (urgentStep (c ∷ cs)) s (stable-stuck c cs well conf join s w st))
+  taken-rule (is-stable st) = ap (taken s) (stuck-lowest (urgentStep (c ∷ cs)) s (stable-stuck c cs well conf join s w st))
   taken-rule (moves {a = a} {R = R} {t = t} p f) =
       let g : Gone (List ℕ) = record { resets = R; after = t } in
       let e = steps-exactly c cs well conf join s w a g .1 (p .row, p .range) in
@@ -48,10 +48,10 @@ module _ (c : Comp) (cs : List Comp) (well : WellFormed (c ∷ cs)) (conf : Conf
 
   pub by-name : (a : ℕ) (o : Option (Gone (List ℕ))) (x : Stepping) → urgentStep (c ∷ cs) s a ≡ o → takenBy (named a o) ≡ answered x → StepsByName c cs s a x
   by-name a none x e h = absurd (no-answer h)
-  by-name a (some g) x e h = let p = step-is-a-row c cs well conf join s w a g e in rw (← same-answer h) (follows (record { row = p .0; range = p .1 }))
+  by-name a (some g) x e h = let p = step-is-a-row c cs well conf join s w a g e in rw (← same-answer h) (by-action (record { row = p .0; range = p .1 }))
 
   pub name-by : (a : ℕ) {x : Stepping} → StepsByName c cs s a x → takenBy (named a (urgentStep (c ∷ cs) s a)) ≡ answered x
-  name-by a (follows {R = R} {t = t} p) = ap (λ o. takenBy (named a o)) (steps-exactly c cs well conf join s w a (record { resets = R; after = t }) .1 (p .row, p .range))
+  name-by a (by-action {R = R} {t = t} p) = ap (λ o. takenBy (named a o)) (steps-exactly c cs well conf join s w a (record { resets = R; after = t }) .1 (p .row, p .range))
 
 unless-exactly : {A : Type 0} (o : Option Told) (x y : A) → (unless o x ≡ answered y) ↔ (o ≡ none) × (x ≡ y)
 unless-exactly none x y = (λ e. (refl, same-answer e), λ p. ap answered (p .1))

@@ -16,7 +16,8 @@ use Rattle.iosa.specs.Model.{Comp, Model, inputs, outputs}
 use Rattle.iosa.specs.WellFormed.{WellComp, WellFormed}
 use Rattle.iosa.specs.Automaton.{Automaton, alphabet, autoOf, UrgentRow, Stable, Conforming, Joinable, Conditions}
 use Rattle.iosa.specs.Product.{_⊗_, product, embed, stateOf, Within, OneList}
-use Rattle.iosa.specs.Step.{Gone, Went, moveAll, isUout, urgentStep, lowest, isStable}
+use Rattle.iosa.specs.Step.{RowStep, Went, moveAll, isUout, urgentStep, lowest, isStable}
+use Rattle.iosa.specs.Stepped.{Gone}
 use Rattle.iosa.specs.Demand3.{GoesOn}
 use Rattle.iosa.proofs.Acceptance.Rows.{Single, urgent-unclocked}
 use Rattle.iosa.proofs.Settling.Each.{All, each-all, all-map}
@@ -76,14 +77,6 @@ states-are-lists c cs y = (
 -- the list s, t, u is the state ((s, t), u)
 pub three-parts : (c d e : Comp) (s t u : ℕ) → stateOf c (d ∷ e ∷ []) (s ∷ t ∷ u ∷ []) ≡ ((s, t), u)
 three-parts c d e s t u = refl
-
--- a row of the product from s by a, with resets R to y, as a step that computes
-pub record RowStep (c : Comp) (cs : List Comp) (s : List ℕ) (C a R : ℕ) (y : product c cs .State) : Type 0 where
-  pub guard : C ≡ 0
-  pub after : List ℕ
-  pub within : Within (c ∷ cs) after
-  pub step : urgentStep (c ∷ cs) s a ≡ some (record { resets = R; after = after })
-  pub state : y ≡ stateOf c cs after
 
 module _ (c : Comp) (cs : List Comp) (well : WellFormed (c ∷ cs)) (conf : Conforming (c ∷ cs)) (join : Joinable (c ∷ cs)) where
   each-well : All WellComp (c ∷ cs)

@@ -5,13 +5,14 @@ use Prim.Native.Nat.{ℕ, _<_}
 use Rattle.laws.specs.Sets.{_∈_}
 use Rattle.iosa.specs.Model.{Comp, Model, acts, urgents}
 use Rattle.iosa.specs.WellFormed.{WellComp, WellFormed}
-use Rattle.iosa.specs.Automaton.{Automaton, autoOf, MeetsAt, ConfluentFor, Confluent, Joinable, AllConfluent}
+use Rattle.iosa.specs.Automaton.{Automaton, autoOf, MeetsAt, ConfluentFor, Confluent, Joinable, AllConfluent, Meets}
 use Rattle.iosa.specs.Product.{_⊗_, productFrom, product, embed, stateOf, EachPart, MadeOf}
 use Rattle.iosa.proofs.Settling.Each.{All, each-all, all-map, all-zip}
 use Rattle.iosa.proofs.Settling.Parts.{label-parts}
-use Rattle.iosa.proofs.Settling.Closed.{Closed, component-closed, product-closed}
-use Rattle.iosa.proofs.Settling.ProductConfluent.{Meets, product-meets-at}
-use Rattle.iosa.proofs.Settling.ProductOfMany.{joinable-pairwise, wells, system-closed, state-has-a-list}
+use Rattle.iosa.specs.Thesis.{OwnNames}
+use Rattle.iosa.proofs.Settling.OwnNames.{component-own, product-own}
+use Rattle.iosa.proofs.Settling.ProductConfluent.{product-meets-at}
+use Rattle.iosa.proofs.Settling.ProductOfMany.{joinable-pairwise, wells, system-own, state-has-a-list}
 use Rattle.iosa.proofs.Settling.UrgentOutputs.{urgent-everywhere}
 
 -- what holds of each component, and of each part, together
@@ -22,14 +23,14 @@ parts-with [] (s ∷ ss) f al e = absurd e
 parts-with (c ∷ cs) [] f al e = absurd e
 parts-with (c ∷ cs) (s ∷ ss) f al e = (f c s (al .0) (e .0), parts-with cs ss f (al .1) (e .1))
 
-products-meet : (a b : ℕ) (cs : List Comp) (A : Automaton) → Closed A → All WellComp cs → (x : A .State) (ss : List ℕ)
+products-meet : (a b : ℕ) (cs : List Comp) (A : Automaton) → OwnNames A → All WellComp cs → (x : A .State) (ss : List ℕ)
     → Meets A x a b → EachPart (λ c s. Meets (autoOf c) s a b) cs ss → Meets (productFrom A cs) (embed A cs x ss) a b
 products-meet a b [] A o w x [] k e = k
 products-meet a b [] A o w x (s ∷ ss) k e = absurd e
 products-meet a b (c ∷ cs) A o w x [] k e = absurd e
 products-meet a b (c ∷ cs) A o w x (s ∷ ss) k e =
-    let q = component-closed c (w .0) in
-    products-meet a b cs (A ⊗ autoOf c) (product-closed A (autoOf c) o q) (w .1) (x, s) ss (λ h i. product-meets-at A (autoOf c) o q x s a b k (e .0)) (e .1)
+    let q = component-own c (w .0) in
+    products-meet a b cs (A ⊗ autoOf c) (product-own A (autoOf c) o q) (w .1) (x, s) ss (λ h i. product-meets-at A (autoOf c) o q x s a b k (e .0)) (e .1)
 
 module _ (c : Comp) (cs : List Comp) (well : WellFormed (c ∷ cs)) where
   -- where each component that has both a and b lets them meet at its part, the product lets them meet
@@ -37,9 +38,9 @@ module _ (c : Comp) (cs : List Comp) (well : WellFormed (c ∷ cs)) where
   system-meets-at [] a b e = absurd e
   system-meets-at (s ∷ ss) a b e =
       let w = wells (c ∷ cs) well in
-      let k = products-meet a b cs (autoOf c) (component-closed c (w .0)) (w .1) s ss (e .0) (e .1) in
-      let o = system-closed c cs well in
-      record { meet = λ r q. k (o .action r) (o .action q) .meet r q }
+      let k = products-meet a b cs (autoOf c) (component-own c (w .0)) (w .1) s ss (e .0) (e .1) in
+      let o = system-own c cs well in
+      record { meet = λ r q. k (o .rows r .action) (o .rows q .action) .meet r q }
 
   -- ---- over composed states made of parts that count
   module _ (P : Comp → ℕ → Type 0) where

@@ -17,8 +17,8 @@ use Rattle.iosa.specs.Product.{product, stateOf, Within, Series}
 use Rattle.iosa.specs.Checks.{acceptOf, confluentOf}
 use Rattle.iosa.specs.Reading.{readOf}
 use Rattle.iosa.specs.Step.{urgentStep, isStable}
-use Rattle.iosa.specs.Settle.{Settling, settle, play, settleOf}
-use Rattle.iosa.specs.Orders.{OneEnd, Called, Listed, CalledByList}
+use Rattle.iosa.specs.Settle.{settle, play, settleOf}
+use Rattle.iosa.specs.Orders.{OneEnd, Called, Listed, CalledByList, Settling}
 use Rattle.iosa.specs.Demand3.{Demand3, SettledAs, Same, Unsettled}
 use Rattle.iosa.specs.Examples.{M, loop, bytesOf, reply}
 use Rattle.iosa.proofs.Acceptance.Accepted.{accepted-exactly}

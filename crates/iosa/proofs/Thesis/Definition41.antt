@@ -7,21 +7,12 @@ use Rattle.laws.specs.Sets.{has, _∪_, _∩_, _∖_, only, _∈_, _⊆_, Apart
 use Rattle.laws.proofs.SetLaws.{in-or, or-in-l, or-in-r, in-and, and-in, in-without, without-in, in-one, one-in, none-in, same-members}
 use Rattle.laws.proofs.TestLaws.{not-so}
 use Rattle.iosa.specs.Automaton.{Automaton, alphabet, Stable, Enabling, CondA, CondB, CondE, Active, Conditions, Compatible}
-use Rattle.iosa.specs.Thesis.{Structure, Enabling41, Stable41, Active41, Definition41, HouseRule, Definition43}
-use Rattle.iosa.proofs.Settling.Closed.{Closed}
+use Rattle.iosa.specs.Thesis.{Structure, Enabling41, Stable41, Active41, Definition41, HouseRule, Definition43, OwnNames}
 use Rattle.iosa.proofs.Settling.ProductConditions.{Constraints, conditions-constraints}
-
-pub structure-closed : (A : Automaton) → Structure A → Closed A
-structure-closed A k = record {
-  start = k .initial;
-  started = k .initialized;
-  action = λ r. k .rows r .action;
-  own = λ r. let x = k .rows r in record { from = x .from; guard = x .guard; resets = x .resets; target = x .target };
-}
 
 module _ (A : Automaton) where
   -- ---- by (a) and (b) a guard with a clock is that clock alone, and an urgent row has no guard
-  module _ (own : Closed A) (ca : CondA A) (cb : CondB A) where
+  module _ (own : OwnNames A) (ca : CondA A) (cb : CondB A) where
     one-guard : {C a R : ℕ} {s t : A .State} (x : ℕ) → x ∈ C → A .Row s C a R t → C ≡ only x
     one-guard {C} {a} x h r = go (has (A .urgent) a) refl
       where
@@ -36,7 +27,7 @@ module _ (A : Automaton) where
         go false u = ⊎-elim
             (λ i. empty (or-in-l (A .inputs) (A .urgent) a i))
             (λ o. single (cb .guarded r o (λ v. true≢false (sym v ∙ u))))
-            (in-or (A .inputs) (A .outputs) a (own .action r))
+            (in-or (A .inputs) (A .outputs) a (own .rows r .action))
 
     enabling-41 : (s : A .State) (x : ℕ) → Enabling A s x ↔ Enabling41 A s x
     enabling-41 s x = (
@@ -67,7 +58,7 @@ module _ (A : Automaton) where
     cut-active active f = record {
       own = λ s ok x h. in-and (active s) (A .clocks) x h .1;
       first = λ x h. f .i x (in-and (active (A .start)) (A .clocks) x h .0);
-      enabled = λ s ok x e. and-in (active s) (A .clocks) x (f .ii s ok x (enabling-41 s x .0 e)) (own .own (e .row) .guard x (e .guards));
+      enabled = λ s ok x e. and-in (active s) (A .clocks) x (f .ii s ok x (enabling-41 s x .0 e)) (own .rows (e .row) .guard x (e .guards));
       equal = λ s ok st x h. enabling-41 s x .1 (f .iii s ok (stable-41 s .0 st) x .0 (in-and (active s) (A .clocks) x h .0));
       kept = λ {C} {a} {R} {s} {t} r x h.
           let w = in-and (active s) (A .clocks) x h in
@@ -80,8 +71,8 @@ module _ (A : Automaton) where
 
   -- ---- with the structure given
   module _ (st : Structure A) where
-    own : Closed A
-    own = structure-closed A st
+    own : OwnNames A
+    own = st .own
 
     pub constraints-definition : Constraints A → Definition41 A
     constraints-definition k = record {
@@ -132,7 +123,7 @@ module _ (A : Automaton) where
             let e = ⊎-elim (λ v. k .e v (rw i at r) (rw j at q)) (λ v. ⊎-elim
             (λ w. k .e w (rw i at r) (rw j at q))
             (λ w. h .one (and-in (A .urgent) (A .outputs) a v w) (rw i at r) (rw j at q))
-            (in-or (A .inputs) (A .outputs) a (own .action r))) (in-or (A .inputs) (A .urgent) a u) in
+            (in-or (A .inputs) (A .outputs) a (own .rows r .action))) (in-or (A .inputs) (A .urgent) a u) in
             (i ∙ sym j, e .0, e .1);
       }
 
@@ -158,7 +149,7 @@ module _ (A : Automaton) where
 pub active-within-the-clocks : (A : Automaton) → Definition41 A
     → (active : A .State → ℕ) × Active41 A active × ((s : A .State) → A .States s → active s ⊆ A .clocks)
 active-within-the-clocks A k =
-    let o = structure-closed A (k .structure) in
+    let o = k .structure .own in
     let ca = condA A (k .structure) k in
     let cb = condB A (k .structure) k in
     let f = cut-active A o ca cb (k .f .0) (k .f .1) in

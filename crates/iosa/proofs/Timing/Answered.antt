@@ -20,9 +20,9 @@ use Rattle.iosa.specs.Model.{Comp, Model, declared}
 use Rattle.iosa.specs.WellFormed.{WellFormed}
 use Rattle.iosa.specs.Product.{product, stateOf, Within}
 use Rattle.iosa.specs.Checks.{acceptOf}
-use Rattle.iosa.specs.Timed.{valueOf, enablingAll, unstableFault, valuesFault, Timing, quietly, timedFrom, timedOf}
+use Rattle.iosa.specs.Timed.{enablingAll, unstableFault, valuesFault, timedFrom, timedOf, quietly}
 use Rattle.iosa.specs.Step.{stateFault}
-use Rattle.iosa.specs.TimedExactly.{Waits, InTicks, Fires, TimedAnswer, is-quiet, is-fired}
+use Rattle.iosa.specs.TimedExactly.{Waits, InTicks, Fires, TimedAnswer, is-quiet, is-fired, valueOf, Timing}
 use Rattle.iosa.proofs.Acceptance.Accepted.{accepted-exactly}
 use Rattle.iosa.proofs.Timing.Enabling.{declared-below}
 use Rattle.iosa.proofs.Timing.Values.{falls-in-ticks, falls-not-below}

@@ -15,8 +15,9 @@ use Rattle.iosa.specs.Checks.{enablingOf}
 use Rattle.iosa.specs.Timed.{enablingAll}
 use Rattle.iosa.proofs.Acceptance.Enabled.{enabling-row, row-enabling, enabling-own}
 use Rattle.iosa.proofs.Settling.Each.{All, Any}
-use Rattle.iosa.proofs.Settling.Parts.{Go, goes, rests, GoAll, end, and, row-parts, within-length}
-use Rattle.iosa.proofs.Settling.Closed.{Closed}
+use Rattle.iosa.proofs.Settling.Parts.{row-parts, within-length}
+use Rattle.iosa.specs.Parts.{Go, goes, sits-out, GoAll, end, and}
+use Rattle.iosa.specs.Thesis.{OwnNames}
 
 -- clock x guards a row of some component, in that component's state
 abbrev pub EnablesIn : Model → List ℕ → ℕ → Type 0
@@ -68,10 +69,10 @@ go-enables x {a} (and {c = c} {C = C} {D = D} g rest) h = ⊎-map (λ k. one g k
   where
     one : {s t C R : ℕ} → Go (autoOf c) a s C R t → x ∈ C → Enabling (autoOf c) s x
     one {t} {C} {R} (goes h r) k = record { guard = C; action = a; resets = R; target = t; guards = k; row = r }
-    one (rests h p) k = absurd (none-in x k)
+    one (sits-out h p) k = absurd (none-in x k)
 
-module _ (c : Comp) (cs : List Comp) (cl : Closed (product c cs)) (s : List ℕ) (w : Within (c ∷ cs) s) where
+module _ (c : Comp) (cs : List Comp) (cl : OwnNames (product c cs)) (s : List ℕ) (w : Within (c ∷ cs) s) where
   pub product-enables : (x : ℕ) → Enabling (product c cs) (stateOf c cs s) x → EnablesIn (c ∷ cs) s x
   product-enables x e =
-      let p = row-parts c cs (e .action) s (e .target) (within-length (c ∷ cs) s w) (cl .action (e .row)) (e .row) in
+      let p = row-parts c cs (e .action) s (e .target) (within-length (c ∷ cs) s w) (cl .rows (e .row) .action) (e .row) in
       go-enables x (p .1) (e .guards)

@@ -24,8 +24,8 @@ use Rattle.iosa.specs.Automaton.{Stable, Conforming, Joinable}
 use Rattle.iosa.specs.Product.{product, stateOf, Within}
 use Rattle.iosa.specs.Checks.{acceptOf}
 use Rattle.iosa.specs.Step.{isStable, inRange, stateFault}
-use Rattle.iosa.specs.Timed.{valueOf, enablingAll, unstableFault, valuesFault, belowZero, check29, isLeast, shares, check30, agedFrom, Timing, quietly, fire, timedFrom, timedOf}
-use Rattle.iosa.specs.TimedExactly.{Waits, InTicks, LeastOf, BelowZero, Shares, Fires, Falls, Ready, TimedAnswer, is21, is27, is28, is29, is30, is-quiet, is-fired}
+use Rattle.iosa.specs.Timed.{enablingAll, unstableFault, valuesFault, belowZero, check29, isLeast, shares, check30, agedFrom, fire, timedFrom, timedOf, quietly}
+use Rattle.iosa.specs.TimedExactly.{Waits, InTicks, LeastOf, BelowZero, Shares, Fires, Falls, Ready, TimedAnswer, is21, is27, is28, is29, is30, is-quiet, is-fired, valueOf, Timing}
 use Rattle.iosa.proofs.Acceptance.Accepted.{accepted-exactly}
 use Rattle.iosa.proofs.Settling.Parts.{within-length}
 use Rattle.iosa.proofs.Settling.ProductOfMany.{system-is-an-automaton}
@@ -178,7 +178,7 @@ module _ (c : Comp) (cs : List Comp) (well : WellFormed (c ∷ cs)) (conf : Conf
       above : (y : ℕ) → y ≢ x → Waits c cs s y → ltZ (valueOf vs x) (valueOf vs y) ≡ true
       above y d h = rw (f .value) (f .least y d h)
 
-      not-negative : (y : ℕ) → BelowZero (Waits c cs s) vs y → ⊥
+      pub not-negative : (y : ℕ) → BelowZero (Waits c cs s) vs y → ⊥
       not-negative y b = elim (ℕ-discrete y x) [
         | yes w ↦ true≢false (sym (b .negative) ∙ ap (λ n. ltZ (valueOf vs n) (pos 0)) w ∙ ap (λ z. ltZ z (pos 0)) (f .value) ∙ le-ltb v 0 (omega arith))
         | no w ↦ true≢false (sym (less-transitive (pos v) (valueOf vs y) (pos 0) (f .least y w (b .waits)) (b .negative)) ∙ le-ltb v 0 (omega arith))
@@ -196,7 +196,7 @@ module _ (c : Comp) (cs : List Comp) (well : WellFormed (c ∷ cs)) (conf : Conf
         ]);
       }
 
-      not-shared : (y : ℕ) → Shares (Waits c cs s) vs y → ⊥
+      pub not-shared : (y : ℕ) → Shares (Waits c cs s) vs y → ⊥
       not-shared y z = z .differs (only-least (z .other) (z .there) ∙ sym (only-least y (z .here)))
 
       fire-found : timedFrom (c ∷ cs) s vs (enablingAll (c ∷ cs) s) ≡ answered (fire (c ∷ cs) s vs x)

@@ -19,12 +19,13 @@ use Rattle.iosa.specs.Model.{Row, Comp, Model, rowAt, guardSet, inputs, 
 use Rattle.iosa.specs.WellFormed.{WellComp}
 use Rattle.iosa.specs.Automaton.{Leads, autoOf, Enabling, Conditions}
 use Rattle.iosa.specs.Product.{product, Within}
-use Rattle.iosa.specs.Step.{Gone, goneBy, together}
+use Rattle.iosa.specs.Step.{goneBy, together}
+use Rattle.iosa.specs.Stepped.{Gone}
 use Rattle.iosa.specs.Timed.{clockRow, clockRowOf, fireOne, fireAll}
 use Rattle.iosa.proofs.Acceptance.Guards.{only-some, guard-in}
 use Rattle.iosa.proofs.Settling.Each.{All, Any, all-map}
-use Rattle.iosa.proofs.Settling.Parts.{Go, goes, rests, GoAll, end, and}
-use Rattle.iosa.proofs.Settling.Closed.{component-closed}
+use Rattle.iosa.specs.Parts.{Go, goes, sits-out, GoAll, end, and}
+use Rattle.iosa.proofs.Settling.OwnNames.{component-own}
 use Rattle.iosa.proofs.Settling.ProductOfMany.{Fits, Pairwise}
 use Rattle.iosa.proofs.Settling.Moves.{goes-move}
 use Rattle.iosa.proofs.Timing.Enabling.{EnablesIn, enabling-clock}
@@ -71,7 +72,7 @@ no-clock-no-row c w s x n = go (clockRow c s x) refl
   where
     go : (o : Option Row) → clockRow c s x ≡ o → o ≡ none
     go none e = refl
-    go (some r) e = absurd (n (component-closed c w .own (clock-row-leads c s x r e) .guard x (in-one x)))
+    go (some r) e = absurd (n (component-own c w .rows (clock-row-leads c s x r e) .guard x (in-one x)))
 
 -- (a): a row with a clock is one of an output
 pub clocked-is-output : (c : Comp) → WellComp c → Conditions (autoOf c) → (x : ℕ) {s a R t : ℕ} → Leads c s (only x) a R t → a ∈ outputs c
@@ -79,7 +80,7 @@ clocked-is-output c w o x {s} {a} l =
     ⊎-elim
     (λ i. absurd (only-some x (o .condA .unguarded l (or-in-l (inputs c) (urgents c) a i))))
     (λ p. p)
-    (in-or (inputs c) (outputs c) a (component-closed c w .action l))
+    (in-or (inputs c) (outputs c) a (component-own c w .rows l .action))
 
 -- ---- a component that has neither the clock nor the output: it hears the action or rests
 record Follows (c : Comp) (s x a : ℕ) : Type 0 where
@@ -98,7 +99,7 @@ module _ (c : Comp) (o : Conditions (autoOf c)) (s x a : ℕ) (ok : s < c .state
       go true h =
           let r = o .condD .row s ok a (heard n h) in
           (r .0, r .1, goes h (r .2))
-      go false h = (0, s, rests h ok)
+      go false h = (0, s, sits-out h ok)
 
   follows : (a ∈ outputs c → ⊥) → (x ∈ c .clocks → ⊥) → Follows c s x a
   unfolding fireOne
@@ -169,7 +170,7 @@ enabling-shoots (c ∷ cs) w o j (s ∷ ss) ok x (inl h) =
         all = record {
           gone = record { resets = r .0 .resets ∪ g .gone .resets; after = r .0 .target ∷ g .gone .after };
           fires = ap₂ together e (g .fires);
-          steps = rw (← or-zero-r (only x)) (and (goes (component-closed c (w .0) .action l) l) (g .steps));
+          steps = rw (← or-zero-r (only x)) (and (goes (component-own c (w .0) .rows l .action) l) (g .steps));
         };
       },
     )

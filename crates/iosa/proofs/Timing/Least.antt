@@ -17,8 +17,9 @@ use Rattle.laws.proofs.TestLaws.{and-true, and-false, not-so}
 use Rattle.laws.proofs.TickLaws.{less-irreflexive, less-transitive, less-total}
 use Rattle.laws.proofs.MinimalLaws.{has-minimal}
 use Rattle.answer.specs.Limits.{maxClocks}
-use Rattle.iosa.specs.Timed.{valueOf, belowZero, isLeast, shares}
-use Rattle.iosa.specs.TimedExactly.{LeastOf, BelowZero, Shares, Lowest}
+use Rattle.laws.specs.Lowest.{Lowest}
+use Rattle.iosa.specs.Timed.{belowZero, isLeast, shares}
+use Rattle.iosa.specs.TimedExactly.{LeastOf, BelowZero, Shares, valueOf}
 
 -- ---- the search for the lowest number below n with a test
 -- f decides P, which holds only below n

@@ -10,11 +10,11 @@ use Rattle.iosa.specs.Model.{Row, Comp, declared, inputs, outputs}
 use Rattle.iosa.specs.WellFormed.{WellComp, WellFormed}
 use Rattle.iosa.specs.Automaton.{autoOf, Conditions, Conforming, Joinable}
 use Rattle.iosa.specs.Product.{product, stateOf, Within}
-use Rattle.iosa.specs.Timed.{valueOf, enablingAll, agedFrom, firedBy, fire}
-use Rattle.iosa.specs.TimedExactly.{Waits}
+use Rattle.iosa.specs.Timed.{enablingAll, agedFrom, firedBy, fire}
+use Rattle.iosa.specs.TimedExactly.{Waits, valueOf}
 use Rattle.iosa.proofs.Settling.Each.{All, each-all, any-map}
 use Rattle.iosa.proofs.Settling.Parts.{parts-row, parts-action}
-use Rattle.iosa.proofs.Settling.ProductOfMany.{joinable-pairwise, wells, system-closed}
+use Rattle.iosa.proofs.Settling.ProductOfMany.{joinable-pairwise, wells, system-own}
 use Rattle.iosa.proofs.Settling.Moves.{go-within}
 use Rattle.iosa.proofs.Timing.Enabling.{EnablesIn, enabling-enables, enables-enabling, enables-clock, clock-declared, declared-below, product-enables}
 use Rattle.iosa.proofs.Timing.Least.{Clocks}
@@ -48,7 +48,7 @@ module _ (c : Comp) (cs : List Comp) (well : WellFormed (c ∷ cs)) (conf : Conf
         record { guard = only x; action = p .0 .action; resets = g .resets; target = stateOf c cs (g .after); guards = in-one x; row = p .1 .row }
 
     waits-in : (x : ℕ) → Waits c cs s x → EnablesIn (c ∷ cs) s x
-    waits-in x h = product-enables c cs (system-closed c cs well) s ok x h
+    waits-in x h = product-enables c cs (system-own c cs well) s ok x h
 
     waits-from : (x : ℕ) → Waits c cs s x → x ∈ enablingAll (c ∷ cs) s
     waits-from x h = enables-enabling (c ∷ cs) s x (waits-in x h)

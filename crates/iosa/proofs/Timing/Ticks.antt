@@ -16,8 +16,8 @@ use Rattle.laws.proofs.TestLaws.{and-true, and-false, not-so, or-false}
 use Rattle.answer.specs.Limits.{maxClocks, maxTicks}
 use Rattle.iosa.specs.Model.{Model, declared}
 use Rattle.iosa.specs.WellFormed.{WellComp}
-use Rattle.iosa.specs.Timed.{floor, valueOf, outOfTicks}
-use Rattle.iosa.specs.TimedExactly.{InTicks}
+use Rattle.iosa.specs.Timed.{outOfTicks}
+use Rattle.iosa.specs.TimedExactly.{InTicks, floor, valueOf}
 use Rattle.iosa.proofs.Settling.Each.{All}
 use Rattle.iosa.proofs.Timing.Enabling.{declared-below}
 

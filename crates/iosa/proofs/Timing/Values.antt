@@ -14,8 +14,8 @@ use Rattle.laws.specs.Sets.{has, _∈_}
 use Rattle.laws.proofs.TickLaws.{less-irreflexive, at-most, at-most-transitive, less-count-at-most, less-count-not-below}
 use Rattle.answer.specs.Limits.{maxClocks, maxTicks}
 use Rattle.iosa.specs.Model.{Model, declared}
-use Rattle.iosa.specs.Timed.{floor, valueOf, fallen, agedFrom}
-use Rattle.iosa.specs.TimedExactly.{greater, InTicks, Falls}
+use Rattle.iosa.specs.Timed.{fallen, agedFrom}
+use Rattle.iosa.specs.TimedExactly.{greater, InTicks, Falls, floor, valueOf}
 
 -- ---- the list of values, place by place
 aged-length : (d : ℕ) (v : ℤ) (k : ℕ) (zs : List ℤ) → length (agedFrom d v k zs) ≡ length zs

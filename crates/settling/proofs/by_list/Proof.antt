@@ -11,7 +11,8 @@ use denote.Ref.{now}
 use Rattle.answer.specs.Told.{Answer, answered, refused, told, saysVerdict}
 use Rattle.answer.specs.declared.Verdict.the-variants as Verdict
 use Rattle.answer.specs.State.{partsOf}
-use Rattle.iosa.specs.Settle.{Settling, play}
+use Rattle.iosa.specs.Settle.{play}
+use Rattle.iosa.specs.Orders.{Settling}
 use Rattle.layout.specs.Image.{modelOf}
 use Rattle.settling.specs.Gives.{SettleAnswers}
 use Rattle.settling.proofs.Reached.{reached-ready}

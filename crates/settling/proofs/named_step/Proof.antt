@@ -6,7 +6,8 @@ use denote.Ref.{now}
 use Rattle.answer.specs.Told.{Answer, answered, refused, moved, told, saysOutcome}
 use Rattle.answer.specs.declared.Outcome.the-variants as Outcome
 use Rattle.answer.specs.State.{partsOf, withParts}
-use Rattle.iosa.specs.Step.{Stepping, takenBy, named}
+use Rattle.iosa.specs.Step.{takenBy, named}
+use Rattle.iosa.specs.Stepped.{Stepping}
 use Rattle.layout.specs.Image.{modelOf}
 use Rattle.moves.proofs.StepsByOffers.{offered-step, no-offer-no-step}
 use Rattle.settling.specs.Gives.{StepAnswers}

@@ -10,7 +10,8 @@ use Rattle.answer.specs.Limits.{maxActions, maxComponents}
 use Rattle.answer.specs.Told.{answered, Step, moved, saysOutcome}
 use Rattle.answer.specs.State.{partsOf, withParts}
 use Rattle.answer.proofs.StateLaws.{with-own-parts}
-use Rattle.iosa.specs.Step.{taken, Stepping}
+use Rattle.iosa.specs.Step.{taken}
+use Rattle.iosa.specs.Stepped.{Stepping}
 use Rattle.layout.specs.Image.{modelOf}
 use Rattle.moves.proofs.Ready.{count-few}
 use Rattle.settling.specs.Gives.{byRuleOf}

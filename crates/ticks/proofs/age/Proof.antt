@@ -10,7 +10,7 @@ use mir.Val.{toZ, ofZ}
 use mir.ValLaws.{toZ-ofZ}
 use mir.Syntax.{w64}
 use Rattle.answer.specs.Limits.{maxClocks}
-use Rattle.iosa.specs.Timed.{valueOf}
+use Rattle.iosa.specs.TimedExactly.{valueOf}
 use Rattle.ticks.specs.Ticks.{agedOne}
 use Rattle.ticks.proofs.Falling.{tick-back, tick-through}
 use Rattle.ticks.proofs.InPlace.{upTo, up-none, up-at, up-set, up-all}

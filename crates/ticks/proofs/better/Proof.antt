@@ -8,7 +8,7 @@ use mir.ValLaws.{toZ-ofZ}
 use mir.Syntax.{w64}
 use lib.IntN.{ℤ}
 use lib.Signed.{ltZ}
-use Rattle.iosa.specs.Timed.{valueOf}
+use Rattle.iosa.specs.TimedExactly.{valueOf}
 use Rattle.ticks.proofs.Singles.{better-other, better-first, better-less, better-not}
 use Rattle.ticks.proofs.better.Statement.{statement}
 use Rattle.ticks.proofs.better.Tie as tie

@@ -2,7 +2,7 @@
 use mathlib.Core.Path.{_≡_, sym, ap, _∙_}
 use lib.IntN.{ℤ}
 use lib.Signed.{ltZ}
-use Rattle.iosa.specs.Timed.{floor}
+use Rattle.iosa.specs.TimedExactly.{floor}
 use Rattle.ticks.proofs.Falling.{tick-back, difference-fits, difference-back, fallen-low, fallen-high}
 use Rattle.ticks.proofs.fall.Statement.{statement}
 use Rattle.ticks.proofs.fall.Tie as tie

@@ -7,7 +7,7 @@ use denote.Ref.{now}
 use Rattle.answer.specs.Limits.{maxClocks}
 use Rattle.laws.specs.Search.{seek, when, isSome, least}
 use Rattle.laws.proofs.SearchLaws.{seek-end}
-use Rattle.iosa.specs.Timed.{valueOf}
+use Rattle.iosa.specs.TimedExactly.{valueOf}
 use Rattle.ticks.specs.Ticks.{rivals, byValue}
 use mir.Val.{SFits, toZ, ofZ}
 use mir.ValLaws.{toZ-ofZ}

@@ -6,7 +6,7 @@ use lib.IntN.{ℤ, pos}
 use lib.Signed.{ltZ, leZ}
 use borrow.Author.Needs.{needs}
 use Rattle.answer.specs.Limits.{maxTicks}
-use Rattle.iosa.specs.Timed.{floor}
+use Rattle.iosa.specs.TimedExactly.{floor}
 use Rattle.ticks.proofs.Singles.{outside-other, outside-low, outside-high}
 use Rattle.ticks.proofs.is_outside.Statement.{statement}
 use Rattle.ticks.proofs.is_outside.Tie as tie
