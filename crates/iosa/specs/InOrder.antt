@@ -41,6 +41,6 @@ room needed bytes = record { Refuses = λ t. (bytes < needed) × (t ≡ tell 24 
 abbrev pub accepted : Model → Check
 accepted m = record { Refuses = First (Fault m); Passes = Conforming m × Joinable m }
 
--- "then 18": the first clash, or every component is confluent
+-- "then 18": the first clash, or every component is confluent where it can get
 abbrev pub confluent : Model → Check
 confluent m = record { Refuses = First (Clash m); Passes = AllConfluent m }

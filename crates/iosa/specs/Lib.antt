@@ -10,8 +10,6 @@ pub mod Line
 pub mod Faulty
 pub mod Checks
 pub mod Faults
-pub mod Reached
-pub mod ReachOf
 pub mod Greatest
 pub mod Step
 pub mod Settle

@@ -8,10 +8,9 @@ use lib.IntN.{ℤ}
 use Rattle.laws.specs.Sets.{only, _∈_}
 use Rattle.iosa.specs.Model.{Comp, Model, acts, urgents}
 use Rattle.iosa.specs.WellFormed.{WellComp, WellFormed}
-use Rattle.iosa.specs.Automaton.{Automaton, alphabet, autoOf, Stable, Conditions, Compatible, Conforming, Joinable}
-use Rattle.iosa.specs.Product.{_⊗_, productFrom, product, embed, stateOf, EachPart, Within, MadeOf, Series, over, next}
+use Rattle.iosa.specs.Automaton.{Automaton, alphabet, autoOf, Stable, Reachable, at-start, by-row, ReachedIn, Conditions, Compatible, Conforming, Joinable}
+use Rattle.iosa.specs.Product.{_⊗_, productFrom, product, embed, stateOf, EachPart, Within, Reached, MadeOf, Series, over, next}
 use Rattle.iosa.specs.TimedExactly.{Ready, Fires}
-use Rattle.iosa.specs.Reached.{Reachable, at-start, by-row, ReachedIn, Reached}
 use Rattle.iosa.proofs.Settling.Each.{All, each-all}
 use Rattle.iosa.proofs.Settling.Parts.{Go, goes, rests, GoAll, end, and, row-parts, label-parts, within-length, joint-parts}
 use Rattle.iosa.proofs.Settling.Closed.{Closed, component-closed, product-closed}

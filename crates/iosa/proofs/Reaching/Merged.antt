@@ -4,11 +4,10 @@ use mathlib.Core.Logic.{_↔_, ⊎-map}
 use Prim.Native.Nat.{ℕ, _<_}
 use Rattle.iosa.specs.Model.{Comp}
 use Rattle.iosa.specs.WellFormed.{WellComp}
-use Rattle.iosa.specs.Automaton.{autoOf, Stable, Conditions, Compatible}
+use Rattle.iosa.specs.Automaton.{autoOf, Stable, Reachable, at-start, by-row, ReachedIn, Conditions, Compatible}
 use Rattle.iosa.specs.Product.{_⊗_}
 use Rattle.iosa.specs.Merge.{pairOf, merged}
-use Rattle.iosa.specs.MergedExactly.{MergedExactly}
-use Rattle.iosa.specs.Reached.{Reachable, at-start, by-row, ReachedIn, ReachedPair}
+use Rattle.iosa.specs.MergedExactly.{MergedExactly, ReachedPair}
 use Rattle.laws.proofs.PairLaws.{pair-parts}
 use Rattle.iosa.proofs.Settling.Closed.{component-closed, product-closed}
 use Rattle.iosa.proofs.Settling.ProductConditions.{conditions-constraints}

@@ -13,10 +13,11 @@ use Rattle.laws.proofs.TestLaws.{apart-cases}
 use Rattle.answer.specs.Told.{Told, tell}
 use Rattle.iosa.specs.Model.{Comp, Model, compAt}
 use Rattle.iosa.specs.WellFormed.{WellComp}
-use Rattle.iosa.specs.Automaton.{autoOf}
-use Rattle.iosa.specs.Product.{EachPart, Within}
-use Rattle.iosa.specs.Reached.{Reachable, Reached, FirstUnreached}
-use Rattle.iosa.specs.ReachOf.{reachOf, unreachedFrom, reachFault}
+use Rattle.iosa.specs.Automaton.{autoOf, Reachable}
+use Rattle.iosa.specs.Product.{EachPart, Within, Reached}
+use Rattle.iosa.specs.Checks.{reachOf}
+use Rattle.iosa.specs.Faults.{FirstUnreached}
+use Rattle.iosa.specs.Settle.{unreachedFrom, reachFault}
 use Rattle.iosa.proofs.Settling.Each.{All}
 use Rattle.iosa.proofs.Reaching.ReachExactly.{reach-exactly}
 
