@@ -38,10 +38,11 @@ module _ (t : List ℕ) (x : State) (r : Settled) (b : Bool) (says : saysVerdict
     settled (of-model h (passes k (refuses q))) l = refusal (l .answer)
     settled (of-model h (passes k (passes al (refuses q)))) l = refusal (l .answer)
     settled (of-model h (passes k (passes al (passes w (refuses q))))) l = refusal (l .answer)
-    settled (of-model h (passes k (passes al (passes w (passes n (refuses q)))))) l = refusal (l .answer)
-    settled (of-model {c = c} {cs = cs} h (passes k (passes al (passes w (passes n (passes m (gives {x = d} g))))))) l =
+    settled (of-model h (passes k (passes al (passes w (passes p (refuses q)))))) l = refusal (l .answer)
+    settled (of-model h (passes k (passes al (passes w (passes p (passes n (refuses q))))))) l = refusal (l .answer)
+    settled (of-model {c = c} {cs = cs} h (passes k (passes al (passes w (passes p (passes n (passes m (gives {x = d} g)))))))) l =
         record {
-          from = record { first = c; others = cs; holds = h; conforming = k .0; joinable = k .1; confluent = al; within = w; orders = g .orders };
+          from = record { first = c; others = cs; holds = h; conforming = k .0; joinable = k .1; confluent = al; reached = p; orders = g .orders };
           said = d;
           called = g;
           stable = verdict (l .answer);
@@ -61,10 +62,11 @@ module _ (t : List ℕ) (x : State) (r : Settled) (b : Bool) (says : saysVerdict
     listed (of-model h (passes k (refuses q))) g = refusal g
     listed (of-model h (passes k (passes al (refuses q)))) g = refusal g
     listed (of-model h (passes k (passes al (passes w (refuses q))))) g = refusal g
-    listed (of-model h (passes k (passes al (passes w (passes n (is23 q)))))) g = refusal g
-    listed (of-model {c = c} {cs = cs} h (passes k (passes al (passes w (passes n (is-series {d = d} s)))))) g =
+    listed (of-model h (passes k (passes al (passes w (passes p (refuses q)))))) g = refusal g
+    listed (of-model h (passes k (passes al (passes w (passes p (passes n (is23 q))))))) g = refusal g
+    listed (of-model {c = c} {cs = cs} h (passes k (passes al (passes w (passes p (passes n (is-series {d = d} s))))))) g =
         record {
-          from = record { first = c; others = cs; holds = h; conforming = k .0; joinable = k .1; confluent = al; within = w; orders = s .orders };
+          from = record { first = c; others = cs; holds = h; conforming = k .0; joinable = k .1; confluent = al; reached = p; orders = s .orders };
           said = d;
           called = s;
           stable = verdict g;

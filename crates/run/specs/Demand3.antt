@@ -8,14 +8,14 @@ use Rattle.answer.specs.declared.State.{State}
 use Rattle.answer.specs.declared.Settled.{Settled}
 use Rattle.iosa.specs.Model.{Comp}
 use Rattle.iosa.specs.Automaton.{Conforming, Joinable, AllConfluent}
-use Rattle.iosa.specs.Product.{product, stateOf, Within}
+use Rattle.iosa.specs.Product.{product, stateOf, Reached}
 use Rattle.iosa.specs.Settle.{Settling}
 use Rattle.iosa.specs.Orders.{OneEnd, Called, CalledByList}
 use Rattle.layout.specs.OnImage.{Holds}
 use Rattle.settling.specs.Gives.{traced}
 
--- what every answer of settling stands on: the table holds an accepted model of confluent components, the state is one of it, and from there the order
--- in which urgent steps are taken does not matter
+-- what every answer of settling stands on: the table holds an accepted model of components that are confluent where they can get, each part of the
+-- state is one where its component can get, and from there the order in which urgent steps are taken does not matter
 pub record SettledFrom (t : List ℕ) (x : State) : Type 0 where
   pub first : Comp
   pub others : List Comp
@@ -23,7 +23,7 @@ pub record SettledFrom (t : List ℕ) (x : State) : Type 0 where
   pub conforming : Conforming (first ∷ others)
   pub joinable : Joinable (first ∷ others)
   pub confluent : AllConfluent (first ∷ others)
-  pub within : Within (first ∷ others) (partsOf x)
+  pub reached : Reached (first ∷ others) (partsOf x)
   pub orders : OneEnd (product first others) (stateOf first others (partsOf x))
 
 -- the answer is stable exactly as b says; `Called` tells of the model in the table, of its product's series from x, and of this budget
