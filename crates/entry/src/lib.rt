@@ -8,6 +8,7 @@ ghost use mathlib.Core.Path.{_≡_};
 ghost use mathlib.Core.Option.{some};
 ghost use Rattle.answer.specs.State.{partsOf};
 ghost use Rattle.answer.specs.Told.{saysChecked};
+ghost use Rattle.answer.specs.declared.Checked.the-variants as Checked;
 ghost use Rattle.iosa.specs.Settle.{beginFault};
 ghost use Rattle.layout.specs.Image.{Image, modelOf};
 ghost use Rattle.table.specs.OnTable.{checkOn};
