@@ -1,15 +1,7 @@
 -- `entry::check_state` meets its contract: 21, and else 19, and else fine.
 use mathlib.Core.Path.{sym, _∙_}
 use borrow.Author.Tests.{not-true, not-false}
-use native.Mathlib.Omega.{arith}
-use denote.Ref.{now}
-use Prim.Native.Nat.{_≤_}
-use lib.ListN.{length}
-use Rattle.answer.specs.Limits.{maxComponents}
-use Rattle.answer.specs.State.{partsOf}
-use Rattle.iosa.specs.Product.{Within}
 use Rattle.iosa.proofs.Settling.Range.{range-exactly}
-use Rattle.layout.specs.Image.{modelOf}
 use Rattle.layout.proofs.RowsOfRange.{well-formed}
 use Rattle.reach.proofs.Along.{limit-faultless, below-fault}
 use Rattle.entry.proofs.Begins.{says-21, says-19, says-begins}

@@ -1,5 +1,4 @@
 -- `entry::may_settle` meets its contract: what `confluent` refuses, or else 21, or else 19.
-use denote.Ref.{now}
 use Rattle.answer.specs.State.{partsOf}
 use Rattle.iosa.specs.Checks.{confluentOf}
 use Rattle.iosa.specs.Settle.{beginFault}
