@@ -76,7 +76,8 @@ kept-answers m w ns n = go (inRange m ns) refl
         out-of-range m (partsOf (held ns)) n (held-in-range m (few-states m w) (w .components) ns ∙ e) ∙ sym (out-of-range m ns n e)
 
 -- ---- what the check says before settling begins
-refusal-told : (f : Refusal) (o : Option Told) → _≡_ {A = Option (Answer (Unit {0}))} (asRefused (told f)) (some (unless o tt)) → (t : Told) × (o ≡ some t) × (told f ≡ some t)
+refusal-told : (f : Refusal) (o : Option Told)
+    → _≡_ {A = Option (Answer (Unit {0}))} (asRefused (told f)) (some (unless o tt)) → (t : Told) × (o ≡ some t) × (told f ≡ some t)
 refusal-told f o e = go (told f) o refl e
   where
     go : (p o : Option Told) → told f ≡ p → _≡_ {A = Option (Answer (Unit {0}))} (asRefused p) (some (unless o tt)) → (t : Told) × (o ≡ some t) × (told f ≡ some t)
@@ -93,7 +94,8 @@ or-more : (o p q : Option Told) (t : Told) → orElse o p ≡ some t → orElse 
 or-more none p q t e = rw e
 or-more (some u) p q t e = e
 
-refused-first : (m : Model) (s : List ℕ) (n : ℕ) (t : Told) → orElse (confluentOf m) (beginFault m s) ≡ some t → refusedLine t ≡ answerLines m s (settleOf m s n n)
+refused-first : (m : Model) (s : List ℕ) (n : ℕ) (t : Told) → orElse (confluentOf m) (beginFault m s) ≡ some t
+    → refusedLine t ≡ answerLines m s (settleOf m s n n)
 unfolding answerLines settleOf
 refused-first m s n t e = rw (or-more (confluentOf m) (beginFault m s) (orElse (budgetFault n) (traceFault n n)) t e, settleOf)
 

@@ -23,7 +23,8 @@ use Rattle.table.proofs.CheckedLaws.{call-refuses}
 use Rattle.entry.specs.Entry.{entryFault}
 use Rattle.run.specs.Refusals.{wholeAt, bytesAt, refusedSettling}
 use Rattle.run.specs.Calls.{SettleCall, SettleListCall, traceAfter}
-use Rattle.run.proofs.Answers.{or-first, settle-answers, refuses-settling, startFault, start-over, start-right, settle-refused, settle-short, settle-goes, list-refused, list-goes}
+use Rattle.run.proofs.Answers.{or-first, settle-answers, refuses-settling, startFault, start-over, start-right}
+use Rattle.run.proofs.Answers.{settle-refused, settle-short, settle-goes, list-refused, list-goes}
 use Rattle.run.proofs.Ready.{Passed, passed, refused-by}
 
 -- ---- both calls refuse whatever stands in the way of the first step
@@ -98,7 +99,8 @@ module _ (t : List ℕ) (x : State) where
     pub list-refuses : (q : Refusal) (r : Settled) → Refuses play-call q → r ≡ refusedSettling q → SettleListCall t x l r
     list-refuses q r f k = record { answer = refused-with play-call q r f k }
 
-    pub list-is-played : Passed t (entryFault x) → (r : Settled) → length l ≤ maxBudget → SettleAnswers (play (modelOf t) 0 l (partsOf x)) x r → SettleListCall t x l r
+    pub list-is-played : Passed t (entryFault x) → (r : Settled) → length l ≤ maxBudget
+        → SettleAnswers (play (modelOf t) 0 l (partsOf x)) x r → SettleListCall t x l r
     list-is-played ok r b g =
         let e = on-image t play-call (ok .image) ∙ list-goes (modelOf t) (partsOf x) l (start-right (modelOf t) (partsOf x) (ok .none) (length l) b) in
         record { answer = settle-answers (onTable t play-call) (play (modelOf t) 0 l (partsOf x)) x r e g }

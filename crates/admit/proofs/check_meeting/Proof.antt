@@ -34,7 +34,10 @@ loop-holds : tie.Need-loop-holds Inv-loop μ-loop
 loop-holds c = (search needs, refl)
 
 check-confluence-requires : tie.Need-check-confluence-requires Inv-loop μ-loop
-check-confluence-requires c κs = let s0 = c .before .before .before .before in let h : c .before .loop .i < countOf (now (s0 .args .t)) = omega (arith, c .before .before .count-of .ensures) in (s0 .pre .0, h, single-rows _ (s0 .pre .0) _ h (s0 .pre .1))
+check-confluence-requires c κs =
+    let s0 = c .before .before .before .before in
+    let h : c .before .loop .i < countOf (now (s0 .args .t)) = omega (arith, c .before .before .count-of .ensures) in
+    (s0 .pre .0, h, single-rows _ (s0 .pre .0) _ h (s0 .pre .1))
 
 enum-told : tie.Need-enum-told Inv-loop μ-loop
 enum-told c = search needs

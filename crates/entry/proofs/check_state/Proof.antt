@@ -30,7 +30,8 @@ returns-2 : tie.Need-returns-2
 returns-2 c =
     let s0 = c .before .before .before .before .before .before in
     let w = range-exactly _ _ .0 (sym (c .before .before .before .before .in-range .ensures) ∙ not-false _ (c .before .before .before .if1 .left)) in
-    says-19 _ _ _ _ (c .refused2 .ensures) w (below-fault _ (well-formed _ (s0 .pre) .components) _ _ (c .before .before .unreached .ensures) (c .before .if2 .taken))
+    let f = below-fault _ (well-formed _ (s0 .pre) .components) _ _ (c .before .before .unreached .ensures) (c .before .if2 .taken) in
+    says-19 _ _ _ _ (c .refused2 .ensures) w f
 
 returns-3 : tie.Need-returns-3
 returns-3 c =

@@ -28,8 +28,8 @@ check-state-requires c κs = confluent-fine _ (rw (c .enum-told .given .1) at (c
 returns-2 : tie.Need-returns-2
 returns-2 c =
     let s0 = c .before .before .before .before .before in
-    first-passes _ confluentOf (λ m. beginFault m (partsOf (s0 .args .x))) _ (rw (c .before .enum-told .given .1) at (c .before .before .before .confluent .ensures))
-    (c .check-state .ensures)
+    let fine = rw (c .before .enum-told .given .1) at (c .before .before .before .confluent .ensures) in
+    first-passes _ confluentOf (λ m. beginFault m (partsOf (s0 .args .x))) _ fine (c .check-state .ensures)
 
 pub may-settle-spec : {M : Type 1} → statement M
 may-settle-spec =

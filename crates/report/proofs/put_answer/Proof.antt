@@ -37,7 +37,8 @@ returns c =
     let t = now (s0 .args .t) in
     let r = c .before .before .before .before .before .before .before .may-settle in
     let why = c .before .before .before .before .before .checked in
-    put-as (checked-refused t (s0 .args .x) (r .result) (s0 .pre .0) (r .ensures) (why .given .0 .0) (why .given .1) (s0 .args .budget)) (c .before .before .put-refused .ensures)
+    let e = checked-refused t (s0 .args .x) (r .result) (s0 .pre .0) (r .ensures) (why .given .0 .0) (why .given .1) (s0 .args .budget) in
+    put-as e (c .before .before .put-refused .ensures)
 
 same-length-2 : tie.Need-same-length-2
 same-length-2 c = search needs

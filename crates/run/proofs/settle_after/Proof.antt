@@ -41,7 +41,8 @@ returns-2 : tie.Need-returns-2
 returns-2 c =
     let s0 = c .before .before .before .before .before .before .before .before in
     let ok = passed _ (entryFault (s0 .args .state)) _ (s0 .pre) (c .before .before .before .before .enum-told .given .1) in
-    settle-is-short _ _ _ _ ok _ (c .before .before .before .if1 .left) (c .before .before .if2 .taken) (c .refused-settling3 .ensures ∙ ap refusedSettling (c .before .short-trace .ensures))
+    settle-is-short _ _ _ _ ok _ (c .before .before .before .if1 .left) (c .before .before .if2 .taken)
+    (c .refused-settling3 .ensures ∙ ap refusedSettling (c .before .short-trace .ensures))
 
 by-rule-requires : tie.Need-by-rule-requires
 by-rule-requires c κs =

@@ -21,7 +21,8 @@ returns c =
     let s0 = c .before .before .before .before .before .before .before in
     let m = modelOf (now (s0 .args .t)) in
     let s = partsOf (s0 .args .x) in
-    put-as (sym (answer-22 m s (s0 .args .budget) (s0 .pre .1) (s0 .pre .2) (c .before .before .before .before .if1 .taken))) (c .before .before .put-whole .ensures)
+    put-as (sym (answer-22 m s (s0 .args .budget) (s0 .pre .1) (s0 .pre .2) (c .before .before .before .before .if1 .taken)))
+    (c .before .before .put-whole .ensures)
 
 put-run-requires : tie.Need-put-run-requires
 put-run-requires c κs =
@@ -36,7 +37,8 @@ returns-2 c =
     let s0 = c .before .before .before .before .before .before .before in
     let m = modelOf (now (s0 .args .t)) in
     let s = partsOf (s0 .args .x) in
-    put-as (sym (answer-run m s (s0 .args .budget) (s0 .pre .1) (s0 .pre .2) (c .before .before .before .before .if1 .left))) (c .before .before .put-run .ensures)
+    put-as (sym (answer-run m s (s0 .args .budget) (s0 .pre .1) (s0 .pre .2) (c .before .before .before .before .if1 .left)))
+    (c .before .before .put-run .ensures)
 
 pub put-settled-spec : {M : Type 1} → statement M
 put-settled-spec =
