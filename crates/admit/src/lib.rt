@@ -90,7 +90,7 @@ fn check_meeting(t: &[u64]) -> Checked
 {
     let n = layout::count_of(t) as usize;
     for i in 0..n {
-        let r = meets::check_meets(t, i);
+        let r = meets::check_confluence(t, i);
         let Checked::Fine = r else {
             return r;
         };
