@@ -73,12 +73,12 @@ fn repeat_at(t: &[u64], i: usize, s: usize) -> Checked
     let lo = layout::first_of(t, i, s);
     let hi = layout::first_of(t, i, s + 1);
     let mut seen = 0u64;
-    for k in lo..hi {
-        let g = active::guard_set(layout::guard_at(t, k));
+    for r in lo..hi {
+        let g = active::guard_set(layout::guard_at(t, r));
         if (seen & g) != 0 {
             return Checked::Refused(Refusal {
                 number: 11,
-                place: Place::Row(k),
+                place: Place::Row(r),
             });
         }
         seen = sets::union(seen, g);

@@ -12,14 +12,14 @@ Inv-loop t i act₀ act = Between t i act
 abbrev μ-loop : tie.MeasureT-loop
 μ-loop t i act₀ act = sum act
 
-first-sets-requires : tie.Need-first-sets-requires Inv-loop μ-loop
-first-sets-requires c κs = search needs
-
 loop-holds : tie.Need-loop-holds Inv-loop μ-loop
 loop-holds c =
     let s0 = c .before .before .before in
     let f = c .first-sets .ensures in
     record { image = s0 .pre .0; inside = s0 .pre .1; low = first-low _ (s0 .pre .0) _ (s0 .pre .1) _ f; high = first-high _ (s0 .pre .0) _ (s0 .pre .1) _ f }
+
+first-sets-requires : tie.Need-first-sets-requires Inv-loop μ-loop
+first-sets-requires c κs = search needs
 
 pass-once-requires : tie.Need-pass-once-requires Inv-loop μ-loop
 pass-once-requires c κs = search needs

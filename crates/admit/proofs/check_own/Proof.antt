@@ -24,6 +24,13 @@ count-of-requires c κs = image-long _ (c .before .pre)
 refused-requires : tie.Need-refused-requires
 refused-requires c κs = search needs
 
+returns-2 : tie.Need-returns-2
+returns-2 c =
+    let s0 = c .before .before .before .before in
+    let t = now (s0 .args .t) in
+    let h : s0 .args .i < countOf t = omega (arith, c .before .before .count-of .ensures) in
+    says-as _ _ _ (own-fault t (s0 .pre) (s0 .args .i) h) (c .check-component .ensures)
+
 returns : tie.Need-returns
 unfolding saysChecked told
 returns c =
@@ -34,13 +41,6 @@ returns c =
 
 check-component-requires : tie.Need-check-component-requires
 check-component-requires c κs = search needs
-
-returns-2 : tie.Need-returns-2
-returns-2 c =
-    let s0 = c .before .before .before .before in
-    let t = now (s0 .args .t) in
-    let h : s0 .args .i < countOf t = omega (arith, c .before .before .count-of .ensures) in
-    says-as _ _ _ (own-fault t (s0 .pre) (s0 .args .i) h) (c .check-component .ensures)
 
 pub check-own-spec : {M : Type 1} → statement M
 check-own-spec = tie.close (tie.spec count-of-requires refused-requires returns check-component-requires returns-2)

@@ -14,6 +14,12 @@ use borrow.Author.Needs.{needs}
 use Rattle.admit.proofs.check_table.Statement.{statement}
 use Rattle.admit.proofs.check_table.Tie as tie
 
+returns : tie.Need-returns
+returns c =
+    let w = c .before .before .recognise in
+    let args = c .before .before .before .before .args in
+    says-20 (now (args .table)) (w .result) (w .ensures) (faultIn (args .scope)) _ (c .before .if1 .taken) (c .refused .ensures)
+
 -- the table is recognised
 module _ (c : tie.Else1) where
   abbrev lent : List ℕ
@@ -35,12 +41,6 @@ recognise-requires c κs = search needs
 
 refused-requires : tie.Need-refused-requires
 refused-requires c κs = search needs
-
-returns : tie.Need-returns
-returns c =
-    let w = c .before .before .recognise in
-    let args = c .before .before .before .before .args in
-    says-20 (now (args .table)) (w .result) (w .ensures) (faultIn (args .scope)) _ (c .before .if1 .taken) (c .refused .ensures)
 
 enum-known-scope : tie.Need-enum-known-scope
 enum-known-scope c = search needs

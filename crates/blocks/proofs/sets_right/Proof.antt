@@ -31,6 +31,24 @@ returns c =
 union-requires : tie.Need-union-requires
 union-requires c κs = search needs
 
+returns-4 : tie.Need-returns-4
+unfolding setsRight
+returns-4 c =
+    let args = c .before .before .before .before .before .before .before .before .before .before .before .before .before .args in
+    let t = args .t .now in
+    let i = args .i in
+    let ins = c .before .before .before .before .before .before .before .before .before .before .before .block-word .ensures in
+    let outs = c .before .before .before .before .before .before .before .before .before .before .block-word2 .ensures in
+    let uins = c .before .before .before .before .before .before .before .before .before .block-word3 .ensures in
+    let two = c .before .before .before .before .before .before .before .union .ensures ∙ ap₂ bitOr ins outs in
+    let three = c .before .before .before .before .before .union2 .ensures ∙ ap₂ bitOr two uins in
+    let uouts = c .before .before .before .before .block-word4 .ensures in
+    c .lies-in .ensures
+    ∙ ap₂ within (c .before .before .block-word5 .ensures) (c .before .block-word6 .ensures)
+    ∙ sym (shares-none (blockWord t i 2) (blockWord t i 3) (ap₂ bitAnd ins outs) (c .before .before .before .before .before .before .before .before .if1 .left)
+    ∙ shares-none ((blockWord t i 2) ∪ (blockWord t i 3)) (blockWord t i 4) (ap₂ bitAnd two uins) (c .before .before .before .before .before .before .if2 .left)
+    ∙ shares-none ((blockWord t i 2) ∪ (blockWord t i 3) ∪ (blockWord t i 4)) (blockWord t i 5) (ap₂ bitAnd three uouts) (c .before .before .before .if3 .left))
+
 returns-2 : tie.Need-returns-2
 unfolding setsRight
 returns-2 c =
@@ -74,24 +92,6 @@ block-word-requires-6 c κs = search needs
 
 lies-in-requires : tie.Need-lies-in-requires
 lies-in-requires c κs = search needs
-
-returns-4 : tie.Need-returns-4
-unfolding setsRight
-returns-4 c =
-    let args = c .before .before .before .before .before .before .before .before .before .before .before .before .before .args in
-    let t = args .t .now in
-    let i = args .i in
-    let ins = c .before .before .before .before .before .before .before .before .before .before .before .block-word .ensures in
-    let outs = c .before .before .before .before .before .before .before .before .before .before .block-word2 .ensures in
-    let uins = c .before .before .before .before .before .before .before .before .before .block-word3 .ensures in
-    let two = c .before .before .before .before .before .before .before .union .ensures ∙ ap₂ bitOr ins outs in
-    let three = c .before .before .before .before .before .union2 .ensures ∙ ap₂ bitOr two uins in
-    let uouts = c .before .before .before .before .block-word4 .ensures in
-    c .lies-in .ensures
-    ∙ ap₂ within (c .before .before .block-word5 .ensures) (c .before .block-word6 .ensures)
-    ∙ sym (shares-none (blockWord t i 2) (blockWord t i 3) (ap₂ bitAnd ins outs) (c .before .before .before .before .before .before .before .before .if1 .left)
-    ∙ shares-none ((blockWord t i 2) ∪ (blockWord t i 3)) (blockWord t i 4) (ap₂ bitAnd two uins) (c .before .before .before .before .before .before .if2 .left)
-    ∙ shares-none ((blockWord t i 2) ∪ (blockWord t i 3) ∪ (blockWord t i 4)) (blockWord t i 5) (ap₂ bitAnd three uouts) (c .before .before .before .if3 .left))
 
 pub sets-right-spec : {M : Type 1} → statement M
 sets-right-spec =

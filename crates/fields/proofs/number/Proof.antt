@@ -38,6 +38,12 @@ returns-2 c =
 add-t10 : tie.Need-add-t10
 add-t10 c = search needs
 
+returns-4 : tie.Need-returns-4
+returns-4 c =
+    let a = c .before .before .before .before .before .before .before .args in
+    let d = c .before in
+    c .more-digits .ensures ∙ sym (number-on (now (a .text)) (a .c .at) (c .before .before .before .before .before .if1 .left) (is-one (d .before)) (d .if3 .left))
+
 returns-3 : tie.Need-returns-3
 returns-3 c =
     let a = c .before .before .before .before .before .before .args in
@@ -54,12 +60,6 @@ add-t5 c = search needs
 
 more-digits-requires : tie.Need-more-digits-requires
 more-digits-requires c κs = omega (arith, digit (c .before))
-
-returns-4 : tie.Need-returns-4
-returns-4 c =
-    let a = c .before .before .before .before .before .before .before .args in
-    let d = c .before in
-    c .more-digits .ensures ∙ sym (number-on (now (a .text)) (a .c .at) (c .before .before .before .before .before .if1 .left) (is-one (d .before)) (d .if3 .left))
 
 pub number-spec : {M : Type 1} → statement M
 number-spec =

@@ -21,6 +21,12 @@ loop-holds : tie.Need-loop-holds Inv-loop μ-loop
 unfolding zerosOf
 loop-holds c = (refl, fill-start (λ j. 0) (c .args .at) (c .args .n) (c .args .into .now))
 
+loop-again : tie.Need-loop-again Inv-loop μ-loop
+loop-again c =
+    let s = c .before .before in
+    let l = c .before .loop in
+    (simp length-set (l .inv .0), fill-on (λ j. 0) (s .args .at) (s .args .n) (l .k) (l .into) _ _ (c .loop-test .taken) (l .inv .1) refl)
+
 add-into : tie.Need-add-into Inv-loop μ-loop
 add-into c = omega (arith, c .before .before .pre .1)
 
@@ -35,12 +41,6 @@ add-k c = omega (arith, c .before .before .pre .1)
 
 loop-less : tie.Need-loop-less Inv-loop μ-loop
 loop-less c = omega arith
-
-loop-again : tie.Need-loop-again Inv-loop μ-loop
-loop-again c =
-    let s = c .before .before in
-    let l = c .before .loop in
-    (simp length-set (l .inv .0), fill-on (λ j. 0) (s .args .at) (s .args .n) (l .k) (l .into) _ _ (c .loop-test .taken) (l .inv .1) refl)
 
 same-length : tie.Need-same-length Inv-loop μ-loop
 same-length c = c .before .loop .inv .0

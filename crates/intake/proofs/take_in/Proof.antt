@@ -114,6 +114,15 @@ sub-put-row c =
     let f = subst (Fits (now (s .args .table)) (s .args .p)) (c .before .before .before .before .l4 .given .1) (s .pre) in
     omega (arith, f .1)
 
+returns-5 : tie.Need-returns-5
+returns-5 c =
+    let a = c .before .before .before .before .before .before .before .before .before .before .args in
+    let v = c .before .before .before .before .before .before .before .l4 .given in
+    let t′ = c .before .before .put-row .last .0 in
+    let r = v .0 .1 .1 .1 .0 in
+    let put : ℕ → Type 0 = λ g. RowPut (now (a .table)) (a .p .components - 1) (a .p .states) (a .p .rows) (v .0 .0) (v .0 .1 .1 .0 ∷ g ∷ r .set ∷ v .0 .1 .1 .1 .1 .0 ∷ []) t′ in
+    subst (λ x. Change (now (a .table)) (a .p) x t′) (sym (v .1)) (subst put (c .before .before .before .before .before .guard-number .ensures) (c .before .before .put-row .ensures))
+
 put-row-requires : tie.Need-put-row-requires
 put-row-requires c κs =
     let s = c .before .before .before .before .before .before .before in
@@ -164,15 +173,6 @@ returns-4 c =
 
 same-length-5 : tie.Need-same-length-5
 same-length-5 c = search needs
-
-returns-5 : tie.Need-returns-5
-returns-5 c =
-    let a = c .before .before .before .before .before .before .before .before .before .before .args in
-    let v = c .before .before .before .before .before .before .before .l4 .given in
-    let t′ = c .before .before .put-row .last .0 in
-    let r = v .0 .1 .1 .1 .0 in
-    let put : ℕ → Type 0 = λ g. RowPut (now (a .table)) (a .p .components - 1) (a .p .states) (a .p .rows) (v .0 .0) (v .0 .1 .1 .0 ∷ g ∷ r .set ∷ v .0 .1 .1 .1 .1 .0 ∷ []) t′ in
-    subst (λ x. Change (now (a .table)) (a .p) x t′) (sym (v .1)) (subst put (c .before .before .before .before .before .guard-number .ensures) (c .before .before .put-row .ensures))
 
 pub take-in-spec : {M : Type 1} → statement M
 take-in-spec =

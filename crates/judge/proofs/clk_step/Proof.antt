@@ -24,6 +24,12 @@ returns-2 : tie.Need-returns-2
 unfolding clkStep
 returns-2 c = let a = c .before .before .before .before .args in rw (le-ltb 2 (a .p .last .turn) (c .before .if1 .left), le-ltb (a .clock) maxClocks (c .if2 .taken), clkStep)
 
+returns-5 : tie.Need-returns-5
+unfolding clkStep
+returns-5 c =
+    let a = c .before .before .before .before .before .before .before .before .before .before .args in
+    rw (le-ltb 2 (a .p .last .turn) (c .before .before .before .before .before .before .before .if1 .left), lt-ltb (a .clock) maxClocks (c .before .before .before .before .before .before .if2 .left), le-leb (a .set) 1 (c .before .before .before .before .before .if3 .left), in-order (c .before .before .before), c .before .before .plain .ensures, c .union .ensures, c .before .single .ensures, clkStep)
+
 returns-3 : tie.Need-returns-3
 unfolding clkStep
 returns-3 c =
@@ -44,12 +50,6 @@ single-requires c κs = search needs
 
 union-requires : tie.Need-union-requires
 union-requires c κs = search needs
-
-returns-5 : tie.Need-returns-5
-unfolding clkStep
-returns-5 c =
-    let a = c .before .before .before .before .before .before .before .before .before .before .args in
-    rw (le-ltb 2 (a .p .last .turn) (c .before .before .before .before .before .before .before .if1 .left), lt-ltb (a .clock) maxClocks (c .before .before .before .before .before .before .if2 .left), le-leb (a .set) 1 (c .before .before .before .before .before .if3 .left), in-order (c .before .before .before), c .before .before .plain .ensures, c .union .ensures, c .before .single .ensures, clkStep)
 
 pub clk-step-spec : {M : Type 1} → statement M
 clk-step-spec =

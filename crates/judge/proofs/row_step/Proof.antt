@@ -68,6 +68,12 @@ returns-5 c =
     let a = c .before .before .before .before .before .before .before .before .before .before .args in
     rw (le-ltb 3 (a .p .last .turn) (c .before .before .before .before .before .before .before .if1 .left), ranged (c .before .before .before .before .before), all-named (c .before .before .before), in-order (c .before), not-true (a .ascend) (c .if6 .taken), rowStep)
 
+returns-7 : tie.Need-returns-7
+unfolding rowStep
+returns-7 c =
+    let a = c .before .before .before .before .before .before .before .before .before .before .before .before .before .args in
+    rw (le-ltb 3 (a .p .last .turn) (c .before .before .before .before .before .before .before .before .before .before .if1 .left), ranged (c .before .before .before .before .before .before .before .before), all-named (c .before .before .before .before .before .before), in-order (c .before .before .before .before), not-false (a .ascend) (c .before .before .before .if6 .left), lt-leb 1024 (a .p .rows) (c .before .if7 .left), rowStep)
+
 returns-6 : tie.Need-returns-6
 unfolding rowStep
 returns-6 c =
@@ -76,12 +82,6 @@ returns-6 c =
 
 add-t11 : tie.Need-add-t11
 add-t11 c = search needs
-
-returns-7 : tie.Need-returns-7
-unfolding rowStep
-returns-7 c =
-    let a = c .before .before .before .before .before .before .before .before .before .before .before .before .before .args in
-    rw (le-ltb 3 (a .p .last .turn) (c .before .before .before .before .before .before .before .before .before .before .if1 .left), ranged (c .before .before .before .before .before .before .before .before), all-named (c .before .before .before .before .before .before), in-order (c .before .before .before .before), not-false (a .ascend) (c .before .before .before .if6 .left), lt-leb 1024 (a .p .rows) (c .before .if7 .left), rowStep)
 
 pub row-step-spec : {M : Type 1} → statement M
 row-step-spec =

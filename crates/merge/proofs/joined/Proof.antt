@@ -1,13 +1,13 @@
 -- `merge::joined` meets its contract.
 use mathlib.Core.Path.{_∙_, ap}
-use Prim.Native.Nat.{suc, _<_}
+use Prim.Native.Nat.{suc, _≤_, _<_}
 use native.Mathlib.Omega.{arith}
 use lib.ListN.{length}
 use lib.Seq.{sets}
 use borrow.Author.Tests.{not-true, not-false}
 use denote.Ref.{now}
 use Rattle.iosa.specs.Merge.{mergedAt}
-use Rattle.layout.specs.Layout.{countOf}
+use Rattle.layout.specs.Layout.{countOf, imageWords}
 use Rattle.layout.specs.Image.{imageOf, modelOf}
 use Rattle.layout.proofs.ImageIsSane.{image-is-sane}
 use Rattle.layout.proofs.RowsOfRange.{count-some}
@@ -28,6 +28,18 @@ sub-last c =
 
 refused-requires : tie.Need-refused-requires
 refused-requires c κs = search needs
+
+returns-4 : tie.Need-returns-4
+returns-4 c =
+    let s0 = c .before .before .before .before .before .before .before .before .before .before .before .before .before .before .before in
+    let z = c .before .before .before .before .before .before .before .before .size-of in
+    let one = c .before .before .before .before .before .before .before .before .before .before .before .if1 .left in
+    let two = c .before .before .before .before .before .before .before .before .before .before .if2 .left in
+    let next : suc (s0 .args .i) < countOf (now (s0 .args .t)) = omega (arith, c .before .before .before .before .before .before .before .before .before .before .before .before .count-of .ensures, one, two) in
+    let room : imageWords ≤ length (now (s0 .args .into)) = omega (arith, one, two) in
+    let f = z .ensures .0 .fits (not-false _ (c .before .before .before .before .if3 .left)) in
+    is-merged-model (now (s0 .args .t)) (s0 .args .i) (now (s0 .args .into)) (s0 .pre .0) (s0 .pre .1) room next (f .0) _
+    (c .before .before .put-merged .ensures ∙ ap (λ l. sets l 0 (imageOf (mergedAt (modelOf (now (s0 .args .t))) (s0 .args .i)))) (z .ensures .1))
 
 returns : tie.Need-returns
 returns c =
@@ -70,15 +82,6 @@ put-merged-requires c κs =
 
 same-length-2 : tie.Need-same-length-2
 same-length-2 c = search needs
-
-returns-4 : tie.Need-returns-4
-returns-4 c =
-    let s0 = c .before .before .before .before .before .before .before .before .before .before .before .before .before .before .before in
-    let z = c .before .before .before .before .before .before .before .before .size-of in
-    let next : suc (s0 .args .i) < countOf (now (s0 .args .t)) = omega (arith, c .before .before .before .before .before .before .before .before .before .before .before .before .count-of .ensures, c .before .before .before .before .before .before .before .before .before .before .if2 .left) in
-    let f = z .ensures .0 .fits (not-false _ (c .before .before .before .before .if3 .left)) in
-    is-merged-model (now (s0 .args .t)) (s0 .args .i) (now (s0 .args .into)) (s0 .pre .0) (s0 .pre .1) (c .before .before .before .before .before .before .before .before .before .before .before .if1 .left) next (f .0) _
-    (c .before .before .put-merged .ensures ∙ ap (λ l. sets l 0 (imageOf (mergedAt (modelOf (now (s0 .args .t))) (s0 .args .i)))) (z .ensures .1))
 
 pub joined-spec : {M : Type 1} → statement M
 joined-spec =

@@ -62,7 +62,7 @@ guard-set-requires : tie.Need-guard-set-requires Inv-loop μ-loop
 guard-set-requires c κs =
     let s0 = c .before .before .before .before .before .before in
     let l = c .before .before .loop in
-    rw (c .guard-at .ensures) (row-ready _ (s0 .pre .0) _ (s0 .pre .1) _ (s0 .pre .2) _ _ (c .before .before .before .before .first-of .ensures) (c .before .before .before .first-of2 .ensures) (l .k) (l .inv .0) (search needs) .guard)
+    rw (c .guard-at .ensures) (row-ready _ (s0 .pre .0) _ (s0 .pre .1) _ (s0 .pre .2) _ _ (c .before .before .before .before .first-of .ensures) (c .before .before .before .first-of2 .ensures) (l .r) (l .inv .0) (search needs) .guard)
 
 returns : tie.Need-returns Inv-loop μ-loop
 unfolding stateFault told
@@ -73,15 +73,15 @@ returns c =
     let lo = c .before .before .before .before .before .before .first-of in
     let hi = c .before .before .before .before .before .first-of2 in
     let g = c .before .guard-set .ensures ∙ ap guardSet (c .before .before .guard-at .ensures) in
-    let ne : guardsIn t (firstOf t (s0 .args .i) (s0 .args .s)) (l .k) ∩ guardSet (guardAt t (l .k)) ≡ 0 → ⊥ = λ z. c .if1 .taken (ap₂ _∩_ (l .inv .1 ∙ ap (λ n. guardsIn t n (l .k)) (lo .ensures)) g ∙ z) in
-    let hit : at t (s0 .args .i) (l .k) ≡ some (tell 11 (l .k ∷ [])) = ap (λ b. when b (tell 11 (l .k ∷ []))) (repeats-shared t (s0 .pre .0) _ (s0 .pre .1) _ (l .k) (s0 .pre .2) (omega (arith, lo .ensures, l .inv .0)) (omega (arith, hi .ensures, ap (firstOf t (s0 .args .i)) (add-one (s0 .args .s)))) ne) in
-    says-refused _ (tell 11 (l .k ∷ [])) _ refl (sym (range-seek t (s0 .pre .0) _ (s0 .pre .1) _ (s0 .pre .2) _ _ (lo .ensures) (hi .ensures) (at t (s0 .args .i))) ∙ sym (l .inv .2) ∙ seek-here (at t (s0 .args .i)) (l .k) _ (search needs) hit)
+    let ne : guardsIn t (firstOf t (s0 .args .i) (s0 .args .s)) (l .r) ∩ guardSet (guardAt t (l .r)) ≡ 0 → ⊥ = λ z. c .if1 .taken (ap₂ _∩_ (l .inv .1 ∙ ap (λ n. guardsIn t n (l .r)) (lo .ensures)) g ∙ z) in
+    let hit : at t (s0 .args .i) (l .r) ≡ some (tell 11 (l .r ∷ [])) = ap (λ b. when b (tell 11 (l .r ∷ []))) (repeats-shared t (s0 .pre .0) _ (s0 .pre .1) _ (l .r) (s0 .pre .2) (omega (arith, lo .ensures, l .inv .0)) (omega (arith, hi .ensures, ap (firstOf t (s0 .args .i)) (add-one (s0 .args .s)))) ne) in
+    says-refused _ (tell 11 (l .r ∷ [])) _ refl (sym (range-seek t (s0 .pre .0) _ (s0 .pre .1) _ (s0 .pre .2) _ _ (lo .ensures) (hi .ensures) (at t (s0 .args .i))) ∙ sym (l .inv .2) ∙ seek-here (at t (s0 .args .i)) (l .r) _ (search needs) hit)
 
 union-requires : tie.Need-union-requires Inv-loop μ-loop
 union-requires c κs = search needs
 
-add-k : tie.Need-add-k Inv-loop μ-loop
-add-k c = search needs
+add-r : tie.Need-add-r Inv-loop μ-loop
+add-r c = search needs
 
 loop-less : tie.Need-loop-less Inv-loop μ-loop
 loop-less c = search needs
@@ -94,11 +94,11 @@ loop-again c =
     let lo = c .before .before .before .before .before .before .before .first-of in
     let hi = c .before .before .before .before .before .before .first-of2 in
     let g = c .before .before .guard-set .ensures ∙ ap guardSet (c .before .before .before .guard-at .ensures) in
-    let z : guardsIn t (firstOf t (s0 .args .i) (s0 .args .s)) (l .k) ∩ guardSet (guardAt t (l .k)) ≡ 0 = sym (ap₂ _∩_ (l .inv .1 ∙ ap (λ n. guardsIn t n (l .k)) (lo .ensures)) g) ∙ c .before .if1 .left in
-    let miss = ap (λ b. when b (tell 11 (l .k ∷ []))) (unshared t (s0 .pre .0) _ (s0 .pre .1) _ (l .k) (s0 .pre .2) (omega (arith, lo .ensures, l .inv .0)) (omega (arith, hi .ensures, ap (firstOf t (s0 .args .i)) (add-one (s0 .args .s)))) z) in (
+    let z : guardsIn t (firstOf t (s0 .args .i) (s0 .args .s)) (l .r) ∩ guardSet (guardAt t (l .r)) ≡ 0 = sym (ap₂ _∩_ (l .inv .1 ∙ ap (λ n. guardsIn t n (l .r)) (lo .ensures)) g) ∙ c .before .if1 .left in
+    let miss = ap (λ b. when b (tell 11 (l .r ∷ []))) (unshared t (s0 .pre .0) _ (s0 .pre .1) _ (l .r) (s0 .pre .2) (omega (arith, lo .ensures, l .inv .0)) (omega (arith, hi .ensures, ap (firstOf t (s0 .args .i)) (add-one (s0 .args .s)))) z) in (
       search needs,
-      c .union .ensures ∙ ap₂ _∪_ (l .inv .1) g ∙ sym (guards-next t _ (l .k) (l .inv .0)),
-      sym (seek-next (at t (s0 .args .i)) (l .k) _ (search needs) miss) ∙ l .inv .2,
+      c .union .ensures ∙ ap₂ _∪_ (l .inv .1) g ∙ sym (guards-next t _ (l .r) (l .inv .0)),
+      sym (seek-next (at t (s0 .args .i)) (l .r) _ (search needs) miss) ∙ l .inv .2,
     )
 
 returns-2 : tie.Need-returns-2 Inv-loop μ-loop
@@ -107,7 +107,7 @@ returns-2 c =
     let l = c .before .loop in
     let s0 = c .before .before .before .before .before in
     let t = now (s0 .args .t) in
-    says-fine _ (sym (range-seek t (s0 .pre .0) _ (s0 .pre .1) _ (s0 .pre .2) _ _ (c .before .before .before .first-of .ensures) (c .before .before .first-of2 .ensures) (at t (s0 .args .i))) ∙ sym (l .inv .2) ∙ seek-end (at t (s0 .args .i)) (l .k) _ (search needs))
+    says-fine _ (sym (range-seek t (s0 .pre .0) _ (s0 .pre .1) _ (s0 .pre .2) _ _ (c .before .before .before .first-of .ensures) (c .before .before .first-of2 .ensures) (at t (s0 .args .i))) ∙ sym (l .inv .2) ∙ seek-end (at t (s0 .args .i)) (l .r) _ (search needs))
 
 pub repeat-at-spec : {M : Type 1} → statement M
 repeat-at-spec =
@@ -123,7 +123,7 @@ repeat-at-spec =
     guard-set-requires
     returns
     union-requires
-    add-k
+    add-r
     loop-less
     loop-again
     returns-2)

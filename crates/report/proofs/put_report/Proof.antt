@@ -38,6 +38,17 @@ returns c =
     let none = valued-none keep (requestOf bs) (sym (u .request-of .ensures .0) ∙ missing-asked bs q (not-true (q .found) (c .before .before .before .before .if1 .taken))) in
     put-as (sym (report-9 bs none)) (c .before .before .put-whole .ensures)
 
+returns-2 : tie.Need-returns-2
+returns-2 c =
+    let r = c .before .before .before .before .before .before .before .before in
+    let u = r .before .before .before .before .before in
+    let bs = now (u .before .before .before .args .input) in
+    let q = u .request-of .result in
+    let k = valued-some keep (requestOf bs) (sym (u .request-of .ensures .0) ∙ found-asked bs q (not-false (q .found) (r .before .before .before .if1 .left))) in
+    let f = c .before .before .before .before .before .checked .given .0 .0 in
+    let p = refused-read (take (length bs - q .at) (drop (q .at) bs)) _ _ _ (r .read .ensures) (omega (arith, length-replicate {A = ℕ} imageWords 0)) f (c .before .before .before .before .before .checked .given .1) in
+    put-as (told-text f (p .0) (p .2) ∙ sym (report-text bs (drop (q .at) bs) (k .0) (k .1) (p .0) (ap readOf (sym (part-from bs (q .at))) ∙ p .1))) (c .before .before .put-refused .ensures)
+
 sub-read : tie.Need-sub-read
 sub-read c = search needs
 
@@ -75,17 +86,6 @@ put-answer-requires c κs =
 
 same-length-2 : tie.Need-same-length-2
 same-length-2 c = search needs
-
-returns-2 : tie.Need-returns-2
-returns-2 c =
-    let r = c .before .before .before .before .before .before .before .before in
-    let u = r .before .before .before .before .before in
-    let bs = now (u .before .before .before .args .input) in
-    let q = u .request-of .result in
-    let k = valued-some keep (requestOf bs) (sym (u .request-of .ensures .0) ∙ found-asked bs q (not-false (q .found) (r .before .before .before .if1 .left))) in
-    let f = c .before .before .before .before .before .checked .given .0 .0 in
-    let p = refused-read (take (length bs - q .at) (drop (q .at) bs)) _ _ _ (r .read .ensures) (omega (arith, length-replicate {A = ℕ} imageWords 0)) f (c .before .before .before .before .before .checked .given .1) in
-    put-as (told-text f (p .0) (p .2) ∙ sym (report-text bs (drop (q .at) bs) (k .0) (k .1) (p .0) (ap readOf (sym (part-from bs (q .at))) ∙ p .1))) (c .before .before .put-refused .ensures)
 
 same-length-3 : tie.Need-same-length-3
 same-length-3 c = search needs

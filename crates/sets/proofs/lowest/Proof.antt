@@ -4,11 +4,11 @@ use Rattle.sets.proofs.MemberLaws.{lowest-is}
 use Rattle.sets.proofs.lowest.Statement.{statement}
 use Rattle.sets.proofs.lowest.Tie as tie
 
-cast-result : tie.Need-cast-result
-cast-result c = omega (arith, trailing-le 64 (c .args .s))
-
 returns : tie.Need-returns
 returns c = lowest-is (c .args .s)
+
+cast-result : tie.Need-cast-result
+cast-result c = omega (arith, trailing-le 64 (c .args .s))
 
 pub lowest-spec : {M : Type 1} → statement M
 lowest-spec = tie.close (tie.spec cast-result returns)

@@ -30,15 +30,6 @@ lowest-all-requires c κs = search needs
 moved-by-requires : tie.Need-moved-by-requires
 moved-by-requires c κs = search needs
 
-returns : tie.Need-returns
-returns c =
-    let s0 = c .before .before .before .before in
-    let x = s0 .args .x in
-    let r = s0 .pre in
-    let m = modelOf (now (s0 .args .t)) in
-    let e = ap (taken (partsOf x)) (lowest-here m (r .conforming) (r .joinable) (partsOf x) (r .standing .within) _ (c .before .before .lowest-all .ensures) (c .before .if1 .taken)) in
-    record { outcome = c .moved-by .ensures .outcome ∙ ap (λ v. some (answered (v .step))) (sym e); state = c .moved-by .ensures .state ∙ ap (λ v. withParts x (v .state)) (sym e) }
-
 -- src/lib.rt:18:1
 returns-2 : tie.Need-returns-2
 unfolding saysOutcome
@@ -47,12 +38,21 @@ returns-2 c =
     let t = now (s0 .args .t) in
     let x = s0 .args .x in
     let r = s0 .pre in
-    let e = ap (taken (partsOf x)) (lowest-nowhere (modelOf t) (r .conforming) (r .joinable) (partsOf x) (r .standing .within) _ (c .before .lowest-all .ensures) (c .if1 .left)) in
+    let e = ap (taken (partsOf x)) (lowest-nowhere (modelOf t) (r .conforming) (r .joinable) (partsOf x) (r .standing .within) _ (c .before .lowest-all .ensures) (omega (arith, c .if1 .left))) in
     let len : length (x .parts) ≡ maxComponents = search needs in
     record {
       outcome = ap (λ v. some (answered (v .step))) (sym e);
       state = sym (with-own-parts x (omega (arith, len, count-few t x (r .standing)))) ∙ ap (λ v. withParts x (v .state)) (sym e);
     }
+
+returns : tie.Need-returns
+returns c =
+    let s0 = c .before .before .before .before in
+    let x = s0 .args .x in
+    let r = s0 .pre in
+    let m = modelOf (now (s0 .args .t)) in
+    let e = ap (taken (partsOf x)) (lowest-here m (r .conforming) (r .joinable) (partsOf x) (r .standing .within) _ (c .before .before .lowest-all .ensures) (c .before .if1 .taken)) in
+    record { outcome = c .moved-by .ensures .outcome ∙ ap (λ v. some (answered (v .step))) (sym e); state = c .moved-by .ensures .state ∙ ap (λ v. withParts x (v .state)) (sym e) }
 
 pub rule-step-spec : {M : Type 1} → statement M
 rule-step-spec = tie.close (tie.spec lowest-all-requires moved-by-requires returns returns-2)

@@ -62,14 +62,14 @@ same-length-2 c = omega (arith, c .before .before .put-last2 .kept .0, c .before
 returns-2 : tie.Need-returns-2 Inv-loop μ-loop
 returns-2 c = left-last (ends-stable (c .before .before .before .before .before .before .before .before .before .before .pre .0 .conforming) (c .before .before .before .before .before .before .before .before .before .before .pre .0 .joinable) (c .before .before .before .before .before .before .before .loop .inv) (c .before .before .before .before .before .lowest-all2 .result) (c .before .before .before .before .before .lowest-all2 .ensures) (c .before .before .before .before .if2 .taken)) (c .before .before .put-last2 .ensures)
 
+returns-3 : tie.Need-returns-3 Inv-loop μ-loop
+returns-3 c = left-last (ends-unsettled (c .before .before .before .before .before .before .before .before .before .before .pre .0 .conforming) (c .before .before .before .before .before .before .before .before .before .before .pre .0 .joinable) (c .before .before .before .before .before .before .before .loop .inv) (c .before .before .before .before .before .lowest-all2 .result) (c .before .before .before .before .before .lowest-all2 .ensures) (c .before .before .before .before .before .before .loop-test .left) (c .before .before .before .before .if2 .left)) (c .before .before .put-last3 .ensures)
+
 put-last-requires-3 : tie.Need-put-last-requires-3 Inv-loop μ-loop
 put-last-requires-3 c κs = (omega (arith, count-few _ _ (c .before .before .before .before .loop .inv .reached .standing)), last-room (ends-unsettled (c .before .before .before .before .before .before .before .pre .0 .conforming) (c .before .before .before .before .before .before .before .pre .0 .joinable) (c .before .before .before .before .loop .inv) (c .before .before .lowest-all2 .result) (c .before .before .lowest-all2 .ensures) (c .before .before .before .loop-test .left) (c .before .if2 .left)))
 
 same-length-3 : tie.Need-same-length-3 Inv-loop μ-loop
 same-length-3 c = omega (arith, c .before .before .put-last3 .kept .0, c .before .before .before .before .before .before .before .loop .inv .left .long)
-
-returns-3 : tie.Need-returns-3 Inv-loop μ-loop
-returns-3 c = left-last (ends-unsettled (c .before .before .before .before .before .before .before .before .before .before .pre .0 .conforming) (c .before .before .before .before .before .before .before .before .before .before .pre .0 .joinable) (c .before .before .before .before .before .before .before .loop .inv) (c .before .before .before .before .before .lowest-all2 .result) (c .before .before .before .before .before .lowest-all2 .ensures) (c .before .before .before .before .before .before .loop-test .left) (c .before .before .before .before .if2 .left)) (c .before .before .put-last3 .ensures)
 
 pub put-run-spec : {M : Type 1} → statement M
 put-run-spec =

@@ -32,11 +32,11 @@ returns c = rw (got (c .before)) (moved-of (c .before .args .got) _ (count c))
 returns-2 : tie.Need-returns-2
 returns-2 c = again-of _ _ (below (c .before)) (passes-4 _ (c .before .before .fits .error) (c .if2 .taken))
 
-returns-3 : tie.Need-returns-3
-returns-3 c = again-of _ _ (below (c .before .before)) (passes-11 _ (c .before .before .before .fits .error) (c .if3 .taken))
-
 returns-4 : tie.Need-returns-4
 returns-4 c = rw (error (c .before .before .before)) (failed-of _ _ (below (c .before .before)) (stays _ (c .before .if2 .left) (c .if3 .left)))
+
+returns-3 : tie.Need-returns-3
+returns-3 c = again-of _ _ (below (c .before .before)) (passes-11 _ (c .before .before .before .fits .error) (c .if3 .taken))
 
 pub meant-spec : {M : Type 1} → statement M
 meant-spec = tie.close (tie.spec cast-t4 returns returns-2 returns-3 returns-4)

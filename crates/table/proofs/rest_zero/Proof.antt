@@ -23,6 +23,16 @@ add-zero-words c = omega (arith, c .count-of .ensures, c .before .before .pre .c
 zero-words-requires : tie.Need-zero-words-requires
 zero-words-requires c κs = omega (arith, c .before .before .pre .long)
 
+returns-2 : tie.Need-returns-2
+unfolding restZero
+returns-2 c =
+    let t = c .before .before .before .before .before .before .args .t .now in
+    let count-of = c .before .before .before .before .count-of in
+    let zero-words = c .before .before .before .zero-words in
+    c .zero-words2 .ensures
+    ∙ ap (λ n. zeroWords t (rowsAt + rowWords * n) imageWords) (c .before .end-before .ensures ∙ ap (endBefore t) (count-of .ensures))
+    ∙ sym (passed (zero-words .result) (zero-words .ensures ∙ ap (λ n. zeroWords t (1 + blockWords * n) rowsAt) (count-of .ensures)) (c .before .before .if1 .left))
+
 returns : tie.Need-returns
 unfolding restZero
 returns c =
@@ -47,16 +57,6 @@ add-zero-words-2 c =
 
 zero-words-requires-2 : tie.Need-zero-words-requires-2
 zero-words-requires-2 c κs = omega (arith, c .before .before .before .before .before .pre .long)
-
-returns-2 : tie.Need-returns-2
-unfolding restZero
-returns-2 c =
-    let t = c .before .before .before .before .before .before .args .t .now in
-    let count-of = c .before .before .before .before .count-of in
-    let zero-words = c .before .before .before .zero-words in
-    c .zero-words2 .ensures
-    ∙ ap (λ n. zeroWords t (rowsAt + rowWords * n) imageWords) (c .before .end-before .ensures ∙ ap (endBefore t) (count-of .ensures))
-    ∙ sym (passed (zero-words .result) (zero-words .ensures ∙ ap (λ n. zeroWords t (1 + blockWords * n) rowsAt) (count-of .ensures)) (c .before .before .if1 .left))
 
 pub rest-zero-spec : {M : Type 1} → statement M
 rest-zero-spec =

@@ -11,6 +11,15 @@ use borrow.Author.Needs.{needs}
 use Rattle.tell.proofs.put_step.Statement.{statement}
 use Rattle.tell.proofs.put_step.Tie as tie
 
+returns : tie.Need-returns
+returns c =
+    let a = c .before .before .before .before .before .before .before .before .before .before .before .before .before .before .before .before .before .before .args in
+    let l0 = left-parts (now (a .out)) (a .at) ((stepWord) ++ ((tab ∷ decimal (a .n)) ++ ((tab ∷ decimal (a .action)) ++ (tailOf (a .resets) (partsOf (a .x)))))) (step-parts (a .n) (a .action) (goneWith (a .resets) (a .x))) (c .before .before .before .before .before .before .before .before .before .before .before .before .before .before .before .before .before .before .pre .1) in
+    let l1 = part-put (stepWord) ((tab ∷ decimal (a .n)) ++ ((tab ∷ decimal (a .action)) ++ (tailOf (a .resets) (partsOf (a .x))))) l0 (c .before .before .before .before .before .before .before .before .before .before .before .before .before .before .put-word .ensures) in
+    let l2 = part-put (tab ∷ decimal (a .n)) ((tab ∷ decimal (a .action)) ++ (tailOf (a .resets) (partsOf (a .x)))) l1 (c .before .before .before .before .before .before .before .before .before .before .put-behind .ensures) in
+    let l3 = part-put (tab ∷ decimal (a .action)) (tailOf (a .resets) (partsOf (a .x))) l2 (c .before .before .before .before .before .before .put-behind2 .ensures) in
+    left-last l3 (c .before .before .put-tail .ensures)
+
 slice-aggregate-put-word : tie.Need-slice-aggregate-put-word
 slice-aggregate-put-word c = search needs
 
@@ -46,15 +55,6 @@ put-tail-requires c κs =
 
 same-length : tie.Need-same-length
 same-length c = search needs
-
-returns : tie.Need-returns
-returns c =
-    let a = c .before .before .before .before .before .before .before .before .before .before .before .before .before .before .before .before .before .before .args in
-    let l0 = left-parts (now (a .out)) (a .at) ((stepWord) ++ ((tab ∷ decimal (a .n)) ++ ((tab ∷ decimal (a .action)) ++ (tailOf (a .resets) (partsOf (a .x)))))) (step-parts (a .n) (a .action) (goneWith (a .resets) (a .x))) (c .before .before .before .before .before .before .before .before .before .before .before .before .before .before .before .before .before .before .pre .1) in
-    let l1 = part-put (stepWord) ((tab ∷ decimal (a .n)) ++ ((tab ∷ decimal (a .action)) ++ (tailOf (a .resets) (partsOf (a .x))))) l0 (c .before .before .before .before .before .before .before .before .before .before .before .before .before .before .put-word .ensures) in
-    let l2 = part-put (tab ∷ decimal (a .n)) ((tab ∷ decimal (a .action)) ++ (tailOf (a .resets) (partsOf (a .x)))) l1 (c .before .before .before .before .before .before .before .before .before .before .put-behind .ensures) in
-    let l3 = part-put (tab ∷ decimal (a .action)) (tailOf (a .resets) (partsOf (a .x))) l2 (c .before .before .before .before .before .before .put-behind2 .ensures) in
-    left-last l3 (c .before .before .put-tail .ensures)
 
 pub put-step-spec : {M : Type 1} → statement M
 put-step-spec =

@@ -1,5 +1,6 @@
 -- `text::read` meets its contract.
 use mathlib.Core.Path.{refl, sym, _∙_, ap}
+use native.Mathlib.Omega.{arith}
 use denote.Ref.{now}
 use Rattle.answer.specs.Told.{saysChecked}
 use borrow.Author.Needs.{needs}
@@ -19,11 +20,17 @@ enum-told c = search needs
 mul-t8 : tie.Need-mul-t8
 mul-t8 c = search needs
 
+returns-3 : tie.Need-returns-3
+returns-3 c =
+    let a = c .before .before .before .before .before .before .before .before .before .before .args in
+    let b = c .before .before .build .ensures in
+    taken-in (now (a .text)) (now (a .table)) (b .0) (b .1) _ (omega (arith, c .before .before .before .before .if1 .left)) (b .2)
+
 returns : tie.Need-returns
 returns c =
     let a = c .before .before .before .before .before .before .args in
     let g = good-text (now (a .text)) (now (a .table)) (sym (ap saysChecked (c .before .enum-told .given .1)) ∙ c .before .before .before .check-text .ensures) in
-    no-room (now (a .text)) (now (a .table)) (g .0) (g .1) _ refl (c .if1 .taken)
+    no-room (now (a .text)) (now (a .table)) (g .0) (g .1) _ refl (omega (arith, c .if1 .taken))
 
 build-requires : tie.Need-build-requires
 build-requires c κs =
@@ -37,12 +44,6 @@ returns-2 c =
 
 same-length : tie.Need-same-length
 same-length c = search needs
-
-returns-3 : tie.Need-returns-3
-returns-3 c =
-    let a = c .before .before .before .before .before .before .before .before .before .before .args in
-    let b = c .before .before .build .ensures in
-    taken-in (now (a .text)) (now (a .table)) (b .0) (b .1) _ (c .before .before .before .before .if1 .left) (b .2)
 
 pub read-spec : {M : Type 1} → statement M
 read-spec =
