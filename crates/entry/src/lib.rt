@@ -36,13 +36,24 @@ fn check_state(t: &[u64], x: State) -> Checked
     Checked::Fine
 }
 
-// What the confluence check refuses, then 21, then 19.
-pub fn may_settle(table: &[u64], x: State) -> Checked
-    ensures { λ r. ⌜ saysChecked r ≡ some (checkOn (now (table .entry)) (entryFault x)) ⌝ }
+// 10 to 18, then 21, then 19, of a table that is known to hold a model.
+pub fn check_entry(t: &[u64], x: State) -> Checked
+    requires { ⌜ Image (now t) ⌝ }
+    ensures { λ r. ⌜ Says r (entryFault x (modelOf (now (t .entry)))) ⌝ }
 {
-    let confluent = admit::confluent(table);
+    let confluent = admit::check_confluent(t);
     let Checked::Fine = confluent else {
         return confluent;
     };
-    check_state(table, x)
+    check_state(t, x)
+}
+
+// What the confluence check refuses, 20 first, then 21, then 19.
+pub fn may_settle(table: &[u64], x: State) -> Checked
+    ensures { λ r. ⌜ saysChecked r ≡ some (checkOn (now (table .entry)) (entryFault x)) ⌝ }
+{
+    if !table::recognise(table) {
+        return refused(20, Place::Whole);
+    }
+    check_entry(table, x)
 }

@@ -21,10 +21,8 @@ use Rattle.iosa.specs.Step.{inRange, stateFault, unless}
 use Rattle.iosa.specs.Settle.{beginFault, budgetFault, traceFault, settleOf}
 use Rattle.iosa.specs.Report.{Request, requestOf, refusedLine, answerLines, runLines, reportOf}
 use Rattle.iosa.proofs.Settling.Each.{All, each-all}
-use Rattle.layout.specs.Image.{Image, modelOf}
-use Rattle.table.specs.OnTable.{checkOn}
-use Rattle.table.proofs.OnTableLaws.{on-image}
-use Rattle.table.proofs.ImageExactly.{image-exactly}
+use Rattle.layout.specs.Image.{modelOf}
+use Rattle.parts.specs.Faults.{Says}
 use Rattle.entry.specs.Entry.{entryFault}
 use Rattle.request.specs.Kept.{held}
 use Rattle.request.proofs.HeldLaws.{Few, held-in-range, held-same}
@@ -99,12 +97,9 @@ refused-first : (m : Model) (s : List ℕ) (n : ℕ) (t : Told) → orElse (conf
 unfolding answerLines settleOf
 refused-first m s n t e = rw (or-more (confluentOf m) (beginFault m s) (orElse (budgetFault n) (traceFault n n)) t e, settleOf)
 
-module _ (t : List ℕ) (x : State) (r : Checked) (im : Image t) (e : saysChecked r ≡ some (checkOn t (entryFault x))) where
+module _ (t : List ℕ) (x : State) (r : Checked) (here : Says r (entryFault x (modelOf t))) where
   abbrev m : Model
   m = modelOf t
-
-  here : saysChecked r ≡ some (unless (entryFault x m) tt)
-  here = e ∙ ap some (on-image t (λ m. unless (entryFault x m) tt) (image-exactly t .1 im))
 
   pub checked-fine : r ≡ Fine → (confluentOf m ≡ none) × (beginFault m (partsOf x) ≡ none)
   unfolding saysChecked

@@ -22,7 +22,7 @@ fn put_answer(t: &[u64], x: State, budget: u64, out: &mut [u8]) -> usize
         (answerLines (modelOf (now (t .entry))) (partsOf x) (settleOf (modelOf (now (t .entry))) (partsOf x) budget budget))
         (now (out .exit)) r ⌝ }
 {
-    let checked = entry::may_settle(t, x);
+    let checked = entry::check_entry(t, x);
     match checked {
         Checked::Refused(f) => tell::put_refused(out, 0, f),
         Checked::Fine => steplines::put_settled(t, x, budget, out),

@@ -6,10 +6,8 @@ use mathlib.Core.Option.{Option, none, some, Option·some-inj}
 use mathlib.Core.List.{List}
 use Prim.Native.Nat.{ℕ}
 use native.Mathlib.Omega.{arith}
-use Rattle.laws.specs.Search.{orElse}
 use Rattle.answer.specs.Told.{Told, told, Answer, answered, refused, asRefused, saysChecked}
 use Rattle.answer.specs.declared.Refusal.{Refusal}
-use Rattle.answer.specs.declared.Checked.{Checked}
 use Rattle.answer.specs.declared.Checked.the-variants.{Fine, Refused}
 use Rattle.iosa.specs.Model.{Model}
 use Rattle.iosa.specs.Step.{unless}
@@ -59,22 +57,3 @@ module _ (t : List ℕ) (check : Model → Option Told) where
       go : (b : Bool) → isImage t ≡ b → onTable t g ≡ refused f
       go true h = on-image t g h ∙ fol (modelOf t) f (stands (check (modelOf t)) f (sym (on-image t (λ m. unless (check m) done) h) ∙ x))
       go false h = on-no-image t g h ∙ ap refused (same-told (sym (on-no-image t (λ m. unless (check m) done) h) ∙ x))
-
--- two checks in order: the answer of the first where it refuses, and else that of the second
-module _ (t : List ℕ) (one two : Model → Option Told) where
-  abbrev both : Model → Option Told
-  both m = orElse (one m) (two m)
-
-  follows : (m : Model) (f : Told) → one m ≡ some f → _≡_ {A = Answer (Unit {0})} (unless (both m) done) (refused f)
-  follows m f e = ap (λ o. unless (orElse o (two m)) done) e
-
-  pub first-refuses : (r : Checked) (q : Refusal) → r ≡ Refused q → saysChecked r ≡ some (checkOn t one) → saysChecked r ≡ some (checkOn t both)
-  first-refuses r q w e =
-      let p = refused-tells t one q (rw w at e) in
-      e ∙ ap some (p .2 ∙ sym (call-refuses t one (λ m. unless (both m) done) follows (p .0) (p .2)))
-
-  pub first-passes : (r : Checked) → saysChecked Fine ≡ some (checkOn t one) → saysChecked r ≡ some (unless (two (modelOf t)) done)
-      → saysChecked r ≡ some (checkOn t both)
-  first-passes r e s =
-      let p = fine-passes t one e in
-      s ∙ ap some (ap (λ o. unless (orElse o (two (modelOf t))) done) (sym (p .1)) ∙ sym (on-image t (λ m. unless (both m) done) (p .0)))

@@ -8,8 +8,8 @@ use borrow.Author.Needs.{needs}
 use Rattle.report.proofs.put_answer.Statement.{statement}
 use Rattle.report.proofs.put_answer.Tie as tie
 
-may-settle-requires : tie.Need-may-settle-requires
-may-settle-requires c κs = search needs
+check-entry-requires : tie.Need-check-entry-requires
+check-entry-requires c κs = search needs
 
 enum-known-checked : tie.Need-enum-known-checked
 enum-known-checked c = search needs
@@ -24,8 +24,8 @@ put-settled-requires : tie.Need-put-settled-requires
 put-settled-requires c κs =
     let s0 = c .before .before .before .before .before .before in
     let t = now (s0 .args .t) in
-    let r = c .before .before .before .may-settle in
-    let p = checked-fine t (s0 .args .x) (r .result) (s0 .pre .0) (r .ensures) (c .before .enum-told .given .1) in
+    let r = c .before .before .before .check-entry in
+    let p = checked-fine t (s0 .args .x) (r .result) (r .ensures) (c .before .enum-told .given .1) in
     (s0 .pre .0, p .0, p .1, s0 .pre .1)
 
 same-length : tie.Need-same-length
@@ -35,9 +35,9 @@ returns : tie.Need-returns
 returns c =
     let s0 = c .before .before .before .before .before .before .before .before .before .before in
     let t = now (s0 .args .t) in
-    let r = c .before .before .before .before .before .before .before .may-settle in
+    let r = c .before .before .before .before .before .before .before .check-entry in
     let why = c .before .before .before .before .before .checked in
-    let e = checked-refused t (s0 .args .x) (r .result) (s0 .pre .0) (r .ensures) (why .given .0 .0) (why .given .1) (s0 .args .budget) in
+    let e = checked-refused t (s0 .args .x) (r .result) (r .ensures) (why .given .0 .0) (why .given .1) (s0 .args .budget) in
     put-as e (c .before .before .put-refused .ensures)
 
 same-length-2 : tie.Need-same-length-2
@@ -50,7 +50,7 @@ pub put-answer-spec : {M : Type 1} → statement M
 put-answer-spec =
     tie.close
     (tie.spec
-    may-settle-requires
+    check-entry-requires
     enum-known-checked
     put-refused-requires
     enum-told
