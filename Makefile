@@ -12,7 +12,7 @@ TO = $(DESTDIR)$(PREFIX)
 .PHONY: all install check
 
 all:
-	rt staticlib floodneedle
+	tools/archive
 
 install: all
 	$(INSTALL) -d $(TO)/lib/pkgconfig $(TO)/include $(TO)/share/doc/floodneedle
