@@ -167,6 +167,15 @@ void floodneedle_confluent(const uint64_t *table, size_t table_words, struct flo
 void floodneedle_merge(const uint64_t *table, size_t table_words, uint64_t i, uint64_t *into, size_t into_words,
                        struct floodneedle_answer *answer);
 
+/* Puts a self-loop (no guard, no resets) into the table's model wherever a state lacks a row of one of its component's inputs, `in` or
+ * `uin`; all other rows and everything else stay. Works in the lent table; words behind the image stay. Each added row is listed at the
+ * front of `list` as three bytes, component, state, action, ascending; later bytes stay. Done, with `count` the number of added rows: 0
+ * where none lacked, and then neither buffer changes. The model need not be accepted. The result never earns 12 of accept or component,
+ * and a second repair adds nothing.
+ * Refuses: 20, 24 (of the list; bytes needed: 3 for each row to be added), 26 (over FLOODNEEDLE_ROWS rows or FLOODNEEDLE_TEXT bytes of
+ * text in the repaired model). */
+void floodneedle_repair(uint64_t *table, size_t table_words, uint8_t *list, size_t list_bytes, struct floodneedle_answer *answer);
+
 /* One urgent step, by the lowest-numbered enabled urgent output: moved, with action and resets, or stable. `after` is always written:
  * the state after the step, the state as given where stable, zeros where refused; places past the state's own are 0.
  * It does not ask whether the model is confluent, on which it depends whether the order of steps matters: ask `confluent` once.
