@@ -1,0 +1,2 @@
+pub mod SameMembers
+pub mod RepairedRows
