@@ -1,2 +1,3 @@
 pub mod SameMembers
 pub mod RepairedRows
+pub mod RepairedModels
