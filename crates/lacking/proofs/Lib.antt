@@ -1,3 +1,5 @@
 pub mod SameMembers
 pub mod RepairedRows
 pub mod RepairedModels
+pub mod WalkLaws
+pub mod LackLaws
