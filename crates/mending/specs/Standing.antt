@@ -58,3 +58,10 @@ pub record After {u : List ℕ} {n i s w : ℕ} (p : AtState u n i s w) (u′ : 
 pub record Behind {u : List ℕ} {n i w : ℕ} (p : AtComp u n i w) (u′ : List ℕ) (r : ℕ) : Type 0 where
   pub here : r ≡ firstOf (p .new) i (blockWord (p .old) i 0)
   pub stage : Stage (p .old) (p .new) n u′ (blockAt (suc i)) (firstOf (p .old) i (blockWord (p .old) i 0)) r
+
+-- of any old and new image that the table stands between
+abbrev pub AfterState : List ℕ → ℕ → ℕ → ℕ → ℕ → List ℕ → ℕ → Type 0
+AfterState u n i s w u′ r = (p : AtState u n i s w) → After p u′ r
+
+abbrev pub BehindComp : List ℕ → ℕ → ℕ → ℕ → List ℕ → ℕ → Type 0
+BehindComp u n i w u′ r = (p : AtComp u n i w) → Behind p u′ r
