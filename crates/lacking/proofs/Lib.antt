@@ -3,3 +3,4 @@ pub mod RepairedRows
 pub mod RepairedModels
 pub mod WalkLaws
 pub mod LackLaws
+pub mod Counts

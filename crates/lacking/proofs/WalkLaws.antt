@@ -55,6 +55,11 @@ module _ (write : Bool) where
   walked-append [] ys o = refl
   walked-append (x ∷ xs) ys o = walked-append xs ys (oneMore write x o)
 
+  pub length-walked : (xs : List (List ℕ)) (o : Out) → length (walked write xs o .list) ≡ length (o .list)
+  unfolding walked
+  length-walked [] o = refl
+  length-walked (x ∷ xs) o = length-walked xs (oneMore write x o) ∙ length-one x o
+
   -- ---- room at the end was room before
   pub roomy-one : (x : List ℕ) (o : Out) → Roomy write (oneMore write x o) → Roomy write o
   unfolding oneMore

@@ -4,3 +4,4 @@ pub mod Stepwise
 pub mod Woven
 pub mod Weaving
 pub mod Steps
+pub mod Whole

@@ -255,7 +255,7 @@ module _ (T X : List ℕ) (n : ℕ) (k : Working T X n) where
           st .mid (firstAt i (s + 1)) (omega arith) (omega (arith, count-below T (k .image), comp-ranges T (k .image) i h .states)) ∙ ap (λ x. getD T x 0) e
 
       head-read : (j : ℕ) → j < headWords → blockWord u i j ≡ blockWord T i j
-      head-read j q = (unfold blockWord in st .low (1 + blockWords * i + j) (omega arith)) ∙ head-same i h j q
+      head-read j q = let e : blockWord u i j ≡ blockWord X i j = unfold blockWord in st .low (1 + blockWords * i + j) (omega arith) in e ∙ head-same i h j q
 
       pub raised-row : (x : ℕ) → firstOf T i s ≤ x → x < firstOf T i (suc s) → rowIn u s (x + n) ≡ rowIn T s x
       raised-row x p q = same-row u T s (x + n) x (λ v l.

@@ -2,7 +2,7 @@
 use mathlib.Core.Path.{_≡_}
 use mathlib.Core.List.{List}
 use Prim.Native.Nat.{ℕ, suc, _+_, _*_, _≤_, _<_}
-use lib.ListN.{length, getD}
+use lib.ListN.{length, getD, take}
 use Rattle.iosa.specs.Model.{rowCount}
 use Rattle.layout.specs.Layout.{headWords, blockWords, rowWords, rowsAt, imageWords, countOf, blockWord, firstOf}
 use Rattle.layout.specs.Image.{modelOf, Image}
@@ -65,3 +65,17 @@ AfterState u n i s w u′ r = (p : AtState u n i s w) → After p u′ r
 
 abbrev pub BehindComp : List ℕ → ℕ → ℕ → ℕ → List ℕ → ℕ → Type 0
 BehindComp u n i w u′ r = (p : AtComp u n i w) → Behind p u′ r
+
+-- before the first component, behind the rows that were raised; and where component i comes next
+pub record AtStart (u : List ℕ) (n : ℕ) : Type 0 where
+  pub old : List ℕ
+  pub new : List ℕ
+  pub work : Working old new n
+  pub stage : Stage old new n u (blockAt 0) 0 0
+
+pub record Reached {u : List ℕ} {n : ℕ} (p : AtStart u n) (u′ : List ℕ) (i w : ℕ) : Type 0 where
+  pub here : w ≡ rowCount (take i (modelOf (p .new)))
+  pub stage : Stage (p .old) (p .new) n u′ (blockAt i) (rowCount (take i (modelOf (p .old)))) w
+
+abbrev pub Finished : List ℕ → ℕ → List ℕ → Type 0
+Finished u n u′ = (p : AtStart u n) → u′ ≡ p .new

@@ -14,7 +14,7 @@ ghost use Rattle.layout.specs.Image.{Image, rowIn, imageOf, modelOf};
 ghost use Rattle.lacking.specs.Repair.{loopAt, repairedOf, addedTo};
 ghost use Rattle.mending.specs.Weave.{takes, later, putRow, weave};
 ghost use Rattle.mending.specs.Next.{Put};
-ghost use Rattle.mending.specs.Standing.{AtState, AtComp, AfterState, BehindComp, firstAt};
+ghost use Rattle.mending.specs.Standing.{AtState, AtComp, AtStart, AfterState, BehindComp, Finished, firstAt};
 ghost use Rattle.mending.specs.Raised.{Raised};
 
 // Where the walk over a state's rows stands: the next row to be read, and the loops that are still to come.
@@ -121,4 +121,66 @@ fn put_first(t: &mut [u64], i: usize, s: usize, w: usize)
     ensures { λ _. ⌜ now (t .exit) ≡ set (now (t .entry)) (firstAt i s) w ⌝ }
 {
     t[1 + layout::BLOCK * i + (layout::FIRST + s)] = w as u64;
+}
+
+// State s of component i, whose rows begin at row w of the repaired model: n rows are missing in all.
+fn put_state(t: &mut [u64], i: usize, s: usize, n: usize, w: usize) -> usize
+    requires { ⌜ AtState (now t) n i s w ⌝ }
+    ensures { λ r. ⌜ AfterState (now (t .entry)) n i s w (now (t .exit)) r ⌝ }
+{
+    let lo = layout::first_of(t, i, s) + n;
+    let hi = layout::first_of(t, i, s + 1) + n;
+    let left = lacking::lacking_in(t, i, lo, hi);
+    let end = w + (hi - lo) + sets::count(left) as usize;
+    put_rows(t, s, hi, w, end, Next { r: lo, left });
+    put_first(t, i, s, w);
+    end
+}
+
+// Component i.
+fn put_component(t: &mut [u64], i: usize, n: usize, w: usize) -> usize
+    requires { ⌜ AtComp (now t) n i w ⌝ }
+    ensures { λ r. ⌜ BehindComp (now (t .entry)) n i w (now (t .exit)) r ⌝ }
+{
+    let states = layout::block_word(t, i, layout::STATES) as usize;
+    let mut k = w;
+    for s in 0..states {
+        let next = put_state(t, i, s, n, k);
+        k = next;
+    }
+    put_first(t, i, states, k);
+    k
+}
+
+// The rows of the table, raised by n rows.
+fn raise_rows(t: &mut [u64], n: usize)
+    requires { ⌜ Image (now t) × (rowCount (modelOf (now t)) + n ≤ maxRows) ⌝ }
+    ensures { λ _. ⌜ Raised (now (t .entry)) (now (t .exit)) (rowWords * rowCount (modelOf (now (t .entry)))) (rowWords * n) ⌝ }
+{
+    let last = layout::count_of(t) as usize - 1;
+    let states = layout::block_word(t, last, layout::STATES) as usize;
+    let rows = layout::first_of(t, last, states);
+    raise(t, layout::ROW * rows, layout::ROW * n);
+}
+
+// Every component, where the rows stand n rows higher.
+fn put_all(t: &mut [u64], n: usize)
+    requires { ⌜ AtStart (now t) n ⌝ }
+    ensures { λ _. ⌜ Finished (now (t .entry)) n (now (t .exit)) ⌝ }
+{
+    let count = layout::count_of(t) as usize;
+    let mut w = 0;
+    for i in 0..count {
+        let next = put_component(t, i, n, w);
+        w = next;
+    }
+}
+
+// The whole table: n rows are missing, and there is room for them.
+pub fn mend(t: &mut [u64], n: usize)
+    requires { ⌜ Image (now t) × WellFormed (repairedOf (modelOf (now t))) × (n ≡ length (addedTo (modelOf (now t)))) ⌝ }
+    ensures { λ _. ⌜ now (t .exit) ≡ imageOf (repairedOf (modelOf (now (t .entry)))) ++ drop imageWords (now (t .entry)) ⌝ }
+{
+    raise_rows(t, n);
+    put_all(t, n);
 }

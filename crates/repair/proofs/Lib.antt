@@ -1,0 +1,4 @@
+pub mod Determined
+pub mod Answers
+pub mod Counted
+pub mod Called
