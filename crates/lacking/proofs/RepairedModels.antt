@@ -12,6 +12,8 @@ use lib.Seq.{ext-getD}
 use Rattle.laws.specs.Fold.{tab, spread}
 use Rattle.laws.proofs.FoldLaws.{tab-length, tab-at}
 use Rattle.laws.proofs.TabLaws.{spread-same}
+use Rattle.laws.proofs.GrowLaws.{spread-none}
+use Rattle.laws.proofs.TestLaws.{not-so}
 use Rattle.laws.proofs.ListLaws.{in-at, in-spread, spread-in, Pairwise, pairwise-spread, pairwise-next, pairwise-from}
 use Rattle.answer.specs.Limits.{maxActions}
 use Rattle.answer.specs.Told.{Told, tell}
@@ -216,3 +218,17 @@ module _ (m : Model) (w : WellFormed m) where
         ascend = r .ascend;
       }))
       ∙ sym (repaired-at m i l))
+
+pub nothing-added : (m : Model) → WellFormed m → addedTo (repairedOf m) ≡ []
+unfolding addedTo cellsOf cellAt
+nothing-added m w =
+    nowhere (λ i. cellsOf i (compAt (repairedOf m) i)) 0 (length (repairedOf m)) (λ i p q.
+    let l : i < length m = omega (arith, repaired-length m) in
+    let c = compAt (repairedOf m) i in
+    nowhere (λ s. spread (cellAt i c s) 0 maxActions) 0 (c .states) (λ s u v.
+    nowhere (cellAt i c s) 0 maxActions (λ a x y.
+    let e : lacksRow c s a ≡ false = not-so (lacksRow c s a) (λ t. none-lacked (compAt m i) (w .each i l) s a (rw (repaired-at m i l) at (lack-broken c s a (omega arith) t))) in
+    ap (λ b. cond b (cell i s a ∷ []) []) e)))
+  where
+    nowhere : {A : Type 0} (f : ℕ → List A) (k n : ℕ) → ((j : ℕ) → k ≤ j → j < k + n → f j ≡ []) → spread f k n ≡ []
+    nowhere f k n h = spread-same f (λ j. []) k n h ∙ spread-none (λ j. []) k n (λ j p. refl)

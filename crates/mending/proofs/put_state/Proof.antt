@@ -1,6 +1,6 @@
 -- `mending::put_state`: what is read, the rows and first[s] make the next stage.
 use mathlib.Core.Path.{_≡_, ap}
-use Prim.Native.Nat.{_+_}
+use Prim.Native.Nat.{_+_, _-_}
 use native.Mathlib.Omega.{arith}
 use lib.ListN.{length}
 use denote.Ref.{now}
@@ -88,7 +88,7 @@ returns c p =
     let s = f .before .before .before in
     let el = ap (λ x. x + s .args .n) (f .first-of .ensures) in
     let eh = ap (λ x. x + s .args .n) (h .first-of2 .ensures) in
-    state-done p _ _ _ _ el eh (l .lacking-in .ensures) _ _ (ap (λ x. s .args .w + _ + x) (k .count .ensures)) (r .put-rows .ensures) (c .before .before .put-first .ensures)
+    state-done p _ _ _ _ el eh (l .lacking-in .ensures) _ _ (ap (λ x. s .args .w + (h .first-of2 .result + s .args .n - (f .first-of .result + s .args .n)) + x) (k .count .ensures)) (r .put-rows .ensures) (c .before .before .put-first .ensures)
 
 pub put-state-spec : {M : Type 1} → statement M
 put-state-spec = tie.close (tie.spec first-of-requires add-lo add-first-of first-of-requires-2 add-hi lacking-in-requires sub-end add-end count-requires add-end-2 put-rows-requires put-first-requires same-length returns)
