@@ -94,9 +94,14 @@ module _ (μ : List Row → ℕ) (ν : List (List ℕ) → ℕ) (k : Measure μ 
       → ((x : ℕ) → j ≤ x → x < j + n → f (F x) ≡ ν (H x) + f (G x)) → φ (tab F j n) ≡ ν (spread H j n) + φ (tab G j n)
   models-sum φ f step base F G H j zero h = omega (arith, base, k .nothing)
   models-sum φ f step base F G H j (suc n) h =
-      omega
-      (arith, step (F j) (tab F (suc j) n), step (G j) (tab G (suc j) n), k .cells (H j) (spread H (suc j) n), h j (omega arith) (omega arith),
-      models-sum φ f step base F G H (suc j) n (λ x p q. h x (omega arith) (omega arith)))
+      omega (
+        arith,
+        step (F j) (tab F (suc j) n),
+        step (G j) (tab G (suc j) n),
+        k .cells (H j) (spread H (suc j) n),
+        h j (omega arith) (omega arith),
+        models-sum φ f step base F G H (suc j) n (λ x p q. h x (omega arith) (omega arith)),
+      )
 
 counted : Measure length length
 counted = record { none = refl; nothing = refl; rows = length-append; cells = length-append; one = λ i s a. refl }

@@ -235,8 +235,14 @@ module _ {u : List ℕ} {n : ℕ} (p : AtStart u n) where
   rows-new : (i : ℕ) → i < countOf TA → rowCount (take (suc i) (modelOf XA)) ≡ firstOf XA i (blockWord TA i 0)
   rows-new i h =
       let g : i < countOf XA = omega (arith, same-count TA XA n (p .work)) in
-      omega (arith, rows-next (modelOf XA) i (omega (arith, model-length XA)), rows-end XA (p .work .again) i g, first-start XA (p .work .again) i g, ap (λ c. length (c .rows)) (comp-at XA i g),
-      ap (firstOf XA i) (head-same TA XA n (p .work) i h 0 (omega arith)))
+      omega (
+        arith,
+        rows-next (modelOf XA) i (omega (arith, model-length XA)),
+        rows-end XA (p .work .again) i g,
+        first-start XA (p .work .again) i g,
+        ap (λ c. length (c .rows)) (comp-at XA i g),
+        ap (firstOf XA i) (head-same TA XA n (p .work) i h 0 (omega arith)),
+      )
 
   abbrev pub at-comp : (v : List ℕ) (i w : ℕ) → i < countOf TA → Reached p v i w → AtComp v n i w
   at-comp v i w h r = record {

@@ -20,7 +20,7 @@ returns : tie.Need-returns
 returns c =
     let call = c .before .before .before .before .before .repair in
     let args = c .before .before .before .before .before .before .before .before .before .before .args in
-    (c .written-words .ensures (numberIn (repairOn (args .table .now) (args .list .now))) (call .ensures .answer), call .ensures .table, call .ensures .list)
+    (c .written-words .ensures (numberIn (repairOn (args .table .now) (args .list .now))) (call .ensures .answer), (call .ensures .table, call .ensures .list))
 
 pub floodneedle-repair-spec : {M : Type 1} → statement M
 floodneedle-repair-spec = tie.close (tie.spec repair-requires written-words-requires same-length same-length-2 returns)
