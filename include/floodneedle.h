@@ -87,7 +87,7 @@ enum floodneedle_refusal {
   FLOODNEEDLE_NOT_ENABLED = 23,          /* an action that was named or listed is no enabled urgent output */
   FLOODNEEDLE_BUFFER_TOO_SHORT = 24,     /* the place is the number of bytes needed */
   FLOODNEEDLE_COMPONENT_ABSENT = 25,     /* no component has this index, or none the next one in merging */
-  FLOODNEEDLE_MERGED_TOO_LARGE = 26,     /* the merged model would exceed a limit */
+  FLOODNEEDLE_MERGED_TOO_LARGE = 26,     /* the merged or repaired model would exceed a limit */
   FLOODNEEDLE_NOT_STABLE = 27,           /* timed: an urgent output is enabled */
   FLOODNEEDLE_VALUES_MISFIT = 28,        /* timed: not FLOODNEEDLE_CLOCKS values, or one outside -2^40 to 2^40 */
   FLOODNEEDLE_CLOCK_BELOW_ZERO = 29,     /* timed: an enabling clock is below zero */

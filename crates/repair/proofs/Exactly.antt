@@ -1,26 +1,32 @@
 -- Where the contract of `repair` says done, the lent table holds the repaired model, and that never earns 12.
 use mathlib.Core.Path.{_≡_, refl, sym, _∙_, ap}
-use mathlib.Core.Option.{some, Option·some-inj}
+use mathlib.Core.Bool.{_||_}
+use mathlib.Core.Option.{Option, none, some, Option·some-inj}
 use mathlib.Core.List.{List, [], _∷_, _++_}
-use Prim.Native.Nat.{ℕ}
+use Prim.Native.Nat.{ℕ, _*_}
 use native.Mathlib.Omega.{arith}
-use lib.ListN.{length, drop}
+use lib.ListN.{length, take, drop}
 use lib.Seq.{take-at}
-use Rattle.answer.specs.Told.{Told, Answer, answered, refused, saysWritten}
+use lib.Dec.{ltb}
+use Rattle.laws.specs.Search.{when, orElse}
+use Rattle.answer.specs.Limits.{maxRows, maxBytes}
+use Rattle.answer.specs.Told.{Told, tell, Answer, answered, refused, saysWritten}
 use Rattle.answer.specs.declared.Written.the-variants.{Length}
-use Rattle.iosa.specs.Model.{Comp, Model}
+use Rattle.iosa.specs.Model.{Comp, Model, rowCount}
+use Rattle.iosa.specs.Text.{textOf}
 use Rattle.iosa.specs.WellFormed.{WellFormed}
 use Rattle.iosa.specs.Checks.{componentOf, acceptOf}
 use Rattle.iosa.specs.InOrder.{refuses, passes, gives}
 use Rattle.layout.specs.Layout.{imageWords}
-use Rattle.layout.specs.Image.{imageOf, modelOf}
+use Rattle.layout.specs.Image.{Image, imageOf, modelOf}
 use Rattle.layout.specs.OnImage.{Holds, OnImage, is20, of-model}
 use Rattle.layout.proofs.ReadBack.{length-of-image}
 use Rattle.layout.proofs.ModelOfImage.{model-is}
 use Rattle.lacking.specs.Repair.{repairedOf, addedTo}
 use Rattle.lacking.specs.Repaired.{Mended, Small}
+use Rattle.lacking.specs.Walk.{cellBytes}
 use Rattle.lacking.proofs.RepairedModels.{only-mended, repaired-well-formed, repaired-accept-never-12, repaired-component-never-12}
-use Rattle.repair.specs.Repairing.{numberIn, tableWith, Repairing}
+use Rattle.repair.specs.Repairing.{repairOf, numberIn, tableWith, Repairing}
 use Rattle.repair.specs.RepairExactly.{RepairAnswer, of-repaired}
 use Rattle.repair.proofs.Answers.{repair-answers-exactly}
 
@@ -33,6 +39,7 @@ pub record Done (t t′ : List ℕ) : Type 0 where
   pub held : Holds t model
   pub well : WellFormed (repairedOf model)
   pub now-held : modelOf t′ ≡ repairedOf model
+  pub image : Image t′
 
 module _ (t l t′ l′ : List ℕ) (n : ℕ) (g : Repairing t l (Length n) t′ l′) where
   told : (a : Answer Mended) → saysWritten (Length n) ≡ some (numberIn a) → answered n ≡ numberIn a
@@ -45,11 +52,13 @@ module _ (t l t′ l′ : List ℕ) (n : ℕ) (g : Repairing t l (Length n) t′
       fine : (c : Comp) (cs : List Comp) → Holds t (c ∷ cs) → Small (repairedOf (c ∷ cs)) → t′ ≡ imageOf (repairedOf (c ∷ cs)) ++ drop imageWords t → Done t t′
       fine c cs h s e =
           let w = repaired-well-formed (c ∷ cs) (h .well) s in
+          let f = ap (take imageWords) e ∙ take-at (imageOf (repairedOf (c ∷ cs))) (drop imageWords t) imageWords (length-of-image (repairedOf (c ∷ cs)) w) in
           record {
             model = c ∷ cs;
             held = h;
             well = w;
-            now-held = ap modelOf e ∙ model-is (repairedOf (c ∷ cs)) _ w (take-at (imageOf (repairedOf (c ∷ cs))) (drop imageWords t) imageWords (length-of-image (repairedOf (c ∷ cs)) w));
+            now-held = model-is (repairedOf (c ∷ cs)) t′ w f;
+            image = record { model = repairedOf (c ∷ cs); well = w; front = f };
           }
 
       of-answer : (c : Comp) (cs : List Comp) → Holds t (c ∷ cs) → (a : Answer Mended) → RepairAnswer (length l) c cs a → answered n ≡ numberIn a → t′ ≡ tableWith a t → Done t t′
@@ -61,7 +70,7 @@ module _ (t l t′ l′ : List ℕ) (n : ℕ) (g : Repairing t l (Length n) t′
           fine c cs h (rw v at s) (q ∙ ap (λ b. imageOf (b .model) ++ drop imageWords t) z)
 
       of-image : (a : Answer Mended) → OnImage t (RepairAnswer (length l)) a → answered n ≡ numberIn a → t′ ≡ tableWith a t → Done t t′
-      of-image a (is20 none) e q = absurd (never e)
+      of-image a (is20 nowhere) e q = absurd (never e)
       of-image a (of-model {c = c} {cs = cs} h r) e q = of-answer c cs h a r e q
 
   -- "The result is proved never to earn 12"
@@ -72,3 +81,16 @@ module _ (t l t′ l′ : List ℕ) (n : ℕ) (g : Repairing t l (Length n) t′
   repair-component-never-12 i f e k =
       let d = repair-done in
       repaired-component-never-12 (d .model) (d .held .well) (d .well) i f (ap (λ m. componentOf m i) (sym (d .now-held)) ∙ e) k
+
+-- what is answered of a model is the repaired one
+pub answered-is : (bytes : ℕ) (m : Model) (d : Mended) → repairOf bytes m ≡ answered d → d .model ≡ repairedOf m
+unfolding repairOf
+answered-is bytes m d e =
+    go (orElse (when (ltb bytes (cellBytes * length (addedTo m))) (tell 24 (cellBytes * length (addedTo m) ∷ []))) (when (ltb maxRows (rowCount (repairedOf m)) || ltb maxBytes (length (textOf (repairedOf m)))) (tell 26 (0 ∷ [])))) e
+  where
+    go : (o : Option Told) → (elim o as (λ _. Answer Mended) [ some t ↦ refused t | none ↦ answered (record { model = repairedOf m; added = addedTo m }) ]) ≡ answered d → d .model ≡ repairedOf m
+    go none q = let z : record { model = repairedOf m; added = addedTo m } ≡ d = same q in ap (λ x. x .model) (sym z)
+      where
+        same : {x y : Mended} → answered x ≡ answered y → x ≡ y
+        same e = cc
+    go (some t) q = absurd (never (sym q))
