@@ -90,7 +90,7 @@ enum floodneedle_refusal {
   FLOODNEEDLE_NOT_ENABLED = 23,          /* an action that was named or listed is no enabled urgent output */
   FLOODNEEDLE_BUFFER_TOO_SHORT = 24,     /* the place is the number of bytes needed */
   FLOODNEEDLE_COMPONENT_ABSENT = 25,     /* no component has this index, or none the next one in merging */
-  FLOODNEEDLE_MERGED_TOO_LARGE = 26,     /* the merged model would exceed a limit */
+  FLOODNEEDLE_MERGED_TOO_LARGE = 26,     /* the merged or repaired model would exceed a limit */
   FLOODNEEDLE_NOT_STABLE = 27,           /* timed: an urgent output is enabled */
   FLOODNEEDLE_VALUES_MISFIT = 28,        /* timed: not FLOODNEEDLE_CLOCKS values, or one outside -2^40 to 2^40 */
   FLOODNEEDLE_CLOCK_BELOW_ZERO = 29,     /* timed: an enabling clock is below zero */
@@ -170,6 +170,15 @@ void floodneedle_confluent(const uint64_t *table, size_t table_words, struct flo
  * FLOODNEEDLE_STATES states, or over FLOODNEEDLE_ROWS rows or FLOODNEEDLE_TEXT bytes of text in the whole model). */
 void floodneedle_merge(const uint64_t *table, size_t table_words, uint64_t i, uint64_t *into, size_t into_words,
                        struct floodneedle_answer *answer);
+
+/* Puts a self-loop (no guard, no resets) into the table's model wherever a state lacks a row of one of its component's inputs, `in` or
+ * `uin`; all other rows and everything else stay. Works in the lent table; words behind the image stay. Each added row is listed at the
+ * front of `list` as three bytes, component, state, action, ascending; later bytes stay. Done, with `count` the number of added rows: 0
+ * where none lacked, and then neither buffer changes. The model need not be accepted. The result never earns 12 of accept or component,
+ * and a second repair adds nothing.
+ * Refuses: 20, 24 (of the list; bytes needed: 3 for each row to be added), 26 (over FLOODNEEDLE_ROWS rows or FLOODNEEDLE_TEXT bytes of
+ * text in the repaired model). */
+void floodneedle_repair(uint64_t *table, size_t table_words, uint8_t *list, size_t list_bytes, struct floodneedle_answer *answer);
 
 /* One urgent step, by the lowest-numbered enabled urgent output: moved, with action and resets, or stable. `after` is always written:
  * the state after the step, the state as given where stable, zeros where refused; places past the state's own are 0.
