@@ -25,6 +25,7 @@ void try_stated() {
   stated_runs();
   stated_clocks();
   stated_merges();
+  stated_repairs();
   stated_requests();
   stated_sizes();
 }

@@ -17,6 +17,7 @@ void stated_components();
 void stated_runs();
 void stated_clocks();
 void stated_merges();
+void stated_repairs();
 void stated_requests();
 void stated_sizes();
 
