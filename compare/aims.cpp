@@ -4,7 +4,6 @@
 
 #include "damage.hpp"
 #include "drawing.hpp"
-#include "repairing.hpp"
 #include "text_writing.hpp"
 
 namespace {

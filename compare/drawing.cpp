@@ -3,8 +3,6 @@
 #include "acceptance.hpp"
 #include "composition.hpp"
 #include "damage.hpp"
-#include "generate_limits.hpp"
-#include "repairing.hpp"
 #include "text_writing.hpp"
 
 namespace drawing {
@@ -72,6 +70,25 @@ second::Model model(Random& random) {
   return second::generate(random, second::families[random.chance(90) ? random.below(5) : random.below(9)], of_size);
 }
 
+Table lengthened(Random& random, Table table) {
+  if (random.chance(60)) return table;
+  const unsigned more = random.between(1, 9);
+  for (unsigned word = 0; word < more; ++word) table.push_back(random.next());
+  return table;
+}
+
+Table room(Random& random) {
+  const std::size_t more = random.chance(60) ? 0 : random.below(9);
+  return noise(random, second::image_words + more);
+}
+
+Table odd_room(Random& random) {
+  const unsigned style = random.below(10);
+  if (style < 8) return room(random);
+  const std::size_t words = style < 9 ? second::image_words - 1 : random.below(3);
+  return noise(random, words);
+}
+
 second::Model deaf(Random& random, second::Model model) {
   static const std::vector<unsigned> percents = {0, 2, 20, 60, 100};
   const unsigned percent = random.pick(percents);
@@ -93,7 +110,9 @@ second::Model deaf(Random& random, second::Model model) {
 
 second::Model deaf_at_a_limit(Random& random) {
   for (;;) {
-    const second::Model some = deaf(random, second::generate(random, second::families[random.below(5)], size(random)));
+    const auto of_size = size(random);
+    const second::Family family = second::families[random.below(5)];
+    const second::Model some = deaf(random, second::generate(random, family, of_size));
     const std::vector<second::Cell> cells = second::lacking_rows(some);
     const second::Model whole = second::repaired(some, cells);
     const std::uint64_t text = second::text_of_model(some).size(), whole_text = second::text_of_model(whole).size();
@@ -112,25 +131,6 @@ Bytes list_room(Random& random, const Drawn& drawn) {
   const unsigned style = random.below(10);
   const std::size_t bytes = style < 5 ? need : style < 8 ? need + random.below(40) : style < 9 && need > 0 ? need - 1 : random.below(need + 1);
   return noise_bytes(random, bytes);
-}
-
-Table lengthened(Random& random, Table table) {
-  if (random.chance(60)) return table;
-  const unsigned more = random.between(1, 9);
-  for (unsigned word = 0; word < more; ++word) table.push_back(random.next());
-  return table;
-}
-
-Table room(Random& random) {
-  const std::size_t more = random.chance(60) ? 0 : random.below(9);
-  return noise(random, second::image_words + more);
-}
-
-Table odd_room(Random& random) {
-  const unsigned style = random.below(10);
-  if (style < 8) return room(random);
-  const std::size_t words = style < 9 ? second::image_words - 1 : random.below(3);
-  return noise(random, words);
 }
 
 Bytes state(Random& random, const Drawn& drawn) {
