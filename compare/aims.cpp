@@ -28,7 +28,8 @@ Model model_for(Random& random, const Aim& aim) {
   // What comes behind 18 in one call comes before it in another, so all of these are confluent.
   static const std::vector<Family> settling = {Family::confluent, Family::endless, Family::sharing};
   static const std::vector<Family> timing = {Family::confluent, Family::sharing};
-  return second::generate(random, random.pick(within(number, 28, 30) || aim.call == &calls::timed_step ? timing : settling), size);
+  const bool no_endless = number == 19 || within(number, 28, 30) || aim.call == &calls::timed_step;
+  return second::generate(random, random.pick(no_endless ? timing : settling), size);
 }
 
 std::string too_long(Random& random, std::string text) {
@@ -65,10 +66,18 @@ std::string text_for(Random& random, unsigned number) {
   }
 }
 
+Bytes state_for(Random& random, unsigned number, const Drawn& drawn) {
+  switch (number) {
+    case 19: return drawing::unreached_state(random, drawn);
+    case 21: return second::generate_odd_state(random, drawn.model);
+    default: return drawing::state(random, drawn);
+  }
+}
+
 // The program's input: 9 and 1 to 8 by what is wrong with it, the rest by its model, state and budget.
 Bytes input_for(Random& random, const Aim& aim, const Drawn& drawn) {
   const unsigned number = number_of(aim);
-  const Bytes state = number == 21 ? second::generate_odd_state(random, drawn.model) : drawing::state(random, drawn);
+  const Bytes state = state_for(random, number, drawn);
   const std::uint64_t budget = number == 22 ? second::max_budget + 1 + random.below(90000) : second::generate_budget(random);
   std::string request = second::request_line(state, budget);
   if (number == 9) request = second::damaged_request(random, request);
@@ -107,7 +116,7 @@ Loan loan_for(Random& random, const Aim& aim, const Drawn& drawn) {
   }
   const Table table = number == 20 ? second::damaged_table(random, drawn.table) : drawn.table;
   loan.table = drawing::lengthened(random, table);
-  loan.state = number == 21 ? second::generate_odd_state(random, drawn.model) : drawing::state(random, drawn);
+  loan.state = state_for(random, number, drawn);
   loan.bytes = within(number, 22, 23) ? second::generate_odd_list(random, drawn.model, loan.state) : drawing::list(random, drawn, loan.state);
   loan.number = number_for(random, aim, drawn, loan.bytes);
   loan.out = out_for(random, aim, drawn, loan.number);

@@ -171,13 +171,13 @@ const Call accept = {"accept", engine_accept, second_accept, numbers({{10, 17}, 
 const Call confluent = {"confluent", engine_confluent, second_confluent, numbers({{10, 18}, {20, 20}}, {"done"}), answered_kind};
 const Call step = {"step", engine_step, second_step, numbers({{10, 17}, {20, 21}}, {"moved", "stable"}), answered_kind};
 const Call step_by = {"step_by", engine_step_by, second_step_by, numbers({{10, 17}, {20, 21}, {23, 23}}, {"moved"}), answered_kind};
-const Call settle = {"settle", engine_settle, second_settle, numbers({{10, 18}, {20, 22}, {24, 24}}, {"stable", "unsettled"}), answered_kind};
-const Call settle_list = {"settle_list", engine_settle_list, second_settle_list, numbers({{10, 18}, {20, 23}}, {"stable", "unsettled"}),
+const Call settle = {"settle", engine_settle, second_settle, numbers({{10, 22}, {24, 24}}, {"stable", "unsettled"}), answered_kind};
+const Call settle_list = {"settle_list", engine_settle_list, second_settle_list, numbers({{10, 23}}, {"stable", "unsettled"}),
                           answered_kind};
 const Call timed_step = {"timed_step", engine_timed_step, second_timed_step, numbers({{10, 17}, {20, 21}, {27, 30}}, {"fired", "quiet"}),
                          answered_kind};
 const Call merge = {"merge", engine_merge, second_merge, numbers({{10, 17}, {20, 20}, {24, 26}}, {"done"}), answered_kind};
-const Call report = {"report", engine_report, second_report, numbers({{1, 18}, {21, 22}, {24, 24}}, {"stable", "unsettled"}), printed_kind};
+const Call report = {"report", engine_report, second_report, numbers({{1, 19}, {21, 22}, {24, 24}}, {"stable", "unsettled"}), printed_kind};
 const Call advance = {"advance", engine_advance, second_advance, numbers({{10, 17}, {20, 21}}, {"moved", "stable"}), answered_kind};
 
 const Call* const all[17] = {&recognise, &check_text, &read,    &write,       &start,      &component, &compatible, &accept, &confluent,

@@ -3,6 +3,7 @@
 #include "acceptance.hpp"
 #include "composition.hpp"
 #include "damage.hpp"
+#include "reach.hpp"
 #include "text_writing.hpp"
 
 namespace drawing {
@@ -93,7 +94,24 @@ Bytes state(Random& random, const Drawn& drawn) {
   return random.chance(50) ? second::generate_state(random, drawn.model) : second::generate_calm_state(random, drawn.model);
 }
 
+Bytes unreached_state(Random& random, const Drawn& drawn) {
+  Bytes parts = second::generate_reached_state(random, drawn.model);
+  // Every such component in some draws, so that the lowest of several has to be told; else one of them.
+  const bool all = random.chance(30);
+  const unsigned from = random.below(parts.size());
+  for (unsigned n = 0; n < parts.size(); ++n) {
+    const unsigned c = (from + n) % parts.size();
+    const std::vector<bool> reached = second::reached(drawn.model.components[c]);
+    const unsigned first = random.below(reached.size());
+    for (unsigned s = 0; s < reached.size(); ++s)
+      if (!reached[(first + s) % reached.size()]) parts[c] = static_cast<std::uint8_t>((first + s) % reached.size());
+    if (!all && !reached[parts[c]]) break;
+  }
+  return parts;
+}
+
 Bytes odd_state(Random& random, const Drawn& drawn) {
+  if (random.chance(10)) return unreached_state(random, drawn);
   return random.chance(85) ? state(random, drawn) : second::generate_odd_state(random, drawn.model);
 }
 

@@ -31,8 +31,10 @@ Table lengthened(Random& random, Table table);
 Table room(Random& random);
 Table odd_room(Random& random);
 
-// Right for the model, stable or not; the odd one may be of wrong length or range.
+// Right for the model, stable or not; the unreached one has a part that its component does not get to, if there is such a state; the odd one may be
+// of wrong length or range.
 Bytes state(Random& random, const Drawn& drawn);
+Bytes unreached_state(Random& random, const Drawn& drawn);
 Bytes odd_state(Random& random, const Drawn& drawn);
 
 // Actions to take one after the other; the odd ones need not be enabled, and there may be too many.

@@ -12,13 +12,14 @@
  * field is 0, `after` is zeros, and nothing is stored to any other lent buffer. Where nothing is refused, `number`, `places` and `place` are
  * 0, and so is every field that the answer does not use.
  *
- * In a model that `confluent` accepts, urgent steps that come to an end come to the same one in whatever order they are taken. settle and
- * settle_list ask for that each time. step, step_by, advance and timed_step do not: in a model that `confluent` refuses with 18, what a loop
- * over them arrives at can depend on which of several enabled actions is taken first. Whoever loops over them asks `confluent` once.
+ * In a model that `confluent` accepts, from a state each part of which its component can reach (19), urgent steps that come to an end come
+ * to the same one in whatever order they are taken. settle and settle_list ask for both each time. step, step_by, advance and timed_step do
+ * not: in a model that `confluent` refuses with 18, what a loop over them arrives at can depend on which of several enabled actions is taken
+ * first. Whoever loops over them asks `confluent` once, and begins at the start or where settling led to.
  *
  * Stack, in bytes, the deepest seen of each call (`make -C compare stack` measures it, and holds these numbers to it):
- *   recognise 240, check_text 560, read 704, write 400, start 496, component 1568, compatible 656, accept 1872, confluent 2064, merge 2048,
- *   step 2224, advance 2288, step_by 2016, settle 2368, settle_list 2320, timed_step 2048, report 70240 (it keeps a table of its own).
+ *   recognise 240, check_text 560, read 704, write 400, start 496, component 1568, compatible 656, accept 1872, confluent 2128, merge 2048,
+ *   step 2224, advance 2288, step_by 2016, settle 2736, settle_list 2688, timed_step 2048, report 70672 (it keeps a table of its own).
  *
  * A model is a text (docs/MODEL.md), without the request line that the program `settle` reads in front of it. A table is what
  * floodneedle_read makes of it, 64-bit words at the front of a buffer; what lies behind the image is neither read nor changed. No caller
@@ -82,6 +83,7 @@ enum floodneedle_refusal {
   FLOODNEEDLE_CLOCK_SHARED = 16,         /* two components have one clock */
   FLOODNEEDLE_URGENCY_DIFFERS = 17,      /* an action is urgent in one component and not in another */
   FLOODNEEDLE_NOT_CONFLUENT = 18,        /* the order of two urgent actions of a component matters */
+  FLOODNEEDLE_NOT_REACHED = 19,          /* a part of the state is one that its component cannot reach */
   FLOODNEEDLE_NO_IMAGE = 20,             /* the table is not the image of a model */
   FLOODNEEDLE_STATE_MISFITS = 21,        /* a state of wrong length or range */
   FLOODNEEDLE_TOO_MANY_STEPS = 22,       /* a budget or a list over FLOODNEEDLE_BUDGET */
@@ -156,7 +158,8 @@ void floodneedle_compatible(const uint64_t *table, size_t table_words, struct fl
  * Refuses: 20; 10 to 14 for each component in turn; 15, 16, 17. */
 void floodneedle_accept(const uint64_t *table, size_t table_words, struct floodneedle_answer *answer);
 
-/* Done exactly where the model is accepted and every component is confluent.
+/* Done exactly where the model is accepted and every component is confluent in the states that it can reach: from its start by rows of
+ * which every non-urgent one leaves a stable state.
  * Refuses: as accept, then 18. */
 void floodneedle_confluent(const uint64_t *table, size_t table_words, struct floodneedle_answer *answer);
 
@@ -190,12 +193,14 @@ void floodneedle_step_by(const uint64_t *table, size_t table_words, const uint8_
 /* Takes the lowest-numbered enabled urgent output at most `budget` times: stable exactly where none is enabled at the end, else unsettled;
  * `count` steps, `resets` the clocks reset at least once, `after` the state reached. The actions taken are the first `count` bytes of the
  * trace; its later bytes stay.
- * Refuses: as confluent, then 21, 22 (budget over 4,096), 24 (trace shorter than the budget). */
+ * Refuses: as confluent, then 21, 19 (the lowest component that cannot reach its part), 22 (budget over 4,096), 24 (trace shorter than the
+ * budget). */
 void floodneedle_settle(const uint64_t *table, size_t table_words, const uint8_t *state, size_t parts, uint64_t budget,
                         uint8_t *trace, size_t trace_bytes, uint8_t after[FLOODNEEDLE_STATE], struct floodneedle_answer *answer);
 
 /* Takes the listed actions in order and answers as settling does.
- * Refuses: as confluent, then 21, 22 (list over 4,096), 23 at the index of the first listed action that is not an enabled urgent output. */
+ * Refuses: as confluent, then 21, 19 (the lowest component that cannot reach its part), 22 (list over 4,096), 23 at the index of the first
+ * listed action that is not an enabled urgent output. */
 void floodneedle_settle_list(const uint64_t *table, size_t table_words, const uint8_t *state, size_t parts,
                              const uint8_t *list, size_t list_bytes, uint8_t after[FLOODNEEDLE_STATE], struct floodneedle_answer *answer);
 

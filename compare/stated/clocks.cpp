@@ -117,13 +117,13 @@ void no_clock_waits() {
   loan.state = {0};
   expect("27 before 28", calls::timed_step, loan, refused(27, {0}));
   // The step asks for no confluence.
-  const Table clash = image(tabbed("comp 3 2\nact 0 uout\nact 1 uout\nact 2 out\nclk 63 1\nrow 0 - 0 - 1\nrow 0 - 1 - 1\nrow 2 63 2 - 1\n"));
+  const Table clash = image(tabbed("comp 3 2\nact 0 uout\nact 1 uout\nact 2 out\nclk 63 1\nrow 0 - 0 - 1\nrow 0 - 1 - 1\nrow 2 63 2 - 0\n"));
   expect_checks("a model that is not confluent", clash, done(), refused(18, {0, 0, 0, 1}));
   loan = lent_state(clash, {2});
   loan.clocks = Clocks(64, 7);
   Loan left = loan;
   left.clocks[63] = 0;
-  expect("clock 63, and no 18", calls::timed_step, loan, fired(7, 2, 0, {1}), left);
+  expect("clock 63, and no 18", calls::timed_step, loan, fired(7, 2, 0, {0}), left);
 }
 
 }  // namespace

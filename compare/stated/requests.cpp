@@ -6,16 +6,6 @@
 
 namespace {
 
-void expect_report(const std::string& input, const std::string& report) {
-  const std::string why = "the input " + input.substr(0, 100);
-  Loan loan;
-  loan.bytes = bytes_of(input);
-  loan.out = Bytes(report_bytes + 3, 0x77);
-  Loan left = loan;
-  std::copy(report.begin(), report.end(), left.out.begin());
-  expect(why, calls::report, loan, done(report.size()), left);
-}
-
 std::string printed(const second::Refusal& refusal) {
   std::string line = "refused\t" + std::to_string(refusal.number);
   for (std::uint64_t p = 0; p < refusal.places; ++p) line += (p == 0 ? "\t" : ",") + std::to_string(refusal.place[p]);

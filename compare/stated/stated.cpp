@@ -23,6 +23,7 @@ void try_stated() {
   stated_models();
   stated_components();
   stated_runs();
+  stated_reached();
   stated_clocks();
   stated_merges();
   stated_requests();
@@ -98,6 +99,16 @@ Loan lent_state(const Table& table, const Bytes& state) {
   Loan loan = lent_table(table);
   loan.state = state;
   return loan;
+}
+
+void expect_report(const std::string& input, const std::string& report) {
+  const std::string why = "the input " + input.substr(0, 100);
+  Loan loan;
+  loan.bytes = bytes_of(input);
+  loan.out = Bytes(report_bytes + 3, 0x77);
+  Loan left = loan;
+  std::copy(report.begin(), report.end(), left.out.begin());
+  expect(why, calls::report, loan, done(report.size()), left);
 }
 
 void expect_checks(const std::string& why, const Table& table, const Said& accepted, const Said& confluent) {

@@ -15,6 +15,7 @@ void stated_tables();
 void stated_models();
 void stated_components();
 void stated_runs();
+void stated_reached();
 void stated_clocks();
 void stated_merges();
 void stated_requests();
@@ -51,6 +52,9 @@ Text repeated(const Text& piece, unsigned times);
 
 Loan lent_table(const Table& table);
 Loan lent_state(const Table& table, const Bytes& state);
+
+// A report with bytes to spare: just this is printed.
+void expect_report(const std::string& input, const std::string& report);
 
 // Both checks on a table, and every other call that makes them, whose own refusals all come later.
 void expect_checks(const std::string& why, const Table& table, const Said& accepted, const Said& confluent);

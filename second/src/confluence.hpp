@@ -1,4 +1,4 @@
-// Confluence of every component: refusal 18.
+// Confluence of every component in the states that it can get to: refusal 18.
 #pragma once
 
 #include "model.hpp"

@@ -17,7 +17,7 @@ enum class Family {
   accepted,       // 10 to 17 pass; confluent or not
   confluent,      // 18 passes too
   clashing,       // accepted, not confluent
-  endless,        // confluent, unsettled at any budget from any state
+  endless,        // confluent, unsettled at any budget from any state made of reached parts
   sharing,        // confluent, many components that share most actions
   components_32,  // confluent, 32 components
   rows_1024,      // confluent, 1,024 rows
@@ -41,9 +41,10 @@ Model generate_failing(Random& random, unsigned number, Size size);
 // A model that reading allows, with several faults of 10 to 18 at once.
 Model generate_faulty(Random& random, Size size);
 
-// A state of the model; the calm one is stable if a few tries find one that is; the odd one may be
-// of wrong length or range.
+// A state of the model, made of reached parts in most draws; the reached one always is; the calm one
+// is stable if a few tries find one that is; the odd one may be of wrong length or range.
 std::vector<std::uint8_t> generate_state(Random& random, const Model& model);
+std::vector<std::uint8_t> generate_reached_state(Random& random, const Model& model);
 std::vector<std::uint8_t> generate_calm_state(Random& random, const Model& model);
 std::vector<std::uint8_t> generate_odd_state(Random& random, const Model& model);
 

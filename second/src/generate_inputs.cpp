@@ -2,6 +2,7 @@
 #include "active.hpp"
 #include "composition.hpp"
 #include "generate.hpp"
+#include "reach.hpp"
 
 namespace second {
 namespace {
@@ -12,7 +13,19 @@ constexpr std::int64_t most_tick = INT64_MAX;
 
 }  // namespace
 
+std::vector<std::uint8_t> generate_reached_state(Random& random, const Model& model) {
+  std::vector<std::uint8_t> state;
+  for (const Component& component : model.components) {
+    const std::vector<bool> marks = reached(component);
+    unsigned part = random.below(component.states);
+    while (!marks[part]) part = (part + 1) % component.states;
+    state.push_back(static_cast<std::uint8_t>(part));
+  }
+  return state;
+}
+
 std::vector<std::uint8_t> generate_state(Random& random, const Model& model) {
+  if (random.chance(70)) return generate_reached_state(random, model);
   std::vector<std::uint8_t> state;
   for (const Component& component : model.components)
     state.push_back(static_cast<std::uint8_t>(random.below(component.states)));

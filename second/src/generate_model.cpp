@@ -64,8 +64,10 @@ Model confluent_model(Random& random, Shape shape) {
   for (;; shape = halved(shape)) {
     Model model;
     model.components = generate_signatures(random, shape);
-    for (Component& component : model.components)
+    for (Component& component : model.components) {
       fill_confluent(random, component, random.between(1, shape.states), members);
+      if (random.chance(20)) add_unreached(random, component);
+    }
     if (!too_large(model)) return model;
   }
 }

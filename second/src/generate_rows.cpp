@@ -3,6 +3,7 @@
 #include <algorithm>
 
 #include "acceptance.hpp"
+#include "active.hpp"
 #include "generate_signatures.hpp"
 
 namespace second {
@@ -249,6 +250,31 @@ void fill_tuples(Random& random, Component& component, unsigned states, unsigned
 }
 
 }  // namespace
+
+void add_unreached(Random& random, Component& component) {
+  if (component.states == max_states) return;
+  const unsigned place = random.below(component.states + 1);
+  const auto moved_up = [&](unsigned state) { return state < place ? state : state + 1; };
+  for (Row& row : component.rows) {
+    row.from = moved_up(row.from);
+    row.target = moved_up(row.target);
+  }
+  component.start = moved_up(component.start);
+  ++component.states;
+  for (unsigned action = 0; action < members; ++action) {
+    const Kind kind = component.kind[action];
+    if (!is_input(kind) && !(kind == Kind::uout && random.chance(50))) continue;
+    // Every clock is reset on the way out, so that (f) asks nothing of this state.
+    component.rows.push_back(plain_row(place, action, random.below(component.states), component.clocks));
+  }
+  std::sort(component.rows.begin(), component.rows.end());
+  // At times rows do lead there, but such as are never taken.
+  if (random.chance(50)) return;
+  std::vector<bool> calm;
+  for (unsigned state = 0; state < component.states; ++state) calm.push_back(stable(component, state));
+  for (Row& row : component.rows)
+    if (!calm[row.from] && !is_urgent(component.kind[row.action]) && random.chance(40)) row.target = place;
+}
 
 void fill_confluent(Random& random, Component& component, unsigned states, unsigned always) {
   // Now and then one that is confluent by luck, for shapes that tuples don't have.

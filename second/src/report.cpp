@@ -5,6 +5,7 @@
 
 #include "acceptance.hpp"
 #include "number.hpp"
+#include "reach.hpp"
 #include "settling.hpp"
 #include "text_reading.hpp"
 #include "text_writing.hpp"
@@ -62,9 +63,10 @@ std::string report(Bytes input) {
   if (Refusal broken = acceptance_and_confluence(reading.model)) return refused_line(broken);
   if (!fits(reading.model, request->state.data(), request->state.size()))
     return refused_line(refuse(21, {0}));
-  if (request->budget > max_budget) return refused_line(refuse(22, {0}));
   State from;
   for (std::uint32_t part : request->state) from.parts[from.count++] = static_cast<std::uint8_t>(part);
+  if (const auto part = unreached_part(reading.model, from)) return refused_line(refuse(19, {*part}));
+  if (request->budget > max_budget) return refused_line(refuse(22, {0}));
   return run_lines(settle_by_rule(reading.model, from, request->budget));
 }
 

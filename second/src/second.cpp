@@ -8,6 +8,7 @@
 #include "compatible.hpp"
 #include "composition.hpp"
 #include "merging.hpp"
+#include "reach.hpp"
 #include "settling.hpp"
 #include "text_reading.hpp"
 #include "text_writing.hpp"
@@ -36,6 +37,14 @@ Ground ground(Words table, Refusal (*checks)(const Model&), Bytes state) {
   if (!fits(found.model, state.front, state.length)) return {refuse(21, {0}), {}, {}};
   found.state.count = state.length;
   std::copy_n(state.front, state.length, found.state.parts);
+  return found;
+}
+
+// As settling takes them: each part must be a state that its component can get to, or 19.
+Ground settling_ground(Words table, Bytes state) {
+  Ground found = ground(table, acceptance_and_confluence, state);
+  if (found.refusal) return found;
+  if (const auto part = unreached_part(found.model, found.state)) return {refuse(19, {*part}), {}, {}};
   return found;
 }
 
@@ -119,7 +128,7 @@ StepAnswer step_by(Words table, Bytes state, std::uint64_t action) {
 }
 
 SettleAnswer settle(Words table, Bytes state, std::uint64_t budget, BytesToWrite trace) {
-  const Ground on = ground(table, acceptance_and_confluence, state);
+  const Ground on = settling_ground(table, state);
   if (on.refusal) return refused<SettleAnswer>(on.refusal);
   if (budget > max_budget) return refused<SettleAnswer>(refuse(22, {0}));
   if (trace.length < budget) return refused<SettleAnswer>(refuse(24, {budget}));
@@ -130,7 +139,7 @@ SettleAnswer settle(Words table, Bytes state, std::uint64_t budget, BytesToWrite
 }
 
 SettleAnswer settle_list(Words table, Bytes state, Bytes list) {
-  const Ground on = ground(table, acceptance_and_confluence, state);
+  const Ground on = settling_ground(table, state);
   if (on.refusal) return refused<SettleAnswer>(on.refusal);
   if (list.length > max_budget) return refused<SettleAnswer>(refuse(22, {0}));
   const ListRun listed = settle_by_list(on.model, on.state, list);

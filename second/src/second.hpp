@@ -73,15 +73,15 @@ Answer component(Words table, std::uint64_t i);
 Answer compatible(Words table);
 // 20, 10 to 17: as `component` at 0, 1, .. in turn, then as `compatible`.
 Answer accept(Words table);
-// As accept, then 18.
+// As accept, then 18, of reached states.
 Answer confluent(Words table);
 // As accept, then 21.
 StepAnswer step(Words table, Bytes state);
 // As accept, then 21, 23.
 StepAnswer step_by(Words table, Bytes state, std::uint64_t action);
-// As confluent, then 21, 22, 24.
+// As confluent, then 21, 19, 22, 24.
 SettleAnswer settle(Words table, Bytes state, std::uint64_t budget, BytesToWrite trace);
-// As confluent, then 21, 22, 23.
+// As confluent, then 21, 19, 22, 23.
 SettleAnswer settle_list(Words table, Bytes state, Bytes list);
 // As accept, then 21, 27 to 30.
 TimedAnswer timed_step(Words table, Bytes state, Ticks ticks);

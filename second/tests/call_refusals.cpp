@@ -70,6 +70,39 @@ void test_21() {
   check(lend_step(clash, {9}).refusal == refuse(21, {0}), "no 18 for a step");
 }
 
+void test_19() {
+  // States 0 and 1 are got to; the input may not leave the unstable 0.
+  const Table table = image(tabbed("comp 3 0\nact 0 uout\nact 1 in\nrow 0 - 0 - 1\nrow 0 - 1 - 2\nrow 1 - 1 - 1\nrow 2 - 1 - 2\n"));
+  Part trace(8, 9), none;
+  check(lend_settle(table, {1}, 8, trace).verdict == second::Verdict::stable, "19: from 1");
+  check(lend_settle(table, {2}, 8, trace).refusal == refuse(19, {0}), "19: from 2");
+  check(lend_settle(table, {2}, 9999, none).refusal == refuse(19, {0}), "19 before 22");
+  check(lend_settle(table, {2}, 8, none).refusal == refuse(19, {0}), "19 before 24");
+  check(lend_settle(table, {3}, 8, trace).refusal == refuse(21, {0}), "21 before 19");
+  check(lend_settle_list(table, {2}, {0}).refusal == refuse(19, {0}), "19 before 23");
+  check(lend_settle_list(table, {2}, Part(4097, 0)).refusal == refuse(19, {0}), "19 before 22: by list");
+  check(lend_step(table, {2}).outcome == second::StepOutcome::stable, "no 19 for a step");
+  check(lend_step_by(table, {2}, 0).refusal == refuse(23, {0}), "no 19 for a step by name");
+  Clocks ticks(64, 0);
+  check(lend_timed_step(table, {2}, ticks).outcome == second::TimedOutcome::quiet, "no 19 for a timed step");
+  check(lend_report(tabbed("from 2 9999\n") + tabbed("comp 3 0\nact 0 uout\nrow 0 - 0 - 1\n")) == "refused\t19\t0\n", "19: report");
+
+  const Text loops = "act 0 uin\nact 1 uin\nrow 0 - 0 - 0\nrow 0 - 1 - 0\nrow 1 - 0 - 1\nrow 1 - 1 - 1\n"
+                     "row 2 - 0 - 2\nrow 2 - 1 - 2\nrow 3 - 0 - 1\nrow 3 - 1 - 2\n";
+  check(lend_settle(image(tabbed("comp 4 0\n" + loops)), {3}, 8, trace).refusal == refuse(19, {0}), "19: loops from 3");
+  check(lend_settle(image(tabbed("comp 4 3\n" + loops)), {3}, 8, trace).refusal == refuse(18, {0, 3, 0, 1}), "18 before 19");
+  // The lowest component, of two that aren't got to.
+  const Table three = image(tabbed("comp 1 0\ncomp 2 0\ncomp 2 1\n"));
+  check(lend_settle(three, {0, 1, 0}, 8, trace).refusal == refuse(19, {1}), "19: the lowest component");
+  check(lend_settle(three, {0, 0, 0}, 8, trace).refusal == refuse(19, {2}), "19: the last component");
+  check(!lend_settle(three, {0, 0, 1}, 8, trace).refusal, "19: none");
+
+  // M settles from 1,1; merged at 0 the pair isn't got to, since action 0 would leave an unstable pair.
+  Table both(second::image_words, 0);
+  check(!lend_merge(image(m), 0, both).refusal && !lend_settle(image(m), {1, 1}, 8, trace).refusal, "M from 1,1");
+  check(lend_settle(both, {4}, 8, trace).refusal == refuse(19, {0}), "M merged, from 4");
+}
+
 void test_22_23_24() {
   const Table table = image(m);
   Part none;
@@ -234,6 +267,7 @@ void test_27_to_30() {
 
 void test_call_refusals() {
   test_20();
+  test_19();
   test_21();
   test_22_23_24();
   test_25_26();

@@ -1,6 +1,7 @@
 #include "check.hpp"
 
 #include <cstdio>
+#include <iterator>
 #include <map>
 
 namespace {
@@ -10,6 +11,9 @@ unsigned long failed = 0;
 std::map<std::uint64_t, unsigned long> refusals;
 std::map<std::string, unsigned long> outcomes;
 std::uint64_t lent_digest = 0;
+
+const std::uint64_t all_refusals[] = {1,  2,  3,  4,  5,  6,  7,  8,  9,  10, 11, 12, 13, 14, 15,
+                                      16, 17, 18, 19, 20, 21, 22, 23, 24, 25, 26, 27, 28, 29, 30};
 
 const char* const all_outcomes[] = {
     "read",          "written",          "recognised",     "accepted",       "confluent",
@@ -42,12 +46,11 @@ void count_lent(std::uint64_t word) {
 }
 
 int conclude() {
-  for (std::uint64_t number = 1; number <= 30; ++number) {
-    if (number == 19) continue;
+  for (std::uint64_t number : all_refusals) {
     std::printf("refusal %2llu: %lu\n", static_cast<unsigned long long>(number), refusals[number]);
     check(refusals[number] > 0, "refusal " + std::to_string(number) + " is reached");
   }
-  check(refusals.size() == 29, "no refusal is outside 1 to 30 without 19");
+  check(refusals.size() == std::size(all_refusals), "no other refusal is met");
   for (const char* outcome : all_outcomes) {
     std::printf("%s: %lu\n", outcome, outcomes[outcome]);
     check(outcomes[outcome] > 0, std::string("outcome ") + outcome + " is reached");

@@ -107,6 +107,7 @@ void check_calls(Random& random, const Table& table, const Model& model) {
   check(stepped.number == 0 || stepped.number == 21, "step: 21");
   if (stepped) check(named == stepped && fired == stepped, "21 in each call with a state");
   if (stepped && !confluent) check(settled == stepped && listed == stepped, "21 in settling");
+  if (settled.number == 19) check(listed == settled && !stepped, "19 directly after 21");
   check(named.number == 0 || named.number == 21 || named.number == 23, "step_by: 21, 23");
   check(fired.number == 0 || fired.number == 21 || fired.number >= 27, "timed_step: 21, 27 to 30");
   check(merged.number == 0 || (merged.number >= 24 && merged.number <= 26), "merge: 24 to 26");

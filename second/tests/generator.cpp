@@ -36,7 +36,7 @@ void check_family(second::Random& random, Family family, second::Size size) {
   const std::size_t bytes = second::text_of_model(model).size();
   if (family == Family::text_32768) check(bytes >= 32764 && bytes <= 32768, what + ": " + std::to_string(bytes));
   if (family == Family::endless) {
-    const Part from = second::generate_state(random, model);
+    const Part from = second::generate_reached_state(random, model);
     Part trace(4096, 0);
     const auto run = lend_settle(second::image_of_model(model), from, size == second::Size::small ? 4096 : 50, trace);
     check(run.verdict == second::Verdict::unsettled, what + " never settles");
@@ -73,6 +73,7 @@ std::uint64_t digest(std::uint64_t seed) {
     of.take_model(second::generate_failing(random, 10 + round % 9, second::Size::small));
     const Part state = second::generate_state(random, model);
     of.take_all(state);
+    of.take_all(second::generate_reached_state(random, model));
     of.take_all(second::generate_calm_state(random, model));
     of.take_all(second::generate_odd_state(random, model));
     of.take(second::generate_budget(random));
@@ -113,6 +114,6 @@ void test_generator() {
   }
   // Drawn once and written down: another machine or compiler that draws otherwise shows here.
   const std::uint64_t drawn = digest(11);
-  check(drawn == 2632515218348920981u, "the series of seed 11, which is now " + std::to_string(drawn));
+  check(drawn == 8224767407815886998u, "the series of seed 11, which is now " + std::to_string(drawn));
   check(digest(11) != digest(12), "another seed, another series");
 }

@@ -27,6 +27,16 @@ inline const Text before =
 // A component that fails (f) and nothing else: 14.
 inline const Text fails_f = "comp 1 0\nact 50 out\nclk 50 0\nrow 0 50 50 50 0\n";
 
+// From state 0 an urgent output, 2, and an input, 3; the rows of states 1 and 2, of which 2 clashes.
+inline const Text forked = "comp 3 0\nact 0 uout\nact 1 uout\nact 2 uout\nact 3 in\n";
+inline const Text fork = "row 1 - 3 - 1\nrow 2 - 0 - 0\nrow 2 - 1 - 1\nrow 2 - 3 - 2\n";
+
+// Loops for both urgent inputs everywhere, but in state 3 they part.
+inline const Text loop_rows =
+    "row 0 - 0 - 0\nrow 0 - 1 - 0\nrow 1 - 0 - 1\nrow 1 - 1 - 1\nrow 2 - 0 - 2\nrow 2 - 1 - 2\nrow 3 - 0 - 1\nrow 3 - 1 - 2\n";
+inline const Text loops = "comp 4 0\nact 0 uin\nact 1 uin\n" + loop_rows;
+inline const Text loops_from_3 = "comp 4 3\nact 0 uin\nact 1 uin\n" + loop_rows;
+
 inline const ModelCase model_cases[] = {
     {"10: an input with a clock", "comp 1 0\nact 0 in\nclk 0 1\nrow 0 0 0 0 0\n", refuse(10, {0})},
     {"10: an urgent input with a clock", "comp 1 0\nact 0 uin\nclk 0 1\nrow 0 0 0 0 0\n", refuse(10, {0})},
@@ -127,12 +137,28 @@ inline const ModelCase model_cases[] = {
     {"18: plain inputs and outputs don't count",
      "comp 2 0\nact 0 in\nact 1 in\nrow 0 - 0 - 1\nrow 0 - 1 - 0\nrow 1 - 0 - 0\nrow 1 - 1 - 0\n", none},
     {"18: the lowest state, then lower, then higher action",
-     "comp 3 0\nact 0 uout\nact 1 uout\nact 2 uout\n"
-     "row 1 - 0 - 1\nrow 1 - 1 - 0\nrow 1 - 2 - 1\nrow 2 - 0 - 0\nrow 2 - 1 - 0\n",
+     "comp 3 2\nact 0 uout\nact 1 uout\nact 2 uout\n"
+     "row 1 - 0 - 1\nrow 1 - 1 - 0\nrow 1 - 2 - 1\nrow 2 - 0 - 1\nrow 2 - 1 - 0\n",
      refuse(18, {0, 1, 0, 1})},
-    {"18: unreachable states count", "comp 2 0\nact 0 uout\nact 1 uout\nrow 1 - 0 - 0\nrow 1 - 1 - 0\n", refuse(18, {0, 1, 0, 1})},
+    {"18: a state that isn't reached doesn't count", "comp 2 0\nact 0 uout\nact 1 uout\nrow 1 - 0 - 0\nrow 1 - 1 - 0\n", none},
+    {"18: the same, reached", "comp 2 1\nact 0 uout\nact 1 uout\nrow 1 - 0 - 0\nrow 1 - 1 - 0\n", refuse(18, {0, 1, 0, 1})},
+    {"18: not at a lower state that isn't reached", "comp 3 2\nact 0 uout\nact 1 uout\n"
+     "row 0 - 0 - 1\nrow 0 - 1 - 2\nrow 2 - 0 - 1\nrow 2 - 1 - 1\n", refuse(18, {0, 2, 0, 1})},
+    {"18: an input that isn't urgent doesn't leave an unstable state", forked + "row 0 - 2 - 1\nrow 0 - 3 - 2\n" + fork, none},
+    {"18: it leaves a stable state", forked + "row 0 - 3 - 2\n" + fork, refuse(18, {0, 2, 0, 1})},
+    {"18: an urgent input leaves an unstable state",
+     "comp 3 0\nact 0 uin\nact 1 uin\nact 2 uout\n"
+     "row 0 - 0 - 1\nrow 0 - 1 - 0\nrow 0 - 2 - 0\nrow 1 - 0 - 1\nrow 1 - 1 - 1\nrow 1 - 2 - 2\nrow 2 - 0 - 2\nrow 2 - 1 - 2\n",
+     refuse(18, {0, 0, 0, 2})},
+    {"18: a timed row leaves a stable state",
+     "comp 3 0\nact 0 out\nact 1 uout\nact 2 uout\nclk 0 1\nrow 0 0 0 - 1\nrow 1 - 1 0 0\nrow 1 - 2 0 2\n", refuse(18, {0, 1, 1, 2})},
+    {"18: no timed row leaves an unstable state",
+     "comp 3 0\nact 0 out\nact 1 uout\nact 2 uout\nact 3 uout\nclk 0 1\n"
+     "row 0 0 0 - 1\nrow 0 - 3 - 2\nrow 1 - 1 - 2\nrow 1 - 2 - 1\n", none},
+    {"18: two loops but in one state, which isn't reached", loops, none},
     {"18: of the third component",
      before + "comp 1 0\ncomp 2 0\nact 0 uout\nact 1 uout\nrow 0 - 0 - 1\nrow 0 - 1 - 1\n", refuse(18, {2, 0, 0, 1})},
+    {"18: two loops but in one state, which is the start", loops_from_3, refuse(18, {0, 3, 0, 1})},
     {"no lines but `comp`", "comp 128 127\n", none},
     {"18: at the highest state", "comp 128 127\nact 0 uout\nact 1 uout\nrow 127 - 0 - 0\nrow 127 - 1 - 0\n",
      refuse(18, {0, 127, 0, 1})},

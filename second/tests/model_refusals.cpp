@@ -19,7 +19,8 @@ void test_model_refusals() {
     // stops settling alone ("single steps and the timed step give 10 to 17 but never 18").
     Part text(second::max_text, 0);
     check(lend_write(table, text).length == entry.text.size(), std::string(entry.why) + ": written");
-    const Part state(table[0], 0);
+    Part state;
+    for (std::uint64_t c = 0; c < table[0]; ++c) state.push_back(static_cast<std::uint8_t>(table[1 + c * second::block_words + 1]));
     Part trace(8, 0);
     Clocks ticks(64, 1);
     check(lend_settle(table, state, 8, trace).refusal == entry.refusal, std::string(entry.why) + ": settle");

@@ -94,7 +94,7 @@ void test_timed_runs() {
                                 : tries == 1 ? second::generate_odd_ticks(random) : second::generate_ticks(random));
     }
     if (family == second::Family::accepted || family == second::Family::clashing) continue;
-    const Part from = second::generate_state(random, model);
+    const Part from = second::generate_reached_state(random, model);
     const unsigned budget = random.below(40);
     check_settling(model, from, budget);
   }

@@ -447,7 +447,7 @@ struct Longest {
 Longest longest_report(const Limits& limits) {
   const std::string all = range(0, 63), state = std::to_string(limits.state);
   const std::string states = state + repeated("," + state, limits.components - 1);
-  const std::string comp = "comp " + std::to_string(limits.state + 1) + " 0\n";
+  const std::string comp = "comp " + std::to_string(limits.state + 1) + " " + state + "\n";
   std::string model = comp + "act 10 uout\n";
   for (unsigned x = 0; x < 64; ++x) model += "clk " + std::to_string(x) + " 0\n";
   model += "row " + state + " - 10 " + all + " " + state + "\n" + repeated(comp, limits.components - 1);

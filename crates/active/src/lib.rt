@@ -35,7 +35,7 @@ pub fn enabling(t: &[u64], i: usize, s: usize) -> u64
 }
 
 // Whether a row with an urgent output leaves s.
-fn is_unstable(t: &[u64], i: usize, s: usize) -> bool
+pub fn is_unstable(t: &[u64], i: usize, s: usize) -> bool
     requires { ⌜ Image (now t) × (i < countOf (now t)) × (s < blockWord (now t) i 0) ⌝ }
     ensures { λ r. ⌜ r ≡ unstable (compOf (now (t .entry)) i) s ⌝ }
 {

@@ -2,6 +2,5 @@ pub mod Determined
 pub mod Exactly
 pub mod EachInTurn
 pub mod Recognised
-pub mod AfterAccept
 pub mod Together
 pub mod Answers

@@ -7,7 +7,7 @@ ghost use mathlib.Core.Path.{_≡_};
 ghost use mathlib.Core.Option.{none};
 ghost use Rattle.answer.specs.declared.Checked.the-variants as Checked;
 ghost use Rattle.answer.specs.declared.Place.the-variants as Place;
-ghost use Rattle.iosa.specs.Checks.{faultFrom, componentOf, compatibleOf, acceptOf, clashAmong};
+ghost use Rattle.iosa.specs.Checks.{faultFrom, componentOf, compatibleOf, acceptOf, clashAmong, confluentOf};
 ghost use Rattle.layout.specs.Image.{Image, modelOf};
 ghost use Rattle.parts.specs.Faults.{Says};
 ghost use Rattle.admit.specs.Admit.{Answers, ByItself, Compatibly, Accepted, Confluently};
@@ -90,12 +90,24 @@ fn check_meeting(t: &[u64]) -> Checked
 {
     let n = layout::count_of(t) as usize;
     for i in 0..n {
-        let r = meets::check_meets(t, i);
+        let r = meets::check_confluence(t, i);
         let Checked::Fine = r else {
             return r;
         };
     }
     Checked::Fine
+}
+
+// 10 to 18, of a table that is known to hold a model.
+pub fn check_confluent(t: &[u64]) -> Checked
+    requires { ⌜ Image (now t) ⌝ }
+    ensures { λ r. ⌜ Says r (confluentOf (modelOf (now (t .entry)))) ⌝ }
+{
+    let accepted = check_model(t);
+    let Checked::Fine = accepted else {
+        return accepted;
+    };
+    check_meeting(t)
 }
 
 // 20, then what the check says of the table's model.
@@ -137,9 +149,9 @@ pub fn accept(table: &[u64]) -> Checked
 pub fn confluent(table: &[u64]) -> Checked
     ensures { λ r. ⌜ Confluently (now (table .entry)) r ⌝ }
 {
-    let accepted = accept(table);
-    let Checked::Fine = accepted else {
-        return accepted;
-    };
-    check_meeting(table)
+    if table::recognise(table) {
+        check_confluent(table)
+    } else {
+        refused(20)
+    }
 }

@@ -31,11 +31,11 @@ pub data Shape : Type 0 where
   nowhere whole line row bytes index clock component cell clash shared-action shared-clock : Shape
   deriving Discrete as same-shape
 
--- the shape of place of each number, from 0; 0 and 19 are no numbers
+-- the shape of place of each number, from 0, which is none
 abbrev pub shapes : List Shape
 shapes =
     nowhere ∷ whole ∷ line ∷ line ∷ line ∷ line ∷ line ∷ line ∷ whole ∷ whole ∷ row ∷ row ∷ cell ∷ cell ∷ component ∷ shared-action ∷ shared-clock
-    ∷ shared-action ∷ clash ∷ nowhere ∷ whole ∷ whole ∷ whole ∷ index ∷ bytes ∷ whole ∷ whole ∷ whole ∷ whole ∷ clock ∷ clock ∷ []
+    ∷ shared-action ∷ clash ∷ component ∷ whole ∷ whole ∷ whole ∷ index ∷ bytes ∷ whole ∷ whole ∷ whole ∷ whole ∷ clock ∷ clock ∷ []
 
 abbrev pub shapeOf : ℕ → Shape
 shapeOf n = getD shapes n nowhere

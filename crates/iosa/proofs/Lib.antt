@@ -2,6 +2,7 @@ pub mod Examples
 pub mod Acceptance
 pub mod Settling
 pub mod Thesis
+pub mod Reaching
 pub mod Reading
 pub mod Merging
 pub mod Timing

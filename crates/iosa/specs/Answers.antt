@@ -10,8 +10,9 @@ use Rattle.iosa.specs.Model.{Comp, Model}
 use Rattle.iosa.specs.Text.{textOf}
 use Rattle.iosa.specs.WellFormed.{WellFormed}
 use Rattle.iosa.specs.Faulty.{LineFaultAt}
+use Rattle.iosa.specs.Faults.{FirstUnreached}
 use Rattle.iosa.specs.Automaton.{UrgentRow, Stable}
-use Rattle.iosa.specs.Product.{product, stateOf, Within}
+use Rattle.iosa.specs.Product.{product, stateOf, Within, Reached}
 use Rattle.iosa.specs.Stepped.{StepsByRule, StepsByName, Stepping}
 use Rattle.iosa.specs.Orders.{Called, CalledByList, NotEnabledAt, Settling}
 use Rattle.iosa.specs.TimedExactly.{Waits, InTicks, BelowZero, Shares, Timing, Shoots}
@@ -54,10 +55,14 @@ Enabled c cs s a = (C : ℕ) × (R : ℕ) × (y : product c cs .State) × Urgent
 abbrev pub StepByAnswer : Comp → List Comp → List ℕ → ℕ → Answer Stepping → Type 0
 StepByAnswer c cs s a = accepted (c ∷ cs) ▹ stateOk c cs s ▹ needs 23 (Enabled c cs s a) ▹ Gives (StepsByName c cs s a)
 
--- 22 "budget or list over 4,096"; 24 "trace shorter than the budget"
+-- 19 "component, a part not reachable": "Settling, also by list, accepts a composed state only if each part is such a state"
+abbrev pub partsOk : Comp → List Comp → List ℕ → Check
+partsOk c cs s = record { Refuses = λ t. (i : ℕ) × FirstUnreached (c ∷ cs) s i × (t ≡ tell 19 (i ∷ [])); Passes = Reached (c ∷ cs) s }
+
+-- 19 "directly after 21"; 22 "budget or list over 4,096"; 24 "trace shorter than the budget"
 abbrev pub SettleAnswer : Comp → List Comp → List ℕ → ℕ → ℕ → Answer (Settling (List ℕ)) → Type 0
 SettleAnswer c cs s budget trace =
-    accepted (c ∷ cs) ▹ confluent (c ∷ cs) ▹ stateOk c cs s ▹ needs 22 (budget ≤ maxBudget) ▹ room budget trace ▹ Gives (Called c cs s budget)
+    accepted (c ∷ cs) ▹ confluent (c ∷ cs) ▹ stateOk c cs s ▹ partsOk c cs s ▹ needs 22 (budget ≤ maxBudget) ▹ room budget trace ▹ Gives (Called c cs s budget)
 
 -- 23 at the first listed action that is not enabled, or the list is a series
 pub data ListAnswer (c : Comp) (cs : List Comp) (s l : List ℕ) : Answer (Settling (List ℕ)) → Type 0 where
@@ -65,7 +70,7 @@ pub data ListAnswer (c : Comp) (cs : List Comp) (s l : List ℕ) : Answer (Settl
   is-series : {d : Settling (List ℕ)} → CalledByList c cs s l d → ListAnswer c cs s l (answered d)
 
 abbrev pub SettleListAnswer : Comp → List Comp → List ℕ → List ℕ → Answer (Settling (List ℕ)) → Type 0
-SettleListAnswer c cs s l = accepted (c ∷ cs) ▹ confluent (c ∷ cs) ▹ stateOk c cs s ▹ needs 22 (length l ≤ maxBudget) ▹ ListAnswer c cs s l
+SettleListAnswer c cs s l = accepted (c ∷ cs) ▹ confluent (c ∷ cs) ▹ stateOk c cs s ▹ partsOk c cs s ▹ needs 22 (length l ≤ maxBudget) ▹ ListAnswer c cs s l
 
 -- "as `accept`", then 21, 27, 28, 29, 30
 abbrev pub TimedStepAnswer : Comp → List Comp → List ℕ → List ℤ → Answer Timing → Type 0

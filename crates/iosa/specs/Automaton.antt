@@ -1,6 +1,6 @@
--- The automaton of document 000, Definition 4.1, with its conditions (a) to (f); confluence, Definition 4.5; compatibility.
+-- The automaton of document 000, Definition 4.1, with its conditions (a) to (f); where it can get, Definition 4.9; confluence, Definition 4.5; compatibility.
 use mathlib.Core.Path.{_≡_}
-use mathlib.Core.Logic.{_≢_}
+use mathlib.Core.Logic.{_≢_, _⊎_}
 use Prim.Native.Nat.{ℕ, _<_}
 use lib.ListN.{length}
 use Rattle.laws.specs.Sets.{_∪_, _∖_, only, _∈_, _⊆_, Apart}
@@ -109,6 +109,16 @@ pub record Conditions (A : Automaton) : Type 0 where
   pub condE : CondE A
   pub condF : CondF A
 
+-- ---- where it can get (02, 3/13; 000, Definition 4.9)
+-- "reached from its start by rows of which every non-urgent one leaves a stable state"
+pub data Reachable (A : Automaton) : A .State → Type 0 where
+  at-start : Reachable A (A .start)
+  by-row : {s t : A .State} {C a R : ℕ} → Reachable A s → (a ∈ A .urgent) ⊎ Stable A s → A .Row s C a R t → Reachable A t
+
+-- a state that a component can reach
+abbrev pub ReachedIn : Comp → ℕ → Type 0
+ReachedIn c = Reachable (autoOf c)
+
 -- ---- confluence (01; 000, Definition 4.5), over the states that count
 -- at s, for the actions a and b: "that both leave s, to s1 with resets A and to s2 with resets B, there is an s3 with a b-row from s1 to s3 resetting B
 -- and an a-row from s2 to s3 resetting A"
@@ -144,6 +154,6 @@ pub record Conforming (m : Model) : Type 0 where
 pub record Joinable (m : Model) : Type 0 where
   pub pair : (i j : ℕ) → i < j → j < length m → Compatible (autoOf (compAt m i)) (autoOf (compAt m j))
 
--- every component is confluent, in all its states
+-- every component is confluent, in the states that it can reach
 pub record AllConfluent (m : Model) : Type 0 where
-  pub each : (i : ℕ) → i < length m → Confluent (autoOf (compAt m i)) (autoOf (compAt m i) .States)
+  pub each : (i : ℕ) → i < length m → Confluent (autoOf (compAt m i)) (ReachedIn (compAt m i))

@@ -144,6 +144,23 @@ check16 m = clashFor shareClock maxClocks m
 unfoldable pub check17 : Model → Option (List ℕ)
 check17 m = clashFor differUrgent maxActions m
 
+-- ---- where the component can get: for each state 0 where it is known to be reached, else 1
+-- row r leads from a reached state, as allowed, to one that is not known to be
+abbrev pub leadsOn : Comp → List ℕ → Row → Bool
+leadsOn c left r = eqb (getD left (r .from) 0) 0 && ((has (urgents c) (r .action) || not (unstable c (r .from))) && not (eqb (getD left (r .target) 0) 0))
+
+-- the first such row makes its target known, at most n times
+unfoldable pub follow : Comp → ℕ → List ℕ → List ℕ
+follow c zero left = left
+follow c (suc n) left = elim (least (λ k. leadsOn c left (rowAt c k)) (length (c .rows))) [ none ↦ left | some k ↦ follow c n (set left (rowAt c k .target) 0) ]
+
+-- each takes a 1 off, so as many times as there are states are enough
+unfoldable pub unreached : Comp → List ℕ
+unreached c = follow c (c .states) (tab (λ s. cond (eqb s (c .start)) 0 1) 0 (c .states))
+
+unfoldable pub reachOf : Comp → ℕ → Bool
+reachOf c s = eqb (getD (unreached c) s 0) 0
+
 -- ---- 18 "not confluent": "component, state, lower and higher action"
 -- after p then b, and after q then a: the same state, b resets what it did from s, and so does a
 abbrev pub closes : Option Row → Option Row → Row → Row → Bool
@@ -163,8 +180,11 @@ clashes c s a b = (has (urgents c) a && has (urgents c) b) && parted c a b (rowF
 abbrev pub clashesFrom : Comp → ℕ → ℕ → Option (List ℕ)
 clashesFrom c s a = seek (λ b. when (clashes c s a b) (s ∷ a ∷ b ∷ [])) (suc a) maxActions
 
+-- "Check 18 looks at such states alone" (02, 3/13)
 unfoldable pub check18 : Comp → Option (List ℕ)
-check18 c = seek (λ s. seek (clashesFrom c s) 0 maxActions) 0 (c .states)
+check18 c =
+    let left = unreached c in
+    seek (λ s. elim (eqb (getD left s 0) 0) [ true ↦ seek (clashesFrom c s) 0 maxActions | false ↦ none ]) 0 (c .states)
 
 unfoldable pub clashAmong : ℕ → Model → Option Told
 clashAmong i [] = none

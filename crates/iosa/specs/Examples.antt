@@ -13,14 +13,14 @@ use Rattle.answer.specs.Told.{Told, tell, Answer, answered, refused, Shot, fire
 use Rattle.iosa.specs.Model.{Model, declared, rowCount}
 use Rattle.iosa.specs.Text.{textOf, digitsOf, decimal, joined, members, guardField, setField, fieldsAfter, compLine, actLine, clkLine, rowLine, kindOf, actPart, clkPart, rowLines, compText}
 use Rattle.iosa.specs.Reading.{readOf, exactly, moreDigits, number, moreNumbers, numbers, guardOrDash, numbersOrDash, kind, compEntry, actEntry, clkEntry, rowEntry, entry, outOfTurn, allBelow, outOfRange, allIn, lacks, ascending, setOf, follows, outOfOrder, tooMany, faultOf, takeIn, linesFrom}
-use Rattle.iosa.specs.Settle.{settleOf, settleListOf, settle, budgetFault, traceFault, play}
+use Rattle.iosa.specs.Settle.{settleOf, settleListOf, settle, unreachedFrom, reachFault, beginFault, budgetFault, traceFault, play}
 use Rattle.iosa.specs.Orders.{Settling}
 use Rattle.iosa.specs.Timed.{timedOf, enablingAll, unstableFault, outOfTicks, valuesFault, belowZero, check29, isLeast, shares, check30, clockRow, clockRowOf, fireOne, fireAll, fallen, agedFrom, fire, timedFrom}
 use Rattle.iosa.specs.TimedExactly.{Timing}
 use Rattle.iosa.specs.Merge.{mergeOf, rowsBy, eachWith, pairRows, productRows, merged, mergedAt, neighbourFault, sizeFault}
 use Rattle.laws.specs.Search.{seek}
 use Rattle.iosa.specs.WellFormed.{lower, before}
-use Rattle.iosa.specs.Checks.{rowFor, badGuard, check10, repeats, check11, lacksRow, check12, twice, check13, enablingOf, unstable, allowed, narrow, greatest, check14, faultAt, faultFrom, clashFor, check15, check16, check17, clashes, check18, clashAmong, indexFault, componentOf, compatibleOf, acceptOf, confluentOf}
+use Rattle.iosa.specs.Checks.{rowFor, badGuard, check10, repeats, check11, lacksRow, check12, twice, check13, enablingOf, unstable, allowed, narrow, greatest, check14, faultAt, faultFrom, clashFor, check15, check16, check17, follow, unreached, reachOf, clashes, check18, clashAmong, indexFault, componentOf, compatibleOf, acceptOf, confluentOf}
 use Rattle.iosa.specs.Step.{move, moveAll, isUout, urgentStep, lowest, isStable, inRange, stateFault}
 use Rattle.iosa.specs.Report.{requestLine, requestOf, refusedLine, stepLine, stepLines, lastLine, answerLines, runLines, reportOf}
 
@@ -86,7 +86,7 @@ replyTiming (refused t) = refusesTold t
 
 -- what antt opens to compute a reply stands on the line below
 unfoldable pub reply : Ask → Reply
-unfolding declared rowCount digitsOf decimal joined members guardField setField fieldsAfter compLine actLine clkLine rowLine kindOf actPart clkPart rowLines compText textOf lower before exactly moreDigits number moreNumbers numbers guardOrDash numbersOrDash kind compEntry actEntry clkEntry rowEntry entry outOfTurn allBelow outOfRange allIn lacks ascending setOf follows outOfOrder tooMany faultOf takeIn linesFrom readOf seek rowFor badGuard check10 repeats check11 lacksRow check12 twice check13 enablingOf unstable allowed narrow greatest check14 faultAt faultFrom clashFor check15 check16 check17 clashes check18 clashAmong indexFault componentOf acceptOf confluentOf move moveAll isUout urgentStep lowest isStable inRange stateFault settle budgetFault traceFault settleOf play settleListOf enablingAll unstableFault outOfTicks valuesFault belowZero check29 isLeast shares check30 clockRow clockRowOf fireOne fireAll fallen agedFrom fire timedFrom timedOf rowsBy eachWith pairRows productRows merged mergedAt neighbourFault sizeFault mergeOf requestLine requestOf refusedLine stepLine stepLines lastLine answerLines runLines reportOf
+unfolding declared rowCount digitsOf decimal joined members guardField setField fieldsAfter compLine actLine clkLine rowLine kindOf actPart clkPart rowLines compText textOf lower before exactly moreDigits number moreNumbers numbers guardOrDash numbersOrDash kind compEntry actEntry clkEntry rowEntry entry outOfTurn allBelow outOfRange allIn lacks ascending setOf follows outOfOrder tooMany faultOf takeIn linesFrom readOf seek rowFor badGuard check10 repeats check11 lacksRow check12 twice check13 enablingOf unstable allowed narrow greatest check14 faultAt faultFrom clashFor check15 check16 check17 follow unreached reachOf clashes check18 clashAmong indexFault componentOf acceptOf confluentOf move moveAll isUout urgentStep lowest isStable inRange stateFault settle unreachedFrom reachFault beginFault budgetFault traceFault settleOf play settleListOf enablingAll unstableFault outOfTicks valuesFault belowZero check29 isLeast shares check30 clockRow clockRowOf fireOne fireAll fallen agedFrom fire timedFrom timedOf rowsBy eachWith pairRows productRows merged mergedAt neighbourFault sizeFault mergeOf requestLine requestOf refusedLine stepLine stepLines lastLine answerLines runLines reportOf
 reply (reads m) = replyModel (readOf (bytesOf m))
 reply (settles m s n) = onModel (λ x. replySettling (settleOf x s n n)) (readOf (bytesOf m))
 reply (lists m s l) = onModel (λ x. replySettling (settleListOf x s l)) (readOf (bytesOf m))

@@ -1,15 +1,15 @@
--- Where a condition is broken (01, "Refusal numbers", 10 to 18), in the terms of document 000: rows of the relation and the automaton's sets.
+-- Where a condition is broken (01, "Refusal numbers", 10 to 18; 02, 3/13, 19), in the terms of document 000: rows of the relation and the automaton's sets.
 use mathlib.Core.Path.{_≡_}
 use mathlib.Core.Logic.{_≢_, _⊎_}
 use mathlib.Core.Bool.{true}
 use mathlib.Core.List.{List, [], _∷_}
 use Prim.Native.Nat.{ℕ, _+_, _<_}
-use lib.ListN.{length, take}
+use lib.ListN.{length, take, getD}
 use Rattle.laws.specs.Sets.{_∪_, only, _∈_}
 use Rattle.answer.specs.Told.{Told, tell}
 use Rattle.iosa.specs.Model.{Comp, Model, rowAt, compAt, guardSet, rowCount}
 use Rattle.iosa.specs.WellFormed.{lower}
-use Rattle.iosa.specs.Automaton.{Automaton, alphabet, Leads, autoOf, CondF}
+use Rattle.iosa.specs.Automaton.{Automaton, alphabet, Leads, autoOf, CondF, ReachedIn}
 
 -- ---- 10 "(a) or (b) broken": the row
 -- a row with guard set C and action a against (a) "Rows of `in`, `uin` and `uout` have guard `-`"
@@ -78,8 +78,9 @@ OnlyThere a A B = (a ∈ A .urgent) × (a ∈ alphabet B) × (a ∈ B .urgent �
 abbrev pub Broken17 : Model → ℕ → ℕ → ℕ → Type 0
 Broken17 = Between (λ a A B. OnlyThere a A B ⊎ OnlyThere a B A)
 
--- ---- 18 "not confluent": urgent actions a and b both leave s, and no s3 joins them again
+-- ---- 18 "not confluent": urgent actions a and b both leave s, which is reached, and no s3 joins them again
 pub record Broken18 (c : Comp) (s a b : ℕ) : Type 0 where
+  pub reached : ReachedIn c s
   pub order : a < b
   pub lower : a ∈ autoOf c .urgent
   pub higher : b ∈ autoOf c .urgent
@@ -90,6 +91,12 @@ pub record Broken18 (c : Comp) (s a b : ℕ) : Type 0 where
   pub target′ : ℕ
   pub other : Leads c s 0 b resets′ target′
   pub parted : {v : ℕ} → Leads c target 0 b resets′ v → Leads c target′ 0 a resets v → ⊥
+
+-- ---- 19 "component, a part not reachable": the lowest component whose part of s is not reached
+pub record FirstUnreached (m : Model) (s : List ℕ) (i : ℕ) : Type 0 where
+  pub inside : i < length m
+  pub here : ReachedIn (compAt m i) (getD s i 0) → ⊥
+  pub before : (j : ℕ) → j < i → ReachedIn (compAt m j) (getD s j 0)
 
 -- ---- the order of faults
 -- what is told of a fault of component i, whose first row is row n of the system, and its rank: number, place

@@ -56,6 +56,6 @@ conforms m i = record { Refuses = First (InTurnOf m i); Passes = Definition41 (a
 abbrev pub joinable : Model → Check
 joinable m = record { Refuses = First (InTurnOf m (length m)); Passes = Joinable m }
 
--- "then 18": the first clash, or every component is confluent
+-- "then 18": the first clash, or every component is confluent where it can get
 abbrev pub confluent : Model → Check
 confluent m = record { Refuses = First (Clash m); Passes = AllConfluent m }

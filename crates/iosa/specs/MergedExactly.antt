@@ -9,7 +9,7 @@ use Rattle.answer.specs.Told.{tell, Answer, answered, refused}
 use Rattle.iosa.specs.Model.{Comp, Model, compAt, inputs, outputs, urgents, rowCount}
 use Rattle.iosa.specs.Text.{textOf}
 use Rattle.iosa.specs.WellFormed.{WellFormed}
-use Rattle.iosa.specs.Automaton.{Leads, autoOf}
+use Rattle.iosa.specs.Automaton.{Leads, autoOf, Reachable}
 use Rattle.iosa.specs.Product.{Joint, _⊗_}
 use Rattle.iosa.specs.Merge.{merged, mergedAt}
 use Rattle.iosa.specs.MergedAs.{pairOf}
@@ -67,3 +67,12 @@ pub data MergeAnswer (m : Model) (i : ℕ) : Answer Model → Type 0 where
 -- a composed state of m as one of the merged model: the two numbers at i and i+1 as the number of their pair
 abbrev pub pairedAt : Model → ℕ → List ℕ → List ℕ
 pairedAt m i s = take i s ++ pairOf (compAt m (suc i)) (getD s i 0) (getD s (suc i) 0) ∷ drop (suc (suc i)) s
+
+-- x numbers a pair that the product of c and d reaches
+pub record ReachedPair (c d : Comp) (x : ℕ) : Type 0 where
+  pub s : ℕ
+  pub t : ℕ
+  pub s-below : s < c .states
+  pub t-below : t < d .states
+  pub pair : x ≡ pairOf d s t
+  pub reached : Reachable (autoOf c ⊗ autoOf d) (s, t)

@@ -6,11 +6,11 @@ use Prim.Native.Nat.{ℕ, zero, suc, _+_}
 use lib.ListN.{length}
 use lib.Dec.{ltb}
 use Rattle.laws.specs.Sets.{_∪_}
-use Rattle.laws.specs.Search.{when, orElse}
+use Rattle.laws.specs.Search.{when, orElse, mapSome}
 use Rattle.answer.specs.Limits.{maxBudget}
 use Rattle.answer.specs.Told.{Told, tell, Answer, answered, refused}
 use Rattle.iosa.specs.Model.{Model}
-use Rattle.iosa.specs.Checks.{confluentOf}
+use Rattle.iosa.specs.Checks.{reachOf, confluentOf}
 use Rattle.iosa.specs.Step.{Went, lowest, urgentStep, isStable, stateFault, unless}
 use Rattle.iosa.specs.Stepped.{Gone}
 use Rattle.iosa.specs.Orders.{Settling}
@@ -28,6 +28,19 @@ unfoldable pub settle : {S : Type 0} → (S → ℕ → Option (Gone S)) → ℕ
 settle step zero s = elim (lowest step s) [ none ↦ resting true s | some w ↦ resting false s ]
 settle step (suc n) s = elim (lowest step s) [ none ↦ resting true s | some w ↦ after w (settle step n (w .gone .after)) ]
 
+-- 19 "component, a part not reachable": the lowest
+unfoldable pub unreachedFrom : ℕ → Model → List ℕ → Option ℕ
+unreachedFrom i [] ss = none
+unreachedFrom i (c ∷ cs) [] = none
+unreachedFrom i (c ∷ cs) (s ∷ ss) = elim (reachOf c s) [ true ↦ unreachedFrom (suc i) cs ss | false ↦ some i ]
+
+unfoldable pub reachFault : Model → List ℕ → Option Told
+reachFault m s = mapSome (λ i. tell 19 (i ∷ [])) (unreachedFrom 0 m s)
+
+-- "it stands directly after 21": may settling begin in s?
+unfoldable pub beginFault : Model → List ℕ → Option Told
+beginFault m s = let b = reachFault m s in orElse (stateFault m s) b
+
 -- 22 "budget or list over 4,096", place 0
 unfoldable pub budgetFault : ℕ → Option Told
 budgetFault n = when (ltb maxBudget n) (tell 22 (0 ∷ []))
@@ -36,10 +49,10 @@ budgetFault n = when (ltb maxBudget n) (tell 22 (0 ∷ []))
 unfoldable pub traceFault : ℕ → ℕ → Option Told
 traceFault budget room = when (ltb room budget) (tell 24 (budget ∷ []))
 
--- settling with a trace of `room` bytes: as the confluence check, "then the call's own, ascending"
+-- settling with a trace of `room` bytes: as the confluence check, "then the call's own"
 unfoldable pub settleOf : Model → List ℕ → ℕ → ℕ → Answer (Settling (List ℕ))
 settleOf m s budget room =
-    let b = stateFault m s in
+    let b = beginFault m s in
     let d = budgetFault budget in
     let e = traceFault budget room in
     let x = settle (urgentStep m) budget s in
@@ -57,7 +70,7 @@ play m i (a ∷ l) s = elim (urgentStep m s a) [ none ↦ refused (tell 23 (i �
 
 unfoldable pub settleListOf : Model → List ℕ → List ℕ → Answer (Settling (List ℕ))
 settleListOf m s l =
-    let b = stateFault m s in
+    let b = beginFault m s in
     let d = budgetFault (length l) in
     let x = play m 0 l s in
     elim (orElse (confluentOf m) (orElse b d)) [ some t ↦ refused t | none ↦ x ]

@@ -1,13 +1,13 @@
--- Definitions 4.1 and 4.3 of document 000, clause by clause in its own words, without the measure of each clock: sampling is not the engine's.
+-- Definitions 4.1, 4.3 and 4.9 of document 000, clause by clause in its own words, without the measure of each clock: sampling is not the engine's.
 -- `conditions-are-definition-4-1` proves that `Conditions` (Automaton) is the first with paper 01's house rule, `compatible-is-definition-4-3` that
--- `Compatible` is the second.
+-- `Compatible` is the second, `reachable-is-definition-4-9` that `Reachable` is Definition 4.9.
 use mathlib.Core.Path.{_≡_}
 use mathlib.Core.Logic.{_↔_}
 use Prim.Native.Nat.{ℕ, _<_}
 use lib.ListN.{length}
 use Rattle.laws.specs.Sets.{_∪_, _∩_, _∖_, only, _∈_, _⊆_, Apart}
 use Rattle.iosa.specs.Model.{Model, compAt}
-use Rattle.iosa.specs.Automaton.{Automaton, alphabet, autoOf}
+use Rattle.iosa.specs.Automaton.{Automaton, alphabet, autoOf, UrgentRow}
 
 -- ---- the structure (S, A, C, →, C0, s0)
 -- (s, C, a, C′, s′) is one of S × 2^C × A × 2^C × S
@@ -81,3 +81,10 @@ pub record Definition43 (A B : Automaton) : Type 0 where
   pub outputs : A .outputs ∩ B .outputs ≡ 0
   pub clocks : A .clocks ∩ B .clocks ≡ 0
   pub urgent : alphabet A ∩ B .urgent ≡ alphabet B ∩ A .urgent
+
+-- ---- Definition 4.9: "potentially reachable", by "a path from the initial state, with n ≥ 0, such that for all i < n, if s_i -_,b,_-> _ for some
+-- b ∈ A^u ∩ A^o then a_i ∈ A^u"
+pub data PotentiallyReachable (A : Automaton) : A .State → Type 0 where
+  no-rows : PotentiallyReachable A (A .start)
+  one-more : {s t : A .State} {C a R : ℕ} → PotentiallyReachable A s → ((D b Q : ℕ) (u : A .State) → UrgentRow A s D b Q u → a ∈ A .urgent) → A .Row s C a R t
+      → PotentiallyReachable A t

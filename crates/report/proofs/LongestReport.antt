@@ -15,8 +15,8 @@ use Rattle.iosa.specs.Model.{Model}
 use Rattle.iosa.specs.Text.{tab, decimal, textOf}
 use Rattle.iosa.specs.Checks.{confluentOf}
 use Rattle.iosa.specs.Reading.{got, readOf}
-use Rattle.iosa.specs.Step.{Went, urgentStep, lowest, stateFault}
-use Rattle.iosa.specs.Settle.{settle, budgetFault, traceFault, settleOf}
+use Rattle.iosa.specs.Step.{Went, urgentStep, lowest}
+use Rattle.iosa.specs.Settle.{settle, beginFault, budgetFault, traceFault, settleOf}
 use Rattle.iosa.specs.Orders.{Settling}
 use Rattle.iosa.specs.Report.{Request, requestText, stepLine, stepLines, lastLine, answerLines, requestOf, reportOf}
 use Rattle.iosa.specs.Examples.{reply}
@@ -88,9 +88,9 @@ confluent : confluentOf longestModel ≡ none
 unfolding reply longestModel loud still
 confluent = refl
 
-in-range : stateFault longestModel allWide ≡ none
+begins : beginFault longestModel allWide ≡ none
 unfolding reply longestModel loud still
-in-range = refl
+begins = refl
 
 leads-back : lowest (urgentStep longestModel) allWide ≡ some (back longestModel allWide 10 allClocks)
 unfolding reply longestModel loud still
@@ -112,7 +112,7 @@ last = refl
 -- ---- the report
 answers : settleOf longestModel allWide maxBudget maxBudget ≡ answered (settle (urgentStep longestModel) maxBudget allWide)
 unfolding settleOf budgetFault traceFault
-answers = rw (confluent, in-range, settleOf)
+answers = rw (confluent, begins, settleOf)
 
 pub longest-reached : length (reportOf longestInput) ≡ mostBytes
 longest-reached =

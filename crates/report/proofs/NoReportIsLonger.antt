@@ -8,7 +8,7 @@ use Prim.Native.Nat.{ℕ, zero, suc, _≤_}
 use native.Mathlib.Omega.{arith}
 use lib.ListN.{length}
 use lib.Dec.{ltb}
-use Rattle.laws.specs.Search.{when, orElse}
+use Rattle.laws.specs.Search.{when, orElse, mapSome}
 use Rattle.answer.specs.Limits.{maxBytes, maxBudget}
 use Rattle.answer.specs.Told.{Told, tell, Answer, answered, refused}
 use Rattle.iosa.specs.Model.{Comp, Model}
@@ -17,7 +17,7 @@ use Rattle.iosa.specs.Faults.{FaultAt, guarded, repeated, lacking, doubled, ina
 use Rattle.iosa.specs.Checks.{confluentOf}
 use Rattle.iosa.specs.Reading.{Got, Entry, Progress, entry, faultOf, takeIn, finish, linesFrom, atStart, readOf}
 use Rattle.iosa.specs.Step.{stateFault, inRange, urgentStep}
-use Rattle.iosa.specs.Settle.{settle, budgetFault, traceFault, settleOf}
+use Rattle.iosa.specs.Settle.{settle, unreachedFrom, reachFault, beginFault, budgetFault, traceFault, settleOf}
 use Rattle.iosa.specs.Orders.{Settling}
 use Rattle.iosa.specs.Report.{Request, requestOf, refusedLine, answerLines, runLines, reportOf}
 use Rattle.iosa.proofs.Acceptance.Accepted.{accepted-exactly}
@@ -110,13 +110,22 @@ confluent-brief m w = go (confluentOf m) refl
     go none e = tt
     go (some t) e = ⊎-elim (λ f. fault-brief (f .here)) (λ f. clash-brief (f .1 .here)) (unconfluent-exactly m w t .0 e)
 
--- 21, 22, 24
+-- 19
+reach-brief : (m : Model) (s : List ℕ) → BriefIf (reachFault m s)
+unfolding reachFault
+reach-brief m s = go (unreachedFrom 0 m s)
+  where
+    go : (o : Option ℕ) → BriefIf (mapSome (λ i. tell 19 (i ∷ [])) o)
+    go none = tt
+    go (some i) = omega arith
+
+-- 21, 19, 22, 24
 settle-brief : (m : Model) → WellFormed m → (s : List ℕ) (n : ℕ) → BriefOr (settleOf m s n n)
-unfolding settleOf stateFault budgetFault traceFault
+unfolding settleOf beginFault stateFault budgetFault traceFault
 settle-brief m w s n =
-    unless-brief (orElse (confluentOf m) (orElse (stateFault m s) (orElse (budgetFault n) (traceFault n n)))) (settle (urgentStep m) n s)
+    unless-brief (orElse (confluentOf m) (orElse (beginFault m s) (orElse (budgetFault n) (traceFault n n)))) (settle (urgentStep m) n s)
     (or-brief (confluentOf m) _ (confluent-brief m w)
-    (or-brief (stateFault m s) _ (when-brief (not (inRange m s)) (tell 21 (0 ∷ [])) (omega arith))
+    (or-brief (beginFault m s) _ (or-brief (stateFault m s) _ (when-brief (not (inRange m s)) (tell 21 (0 ∷ [])) (omega arith)) (reach-brief m s))
     (or-brief (budgetFault n) _ (when-brief (ltb maxBudget n) (tell 22 (0 ∷ [])) (omega arith)) (when-brief (ltb n n) (tell 24 (n ∷ [])) (omega arith)))))
 
 -- ---- the report by its cases
@@ -129,7 +138,7 @@ answer-most m w s n = go (settleOf m s n n) refl (settle-brief m w s n)
     go (answered d) e h =
         let p = settle-answers-exactly m s n n d .0 e in
         let k = accepted-exactly m w .0 (confluent-accepted m (p .0)) in
-        rw (← p .4) (run-most m w (k .0) (k .1) s n (p .1) (p .2))
+        rw (← p .4) (run-most m w (k .0) (k .1) s n (p .1 .0) (p .2))
 
 pub no-report-is-longer : (input : List ℕ) → length (reportOf input) ≤ mostBytes
 unfolding reportOf runLines

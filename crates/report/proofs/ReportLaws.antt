@@ -5,8 +5,11 @@ use mathlib.Core.Option.{Option, none, some}
 use mathlib.Core.List.{List, [], _∷_}
 use Prim.Native.Nat.{ℕ}
 use native.Mathlib.Omega.{arith}
+use Rattle.laws.specs.Search.{orElse}
+use Rattle.laws.proofs.SearchLaws.{or-else-none}
 use Rattle.answer.specs.Told.{Told, tell, told, Answer, answered, refused, asRefused, saysChecked}
 use Rattle.answer.specs.State.{partsOf}
+use Rattle.answer.specs.declared.State.{State}
 use Rattle.answer.specs.declared.Checked.{Checked}
 use Rattle.answer.specs.declared.Checked.the-variants.{Fine, Refused}
 use Rattle.answer.specs.declared.Refusal.{Refusal}
@@ -15,13 +18,12 @@ use Rattle.iosa.specs.Checks.{confluentOf}
 use Rattle.iosa.specs.WellFormed.{WellComp, WellFormed}
 use Rattle.iosa.specs.Reading.{got, readOf}
 use Rattle.iosa.specs.Step.{inRange, stateFault, unless}
-use Rattle.iosa.specs.Settle.{settleOf}
+use Rattle.iosa.specs.Settle.{beginFault, budgetFault, traceFault, settleOf}
 use Rattle.iosa.specs.Report.{Request, requestOf, refusedLine, answerLines, runLines, reportOf}
 use Rattle.iosa.proofs.Settling.Each.{All, each-all}
-use Rattle.layout.specs.Image.{Image, modelOf}
-use Rattle.table.specs.OnTable.{onTable}
-use Rattle.table.proofs.OnTableLaws.{on-image}
-use Rattle.table.proofs.ImageExactly.{image-exactly}
+use Rattle.layout.specs.Image.{modelOf}
+use Rattle.parts.specs.Faults.{Says}
+use Rattle.entry.specs.Entry.{entryFault}
 use Rattle.request.specs.Kept.{held}
 use Rattle.request.proofs.HeldLaws.{Few, held-in-range, held-same}
 use Rattle.tell.specs.Tell.{refusedText}
@@ -47,7 +49,7 @@ first none = tell 21 (0 ∷ [])
 first (some t) = t
 
 out-of-range : (m : Model) (s : List ℕ) (n : ℕ) → inRange m s ≡ false → answerLines m s (settleOf m s n n) ≡ refusedLine (first (confluentOf m))
-unfolding answerLines settleOf stateFault first
+unfolding answerLines settleOf beginFault stateFault first
 out-of-range m s n f = go (confluentOf m) refl
   where
     go : (o : Option Told) → confluentOf m ≡ o → answerLines m s (settleOf m s n n) ≡ refusedLine (first o)
@@ -71,9 +73,10 @@ kept-answers m w ns n = go (inRange m ns) refl
     go false e =
         out-of-range m (partsOf (held ns)) n (held-in-range m (few-states m w) (w .components) ns ∙ e) ∙ sym (out-of-range m ns n e)
 
--- ---- what the confluence check says
-not-confluent-told : (f : Refusal) (o : Option Told) → _≡_ {A = Option (Answer (Unit {0}))} (asRefused (told f)) (some (unless o tt)) → (t : Told) × (o ≡ some t) × (told f ≡ some t)
-not-confluent-told f o e = go (told f) o refl e
+-- ---- what the check says before settling begins
+refusal-told : (f : Refusal) (o : Option Told)
+    → _≡_ {A = Option (Answer (Unit {0}))} (asRefused (told f)) (some (unless o tt)) → (t : Told) × (o ≡ some t) × (told f ≡ some t)
+refusal-told f o e = go (told f) o refl e
   where
     go : (p o : Option Told) → told f ≡ p → _≡_ {A = Option (Answer (Unit {0}))} (asRefused p) (some (unless o tt)) → (t : Told) × (o ≡ some t) × (told f ≡ some t)
     go none none h e = absurd (let z : _≡_ {A = ℕ} 0 1 = cc in omega arith)
@@ -81,24 +84,29 @@ not-confluent-told f o e = go (told f) o refl e
     go (some t) none h e = absurd (let z : _≡_ {A = ℕ} 0 1 = cc in omega arith)
     go (some t) (some u) h e = let w : t ≡ u = cc in (u, refl, h ∙ ap some w)
 
-fine-confluent : (o : Option Told) → _≡_ {A = Option (Answer (Unit {0}))} (some (answered tt)) (some (unless o tt)) → o ≡ none
-fine-confluent none e = refl
-fine-confluent (some t) e = absurd (let z : _≡_ {A = ℕ} 0 1 = cc in omega arith)
+fine-told : (o : Option Told) → _≡_ {A = Option (Answer (Unit {0}))} (some (answered tt)) (some (unless o tt)) → o ≡ none
+fine-told none e = refl
+fine-told (some t) e = absurd (let z : _≡_ {A = ℕ} 0 1 = cc in omega arith)
 
-pub checked-image : (t : List ℕ) (r : Checked) → Image t → saysChecked r ≡ some (onTable t (λ m. unless (confluentOf m) tt)) → saysChecked r ≡ some (unless (confluentOf (modelOf t)) tt)
-checked-image t r im e = e ∙ ap some (on-image t (λ m. unless (confluentOf m) tt) (image-exactly t .1 im))
+or-more : (o p q : Option Told) (t : Told) → orElse o p ≡ some t → orElse o (orElse p q) ≡ some t
+or-more none p q t e = rw e
+or-more (some u) p q t e = e
 
-refused-first : (m : Model) (s : List ℕ) (n : ℕ) (t : Told) → confluentOf m ≡ some t → refusedLine t ≡ answerLines m s (settleOf m s n n)
+refused-first : (m : Model) (s : List ℕ) (n : ℕ) (t : Told) → orElse (confluentOf m) (beginFault m s) ≡ some t
+    → refusedLine t ≡ answerLines m s (settleOf m s n n)
 unfolding answerLines settleOf
-refused-first m s n t e = rw (e, settleOf)
+refused-first m s n t e = rw (or-more (confluentOf m) (beginFault m s) (orElse (budgetFault n) (traceFault n n)) t e, settleOf)
 
-module _ (m : Model) (r : Checked) (e : saysChecked r ≡ some (unless (confluentOf m) tt)) where
-  pub checked-fine : r ≡ Fine → confluentOf m ≡ none
-  unfolding saysChecked
-  checked-fine f = fine-confluent (confluentOf m) (ap saysChecked (sym f) ∙ e)
+module _ (t : List ℕ) (x : State) (r : Checked) (here : Says r (entryFault x (modelOf t))) where
+  abbrev m : Model
+  m = modelOf t
 
-  pub checked-refused : (f : Refusal) → r ≡ Refused f → (s : List ℕ) (n : ℕ) → refusedText f ≡ answerLines m s (settleOf m s n n)
+  pub checked-fine : r ≡ Fine → (confluentOf m ≡ none) × (beginFault m (partsOf x) ≡ none)
   unfolding saysChecked
-  checked-refused f g s n =
-      let p = not-confluent-told f (confluentOf m) (ap saysChecked (sym g) ∙ e) in
-      told-text f (p .0) (p .2) ∙ refused-first m s n (p .0) (p .1)
+  checked-fine f = or-else-none (confluentOf m) (beginFault m (partsOf x)) (fine-told (entryFault x m) (ap saysChecked (sym f) ∙ here))
+
+  pub checked-refused : (f : Refusal) → r ≡ Refused f → (n : ℕ) → refusedText f ≡ answerLines m (partsOf x) (settleOf m (partsOf x) n n)
+  unfolding saysChecked
+  checked-refused f g n =
+      let p = refusal-told f (entryFault x m) (ap saysChecked (sym g) ∙ here) in
+      told-text f (p .0) (p .2) ∙ refused-first m (partsOf x) n (p .0) (p .1)

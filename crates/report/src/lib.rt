@@ -14,7 +14,7 @@ ghost use Rattle.layout.specs.Image.{Image, modelOf};
 ghost use Rattle.print.specs.Put.{Put};
 ghost use Rattle.steplines.specs.Run.{mostBytes};
 
-// The checks of settling in order, and else the run: 10 to 18, 21, 22.
+// The checks of settling in order, and else the run: 10 to 18, 21, 19, 22.
 fn put_answer(t: &[u64], x: State, budget: u64, out: &mut [u8]) -> usize
     requires { ⌜ Image (now t) × (mostBytes ≤ length (now out)) ⌝ }
     ensures { λ r.
@@ -22,7 +22,7 @@ fn put_answer(t: &[u64], x: State, budget: u64, out: &mut [u8]) -> usize
         (answerLines (modelOf (now (t .entry))) (partsOf x) (settleOf (modelOf (now (t .entry))) (partsOf x) budget budget))
         (now (out .exit)) r ⌝ }
 {
-    let checked = admit::confluent(t);
+    let checked = entry::check_entry(t, x);
     match checked {
         Checked::Refused(f) => tell::put_refused(out, 0, f),
         Checked::Fine => steplines::put_settled(t, x, budget, out),

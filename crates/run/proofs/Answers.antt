@@ -18,7 +18,7 @@ use Rattle.iosa.specs.Model.{Model}
 use Rattle.iosa.specs.Checks.{acceptOf, confluentOf}
 use Rattle.iosa.specs.Step.{unless, takenBy, named, urgentStep, inRange, stateFault, stepOf, stepByOf}
 use Rattle.iosa.specs.Stepped.{Stepping}
-use Rattle.iosa.specs.Settle.{settle, play, budgetFault, traceFault, settleOf, settleListOf}
+use Rattle.iosa.specs.Settle.{settle, play, beginFault, budgetFault, traceFault, settleOf, settleListOf}
 use Rattle.iosa.specs.Orders.{Settling}
 use Rattle.settling.specs.Gives.{StepAnswers, StepGives, SettleAnswers, SettlingGives, byRuleOf, byNameOf}
 use Rattle.run.specs.Refusals.{refusedStep, refusedSettling}
@@ -45,10 +45,13 @@ or-first o p x e = rw e
 or-then {ℓ} : {A : Type ℓ} (o p : Option A) → o ≡ none → orElse o p ≡ p
 or-then o p e = rw e
 
-or-last {ℓ} : {A : Type ℓ} (o p q e : Option A) → orElse (orElse o (orElse p q)) e ≡ orElse o (orElse p (orElse q e))
-or-last none none q e = refl
-or-last none (some x) q e = refl
-or-last (some x) p q e = refl
+or-three {ℓ} : {A : Type ℓ} (o p q : Option A) → orElse (orElse o p) q ≡ orElse o (orElse p q)
+or-three none p q = refl
+or-three (some x) p q = refl
+
+or-four {ℓ} : {A : Type ℓ} (o p q e : Option A) → orElse (orElse (orElse o p) q) e ≡ orElse o (orElse p (orElse q e))
+or-four none p q e = or-three p q e
+or-four (some x) p q e = refl
 
 -- a refusal, or else what x says
 abbrev pick : {A : Type 0} → Answer A → Option Told → Answer A
@@ -106,30 +109,21 @@ module _ (m : Model) (s : List ℕ) where
   unfolding traceFault
   trace-right n room h = ap (λ b. when b (tell 24 (n ∷ []))) (le-ltb room n h)
 
-  -- what stands in the way of the first step: what the model fails by, 21, 22
+  -- what stands in the way of the first step: what the model fails by, 21, 19, 22
   abbrev pub startFault : ℕ → Option Told
-  startFault n = orElse (confluentOf m) (orElse (stateFault m s) (budgetFault n))
+  startFault n = orElse (orElse (confluentOf m) (beginFault m s)) (budgetFault n)
 
-  module _ (ok : confluentOf m ≡ none) (n : ℕ) where
-    from-state : startFault n ≡ orElse (stateFault m s) (budgetFault n)
-    from-state = or-then (confluentOf m) (orElse (stateFault m s) (budgetFault n)) ok
+  module _ (ok : orElse (confluentOf m) (beginFault m s) ≡ none) (n : ℕ) where
+    pub start-over : maxBudget < n → startFault n ≡ some (tell 22 (0 ∷ []))
+    start-over h = or-then (orElse (confluentOf m) (beginFault m s)) (budgetFault n) ok ∙ budget-over n h
 
-    from-budget : inRange m s ≡ true → startFault n ≡ budgetFault n
-    from-budget e = from-state ∙ or-then (stateFault m s) (budgetFault n) (state-right e)
-
-    pub start-wrong : inRange m s ≡ false → startFault n ≡ some (tell 21 (0 ∷ []))
-    start-wrong e = from-state ∙ or-first (stateFault m s) (budgetFault n) (tell 21 (0 ∷ [])) (state-wrong e)
-
-    pub start-over : inRange m s ≡ true → maxBudget < n → startFault n ≡ some (tell 22 (0 ∷ []))
-    start-over e h = from-budget e ∙ budget-over n h
-
-    pub start-right : inRange m s ≡ true → n ≤ maxBudget → startFault n ≡ none
-    start-right e h = from-budget e ∙ budget-right n h
+    pub start-right : n ≤ maxBudget → startFault n ≡ none
+    start-right h = or-then (orElse (confluentOf m) (beginFault m s)) (budgetFault n) ok ∙ budget-right n h
 
   module _ (n room : ℕ) where
     settle-picks : settleOf m s n room ≡ pick (answered (settle (urgentStep m) n s)) (orElse (startFault n) (traceFault n room))
     unfolding settleOf
-    settle-picks = ap (pick (answered (settle (urgentStep m) n s))) (sym (or-last (confluentOf m) (stateFault m s) (budgetFault n) (traceFault n room)))
+    settle-picks = ap (pick (answered (settle (urgentStep m) n s))) (sym (or-four (confluentOf m) (beginFault m s) (budgetFault n) (traceFault n room)))
 
     pub settle-refused : (f : Told) → startFault n ≡ some f → settleOf m s n room ≡ refused f
     settle-refused f e = settle-picks ∙ ap (pick (answered (settle (urgentStep m) n s))) (or-first (startFault n) (traceFault n room) f e)
@@ -141,10 +135,12 @@ module _ (m : Model) (s : List ℕ) where
     settle-goes e k = settle-picks ∙ ap (pick (answered (settle (urgentStep m) n s))) (or-then (startFault n) (traceFault n room) e ∙ trace-right n room k)
 
   module _ (l : List ℕ) where
-    pub list-refused : (f : Told) → startFault (length l) ≡ some f → settleListOf m s l ≡ refused f
+    list-picks : settleListOf m s l ≡ pick (play m 0 l s) (startFault (length l))
     unfolding settleListOf
-    list-refused f e = ap (pick (play m 0 l s)) e
+    list-picks = ap (pick (play m 0 l s)) (sym (or-three (confluentOf m) (beginFault m s) (budgetFault (length l))))
+
+    pub list-refused : (f : Told) → startFault (length l) ≡ some f → settleListOf m s l ≡ refused f
+    list-refused f e = list-picks ∙ ap (pick (play m 0 l s)) e
 
     pub list-goes : startFault (length l) ≡ none → settleListOf m s l ≡ play m 0 l s
-    unfolding settleListOf
-    list-goes e = ap (pick (play m 0 l s)) e
+    list-goes e = list-picks ∙ ap (pick (play m 0 l s)) e

@@ -34,9 +34,10 @@ module _ (t : List ℕ) (x : State) (r : Settled) (b : Bool) (says : saysVerdict
   settled budget old new (of-model h (passes k (refuses q))) l = refusal (l .answer)
   settled budget old new (of-model h (passes k (passes al (refuses q)))) l = refusal (l .answer)
   settled budget old new (of-model h (passes k (passes al (passes w (refuses q))))) l = refusal (l .answer)
-  settled budget old new (of-model h (passes k (passes al (passes w (passes n (refuses q)))))) l = refusal (l .answer)
-  settled budget old new (of-model {c = c} {cs = cs} h (passes k (passes al (passes w (passes n (passes m (gives g))))))) l =
-      record { first = c; others = cs; holds = h; definition = k .0; joinable = k .1; confluent = al; within = w; orders = g .orders }
+  settled budget old new (of-model h (passes k (passes al (passes w (passes p (refuses q)))))) l = refusal (l .answer)
+  settled budget old new (of-model h (passes k (passes al (passes w (passes p (passes n (refuses q))))))) l = refusal (l .answer)
+  settled budget old new (of-model {c = c} {cs = cs} h (passes k (passes al (passes w (passes p (passes n (passes m (gives g)))))))) l =
+      record { first = c; others = cs; holds = h; definition = k .0; joinable = k .1; confluent = al; reached = p; orders = g .orders }
 
   pub demand-3-of-settle : (budget : ℕ) (old new : List ℕ) → SettleCall t x budget old new r → SettledFrom t x
   demand-3-of-settle budget old new call = let e = settle-answers-exactly t x budget old new r .0 call in settled budget old new (e .right) (e .left)
@@ -47,9 +48,10 @@ module _ (t : List ℕ) (x : State) (r : Settled) (b : Bool) (says : saysVerdict
   listed l (of-model h (passes k (refuses q))) g = refusal g
   listed l (of-model h (passes k (passes al (refuses q)))) g = refusal g
   listed l (of-model h (passes k (passes al (passes w (refuses q))))) g = refusal g
-  listed l (of-model h (passes k (passes al (passes w (passes n (is23 q)))))) g = refusal g
-  listed l (of-model {c = c} {cs = cs} h (passes k (passes al (passes w (passes n (is-series s)))))) g =
-      record { first = c; others = cs; holds = h; definition = k .0; joinable = k .1; confluent = al; within = w; orders = s .orders }
+  listed l (of-model h (passes k (passes al (passes w (passes p (refuses q)))))) g = refusal g
+  listed l (of-model h (passes k (passes al (passes w (passes p (passes n (is23 q))))))) g = refusal g
+  listed l (of-model {c = c} {cs = cs} h (passes k (passes al (passes w (passes p (passes n (is-series s))))))) g =
+      record { first = c; others = cs; holds = h; definition = k .0; joinable = k .1; confluent = al; reached = p; orders = s .orders }
 
   pub demand-3-of-settle-list : (l : List ℕ) → SettleListCall t x l r → SettledFrom t x
   demand-3-of-settle-list l call = let e = settle-list-answers-exactly t x l r .0 call in listed l (e .right) (e .left)

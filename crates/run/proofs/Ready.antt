@@ -4,6 +4,7 @@ use mathlib.Core.Bool.{true}
 use mathlib.Core.Option.{Option, none, some}
 use mathlib.Core.List.{List}
 use Prim.Native.Nat.{ℕ}
+use Rattle.laws.proofs.SearchLaws.{or-else-none}
 use Rattle.answer.specs.Told.{Told, told, saysChecked, Answer, refused}
 use Rattle.answer.specs.declared.Checked.{Checked}
 use Rattle.answer.specs.declared.Checked.the-variants.{Fine, Refused}
@@ -12,12 +13,14 @@ use Rattle.answer.specs.declared.State.{State}
 use Rattle.answer.specs.State.{partsOf}
 use Rattle.iosa.specs.Checks.{acceptOf, confluentOf}
 use Rattle.iosa.specs.Step.{inRange}
+use Rattle.iosa.specs.Settle.{beginFault}
 use Rattle.iosa.proofs.Acceptance.Accepted.{accepted-exactly}
-use Rattle.iosa.proofs.Acceptance.ConfluentExactly.{confluent-accepted}
 use Rattle.iosa.proofs.Settling.Range.{range-exactly}
 use Rattle.layout.specs.Image.{Image, modelOf}
 use Rattle.layout.proofs.RowsOfRange.{well-formed}
 use Rattle.settling.specs.Gives.{Ready}
+use Rattle.settling.proofs.Begun.{begun}
+use Rattle.entry.specs.Entry.{entryFault}
 use Rattle.iosa.specs.Model.{Model}
 use Rattle.table.specs.IsImage.{isImage}
 use Rattle.table.specs.OnTable.{checkOn}
@@ -32,6 +35,11 @@ module _ (t : List ℕ) (im : isImage t ≡ true) where
   ready ok x h =
       let a = accepted-exactly (modelOf t) (well-formed t image-of) .0 ok in
       record { standing = record { image = image-of; within = range-exactly (modelOf t) (partsOf x) .0 h }; conforming = a .0; joinable = a .1 }
+
+  pub ready-to-settle : (x : State) → entryFault x (modelOf t) ≡ none → Ready t x
+  ready-to-settle x e =
+      let p = or-else-none (confluentOf (modelOf t)) (beginFault (modelOf t) (partsOf x)) e in
+      begun t x image-of (p .0) (p .1)
 
 -- ---- the check's answer in hand
 pub record Passed (t : List ℕ) (check : Model → Option Told) : Type 0 where

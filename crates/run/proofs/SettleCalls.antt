@@ -1,12 +1,9 @@
 -- Settling's answer, branch by branch, is what its call promises, and so is the trace.
 use mathlib.Core.Path.{_≡_, refl, sym, _∙_, ap}
-use mathlib.Core.Bool.{Bool, true, false, not}
-use mathlib.Core.Option.{Option, none, some}
+use mathlib.Core.Option.{none, some}
 use mathlib.Core.List.{List, [], _∷_}
 use Prim.Native.Nat.{ℕ, _≤_, _<_}
 use lib.ListN.{length}
-use borrow.Author.Tests.{not-true, not-false}
-use Rattle.laws.specs.Search.{orElse}
 use Rattle.answer.specs.Limits.{maxBudget}
 use Rattle.answer.specs.Told.{Told, tell, told, saysChecked, Answer, answered, refused}
 use Rattle.answer.specs.declared.Checked.{Checked}
@@ -16,8 +13,7 @@ use Rattle.answer.specs.declared.State.{State}
 use Rattle.answer.specs.declared.Settled.{Settled}
 use Rattle.answer.specs.State.{partsOf}
 use Rattle.iosa.specs.Model.{Model}
-use Rattle.iosa.specs.Checks.{confluentOf}
-use Rattle.iosa.specs.Step.{inRange, stateFault, urgentStep}
+use Rattle.iosa.specs.Step.{urgentStep}
 use Rattle.iosa.specs.Settle.{settle, play, budgetFault, settleOf, settleListOf}
 use Rattle.iosa.specs.Orders.{Settling}
 use Rattle.layout.specs.Image.{modelOf}
@@ -25,9 +21,11 @@ use Rattle.settling.specs.Gives.{SettleAnswers, SettleGives, TraceHolds}
 use Rattle.table.specs.OnTable.{onTable, checkOn}
 use Rattle.table.proofs.OnTableLaws.{on-image}
 use Rattle.table.proofs.CheckedLaws.{call-refuses}
+use Rattle.entry.specs.Entry.{entryFault}
 use Rattle.run.specs.Refusals.{wholeAt, bytesAt, refusedSettling}
 use Rattle.run.specs.Calls.{SettleCall, SettleListCall, traceAfter}
-use Rattle.run.proofs.Answers.{or-first, settle-answers, refuses-settling, startFault, start-wrong, start-over, start-right, settle-refused, settle-short, settle-goes, list-refused, list-goes}
+use Rattle.run.proofs.Answers.{or-first, settle-answers, refuses-settling, startFault, start-over, start-right}
+use Rattle.run.proofs.Answers.{settle-refused, settle-short, settle-goes, list-refused, list-goes}
 use Rattle.run.proofs.Ready.{Passed, passed, refused-by}
 
 -- ---- both calls refuse whatever stands in the way of the first step
@@ -48,37 +46,27 @@ module _ (t : List ℕ) (x : State) where
   refused-with : (call : Model → Answer (Settling (List ℕ))) (q : Refusal) (r : Settled) → Refuses call q → r ≡ refusedSettling q → SettleAnswers (onTable t call) x r
   refused-with call q r f k = settle-answers (onTable t call) (refused (f .fault)) x r (f .answer) (rw k (refuses-settling q (f .fault) x (f .tells)))
 
-  -- ---- before the first step, by our rule and by a list alike: what the model fails by, 21, 22
+  -- ---- before the first step, by our rule and by a list alike: what stands in the way of beginning, 22
   module _ (call : Model → Answer (Settling (List ℕ))) (steps : ℕ) (follows : (m : Model) (f : Told) → startFault m (partsOf x) steps ≡ some f → call m ≡ refused f)
-      (ch : Checked) (says : saysChecked ch ≡ some (checkOn t confluentOf)) where
+      (ch : Checked) (says : saysChecked ch ≡ some (checkOn t (entryFault x))) where
     pub by-check : (q : Refusal) → ch ≡ Refused q → Refuses call q
     by-check q is =
-        let p = refused-by t confluentOf ch says q is in
+        let p = refused-by t (entryFault x) ch says q is in
         record {
           fault = p .0;
           tells = p .1;
-          answer = call-refuses t confluentOf call (λ m f e. follows m f (or-first (confluentOf m) (orElse (stateFault m (partsOf x)) (budgetFault steps)) f e)) (p .0) (p .2);
+          answer = call-refuses t (entryFault x) call (λ m f e. follows m f (or-first (entryFault x m) (budgetFault steps) f e)) (p .0) (p .2);
         }
 
-    module _ (fine : ch ≡ Fine) {b : Bool} (range : b ≡ inRange (modelOf t) (partsOf x)) where
-      ok : Passed t confluentOf
-      ok = passed t confluentOf ch says fine
-
-      pub by-state : not b ≡ true → Refuses call (wholeAt 21)
-      unfolding told
-      by-state n = record {
-        fault = tell 21 (0 ∷ []);
-        tells = refl;
-        answer = on-image t call (ok .image) ∙ follows (modelOf t) (tell 21 (0 ∷ [])) (start-wrong (modelOf t) (partsOf x) (ok .none) steps (sym range ∙ not-true b n));
-      }
-
-      pub by-steps : not b ≡ false → maxBudget < steps → Refuses call (wholeAt 22)
-      unfolding told
-      by-steps n h = record {
-        fault = tell 22 (0 ∷ []);
-        tells = refl;
-        answer = on-image t call (ok .image) ∙ follows (modelOf t) (tell 22 (0 ∷ [])) (start-over (modelOf t) (partsOf x) (ok .none) steps (sym range ∙ not-false b n) h);
-      }
+    pub by-steps : ch ≡ Fine → maxBudget < steps → Refuses call (wholeAt 22)
+    unfolding told
+    by-steps fine h =
+        let ok = passed t (entryFault x) ch says fine in
+        record {
+          fault = tell 22 (0 ∷ []);
+          tells = refl;
+          answer = on-image t call (ok .image) ∙ follows (modelOf t) (tell 22 (0 ∷ [])) (start-over (modelOf t) (partsOf x) (ok .none) steps h);
+        }
 
   -- ---- by our rule
   module _ (budget : ℕ) (old : List ℕ) where
@@ -88,9 +76,9 @@ module _ (t : List ℕ) (x : State) where
     pub settle-refuses : (q : Refusal) (r : Settled) → Refuses call q → r ≡ refusedSettling q → SettleCall t x budget old old r
     settle-refuses q r f k = record { answer = refused-with call q r f k; trace = sym (ap (λ v. traceAfter v old) (f .answer)) }
 
-    module _ (ok : Passed t confluentOf) (r : Settled) (h : inRange (modelOf t) (partsOf x) ≡ true) (b : budget ≤ maxBudget) where
+    module _ (ok : Passed t (entryFault x)) (r : Settled) (b : budget ≤ maxBudget) where
       starts : startFault (modelOf t) (partsOf x) budget ≡ none
-      starts = start-right (modelOf t) (partsOf x) (ok .none) budget h b
+      starts = start-right (modelOf t) (partsOf x) (ok .none) budget b
 
       on : onTable t call ≡ call (modelOf t)
       on = on-image t call (ok .image)
@@ -112,7 +100,8 @@ module _ (t : List ℕ) (x : State) where
     pub list-refuses : (q : Refusal) (r : Settled) → Refuses play-call q → r ≡ refusedSettling q → SettleListCall t x l r
     list-refuses q r f k = record { answer = refused-with play-call q r f k }
 
-    pub list-is-played : Passed t confluentOf → (r : Settled) → inRange (modelOf t) (partsOf x) ≡ true → length l ≤ maxBudget → SettleAnswers (play (modelOf t) 0 l (partsOf x)) x r → SettleListCall t x l r
-    list-is-played ok r h b g =
-        let e = on-image t play-call (ok .image) ∙ list-goes (modelOf t) (partsOf x) l (start-right (modelOf t) (partsOf x) (ok .none) (length l) h b) in
+    pub list-is-played : Passed t (entryFault x) → (r : Settled) → length l ≤ maxBudget
+        → SettleAnswers (play (modelOf t) 0 l (partsOf x)) x r → SettleListCall t x l r
+    list-is-played ok r b g =
+        let e = on-image t play-call (ok .image) ∙ list-goes (modelOf t) (partsOf x) l (start-right (modelOf t) (partsOf x) (ok .none) (length l) b) in
         record { answer = settle-answers (onTable t play-call) (play (modelOf t) 0 l (partsOf x)) x r e g }

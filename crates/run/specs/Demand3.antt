@@ -6,12 +6,12 @@ use Rattle.answer.specs.declared.State.{State}
 use Rattle.iosa.specs.Model.{Comp}
 use Rattle.iosa.specs.Automaton.{Joinable, AllConfluent}
 use Rattle.iosa.specs.Thesis.{AllDefinition41}
-use Rattle.iosa.specs.Product.{product, stateOf, Within}
+use Rattle.iosa.specs.Product.{product, stateOf, Reached}
 use Rattle.iosa.specs.Orders.{OneEnd}
 use Rattle.layout.specs.OnImage.{Holds}
 
--- the table holds a model whose components are of Definition 4.1, compatible and confluent, the state is one of it, and from there the order in which
--- urgent steps are taken does not matter
+-- the table holds a model whose components are of Definition 4.1, compatible, and confluent where they can get, each part of the state is one where its
+-- component can get, and from there the order in which urgent steps are taken does not matter
 pub record SettledFrom (t : List ℕ) (x : State) : Type 0 where
   pub first : Comp
   pub others : List Comp
@@ -19,5 +19,5 @@ pub record SettledFrom (t : List ℕ) (x : State) : Type 0 where
   pub definition : AllDefinition41 (first ∷ others)
   pub joinable : Joinable (first ∷ others)
   pub confluent : AllConfluent (first ∷ others)
-  pub within : Within (first ∷ others) (partsOf x)
+  pub reached : Reached (first ∷ others) (partsOf x)
   pub orders : OneEnd (product first others) (stateOf first others (partsOf x))

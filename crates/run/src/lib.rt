@@ -11,8 +11,9 @@ ghost use mathlib.Core.Path.{_≡_};
 ghost use mathlib.Core.Option.{some};
 ghost use Prim.Native.Nat.{ℕ, _≤_, _<_};
 ghost use Rattle.answer.specs.Told.{saysChecked};
-ghost use Rattle.iosa.specs.Checks.{acceptOf, confluentOf};
+ghost use Rattle.iosa.specs.Checks.{acceptOf};
 ghost use Rattle.table.specs.OnTable.{checkOn};
+ghost use Rattle.entry.specs.Entry.{entryFault};
 ghost use Rattle.run.specs.Refusals.{wholeAt, bytesAt, refusedStep, refusedSettling};
 ghost use Rattle.run.specs.Calls.{StepCall, StepByCall, SettleCall, SettleListCall};
 
@@ -90,7 +91,7 @@ fn short_trace(budget: usize) -> Refusal
     }
 }
 
-// Settling by our rule, once the model is checked.
+// Settling by our rule, once it is known that it may begin.
 fn settle_after(
     table: &[u64],
     state: State,
@@ -98,15 +99,12 @@ fn settle_after(
     trace: &mut [u8],
     checked: Checked,
 ) -> Settled
-    requires { ⌜ saysChecked checked ≡ some (checkOn (now table) confluentOf) ⌝ }
+    requires { ⌜ saysChecked checked ≡ some (checkOn (now table) (entryFault state)) ⌝ }
     ensures { λ r. ⌜ SettleCall (now (table .entry)) state budget (now (trace .entry)) (now (trace .exit)) r ⌝ }
 {
     match checked {
         Checked::Refused(why) => refused_settling(why),
         Checked::Fine => {
-            if !moves::in_range(table, state) {
-                return refused_settling(refusal(21));
-            }
             if State::BUDGET < budget {
                 return refused_settling(refusal(22));
             }
@@ -118,17 +116,14 @@ fn settle_after(
     }
 }
 
-// Settling by a list, once the model is checked.
+// Settling by a list, once it is known that it may begin.
 fn list_after(table: &[u64], state: State, list: &[u8], checked: Checked) -> Settled
-    requires { ⌜ saysChecked checked ≡ some (checkOn (now table) confluentOf) ⌝ }
+    requires { ⌜ saysChecked checked ≡ some (checkOn (now table) (entryFault state)) ⌝ }
     ensures { λ r. ⌜ SettleListCall (now (table .entry)) state (now (list .entry)) r ⌝ }
 {
     match checked {
         Checked::Refused(why) => refused_settling(why),
         Checked::Fine => {
-            if !moves::in_range(table, state) {
-                return refused_settling(refusal(21));
-            }
             if State::BUDGET < list.len() {
                 return refused_settling(refusal(22));
             }
@@ -157,7 +152,7 @@ pub fn step_by(table: &[u64], state: State, action: u64) -> Stepped
 pub fn settle(table: &[u64], state: State, budget: usize, trace: &mut [u8]) -> Settled
     ensures { λ r. ⌜ SettleCall (now (table .entry)) state budget (now (trace .entry)) (now (trace .exit)) r ⌝ }
 {
-    let checked = admit::confluent(table);
+    let checked = entry::may_settle(table, state);
     settle_after(table, state, budget, trace, checked)
 }
 
@@ -165,6 +160,6 @@ pub fn settle(table: &[u64], state: State, budget: usize, trace: &mut [u8]) -> S
 pub fn settle_list(table: &[u64], state: State, list: &[u8]) -> Settled
     ensures { λ r. ⌜ SettleListCall (now (table .entry)) state (now (list .entry)) r ⌝ }
 {
-    let checked = admit::confluent(table);
+    let checked = entry::may_settle(table, state);
     list_after(table, state, list, checked)
 }

@@ -3,3 +3,4 @@ pub mod Reached
 pub mod Rests
 pub mod Onward
 pub mod Listed
+pub mod Begun

@@ -12,7 +12,7 @@ ghost use Rattle.answer.specs.Limits.{maxBudget};
 ghost use Rattle.answer.specs.State.{partsOf};
 ghost use Rattle.answer.specs.Told.{tell};
 ghost use Rattle.iosa.specs.Checks.{confluentOf};
-ghost use Rattle.iosa.specs.Settle.{settleOf};
+ghost use Rattle.iosa.specs.Settle.{beginFault, settleOf};
 ghost use Rattle.iosa.specs.Report.{refusedLine, answerLines};
 ghost use Rattle.layout.specs.Image.{Image, modelOf};
 ghost use Rattle.settling.specs.Gives.{Ready};
@@ -78,17 +78,14 @@ pub fn put_whole(out: &mut [u8], number: u8) -> usize
     )
 }
 
-// "then the call's own, ascending": 21, 22, and else the run.
+// In a state in which settling may begin: 22, and else the run.
 pub fn put_settled(t: &[u64], x: State, budget: u64, out: &mut [u8]) -> usize
-    requires { ⌜ Image (now t) × (confluentOf (modelOf (now t)) ≡ none) × (mostBytes ≤ length (now out)) ⌝ }
+    requires { ⌜ Image (now t) × (confluentOf (modelOf (now t)) ≡ none) × (beginFault (modelOf (now t)) (partsOf x) ≡ none) × (mostBytes ≤ length (now out)) ⌝ }
     ensures { λ r.
         ⌜ Put (now (out .entry)) 0
         (answerLines (modelOf (now (t .entry))) (partsOf x) (settleOf (modelOf (now (t .entry))) (partsOf x) budget budget))
         (now (out .exit)) r ⌝ }
 {
-    if !moves::in_range(t, x) {
-        return put_whole(out, 21);
-    }
     if (State::BUDGET as u64) < budget {
         return put_whole(out, 22);
     }

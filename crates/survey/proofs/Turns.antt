@@ -91,7 +91,7 @@ module _ {t : List ℕ} {q : Progress} {p : CodeProgress} {at n : ℕ} (s : Stan
     pub line-fault : (f : ℕ) → stepOf p l ≡ Fault f → (linesFrom (length t) 1 atStart t ≡ refused (tell f (n ∷ []))) × (2 ≤ f) × (f ≤ 7)
     line-fault f e =
         let h = judged-fault (faultOf q (r .it)) (next q (r .it)) f (sym judged ∙ e) in
-        let w = fault-number (fault-some q (drop at t) (r .it) (drop to t) (r .here) f h .fault) in
+        let w = fault-number (fault-some q (drop at t) (r .it) (drop to t) (r .here) f h .here) in
         (sym (s .same) ∙ lines-fault n q (r .it) (drop to t) (length (drop at t)) (drop at t) f (le-refl _) (r .here) h, w .0, w .1)
 
     line-judged : (p′ : CodeProgress) → stepOf p l ≡ Taken p′ → (faultOf q (r .it) ≡ none) × (p′ ≡ standing (next q (r .it)))

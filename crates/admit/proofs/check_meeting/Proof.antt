@@ -19,7 +19,7 @@ use Rattle.admit.proofs.check_meeting.Tie as tie
 use Rattle.admit.proofs.check_meeting.Reads as reads
 use Rattle.admit.proofs.check_meeting.Lts as lts
 use Rattle.layout.proofs.count_of.Reads as count-of-reads
-use Rattle.meets.proofs.check_meets.Reads as check-meets-reads
+use Rattle.meets.proofs.check_confluence.Reads as check-confluence-reads
 
 abbrev Inv-loop : tie.InvT-loop
 Inv-loop t n i₀ i = (i ≤ n) × (clashesLeft t i ≡ clashesLeft t 0)
@@ -33,8 +33,11 @@ count-of-requires c κs = image-long _ (c .before .pre .0)
 loop-holds : tie.Need-loop-holds Inv-loop μ-loop
 loop-holds c = (search needs, refl)
 
-check-meets-requires : tie.Need-check-meets-requires Inv-loop μ-loop
-check-meets-requires c κs = let s0 = c .before .before .before .before in let h : c .before .loop .i < countOf (now (s0 .args .t)) = omega (arith, c .before .before .count-of .ensures) in (s0 .pre .0, h, single-rows _ (s0 .pre .0) _ h (s0 .pre .1))
+check-confluence-requires : tie.Need-check-confluence-requires Inv-loop μ-loop
+check-confluence-requires c κs =
+    let s0 = c .before .before .before .before in
+    let h : c .before .loop .i < countOf (now (s0 .args .t)) = omega (arith, c .before .before .count-of .ensures) in
+    (s0 .pre .0, h, single-rows _ (s0 .pre .0) _ h (s0 .pre .1))
 
 enum-told : tie.Need-enum-told Inv-loop μ-loop
 enum-told c = search needs
@@ -48,7 +51,7 @@ returns c =
     let l = c .before .before .before .before .loop in
     let t = now (s0 .args .t) in
     let h : l .i < countOf t = omega (arith, c .before .before .before .before .before .count-of .ensures) in
-    let r = c .before .before .check-meets in
+    let r = c .before .before .check-confluence in
     says-as _ _ _ (sym (clash-next t (s0 .pre .0) (l .i) h) ∙ l .inv .1 ∙ all-clashes t) (refused-first (r .result) (fault18 (l .i) (compOf t (l .i))) (clashesLeft t (l .i + 1)) (r .ensures) (not-fine (r .result) _ (c .enum-told2 .given .1)))
 
 add-i : tie.Need-add-i Inv-loop μ-loop
@@ -63,7 +66,7 @@ loop-again c =
     let l = c .before .before .before .before .loop in
     let t = now (s0 .args .t) in
     let h : l .i < countOf t = omega (arith, c .before .before .before .before .before .count-of .ensures) in
-    let r = c .before .before .check-meets in
+    let r = c .before .before .check-confluence in
     let none = fine-none (fault18 (l .i) (compOf t (l .i))) (rw (c .enum-told .given .1) at (r .ensures)) in
     (search needs, sym (clash-next t (s0 .pre .0) (l .i) h ∙ ap (λ o. orElse o (clashesLeft t (l .i + 1))) none) ∙ l .inv .1)
 
@@ -82,7 +85,7 @@ check-meeting-spec =
     μ-loop
     count-of-requires
     loop-holds
-    check-meets-requires
+    check-confluence-requires
     enum-told
     enum-told-2
     returns

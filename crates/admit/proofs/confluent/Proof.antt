@@ -1,41 +1,42 @@
--- `admit::confluent` meets its contract: what `accept` refuses, or else 18.
-use mathlib.Core.Path.{_≡_, refl, sym, ap, ap₂, _∙_}
-use Prim.Native.Nat.{ℕ, zero, suc, _+_, _-_, _≤_, _<_}
-use native.Mathlib.Omega.{arith}
-use native.Mathlib.Numerals.{add-one}
-use lib.ListN.{length, getD, set}
+-- `admit::confluent` meets its contract: 20, or what the checks say of the table's model.
+use mathlib.Core.Path.{ap}
+use mathlib.Core.Bool.{not}
 use denote.Ref.{now}
-use Rattle.admit.proofs.Exactly.{accept-fine}
-use Rattle.admit.proofs.AfterAccept.{confluent-refused, confluent-passed}
+use Rattle.iosa.specs.Checks.{confluentOf}
+use Rattle.admit.proofs.Recognised.{is-image, says-20, says-of-model}
 use borrow.Author.Needs.{needs}
 use Rattle.admit.proofs.confluent.Statement.{statement}
 use Rattle.admit.proofs.confluent.Tie as tie
 
-accept-requires : tie.Need-accept-requires
-accept-requires c κs = search needs
+recognise-requires : tie.Need-recognise-requires
+recognise-requires c κs = search needs
 
-enum-told : tie.Need-enum-told
-enum-told c = search needs
+check-confluent-requires : tie.Need-check-confluent-requires
+check-confluent-requires c κs =
+    let w = c .before .recognise in
+    is-image (now (c .before .before .before .args .table)) (w .result) (w .ensures) (ap not (c .if1 .taken))
 
-enum-told-2 : tie.Need-enum-told-2
-enum-told-2 c = search needs
+refused-requires : tie.Need-refused-requires
+refused-requires c κs = search needs
 
 returns : tie.Need-returns
-returns c = confluent-refused _ _ _ (c .enum-told2 .given .1) (c .before .before .accept .ensures)
-
-check-meeting-requires : tie.Need-check-meeting-requires
-check-meeting-requires c κs = let a = accept-fine _ (rw (c .enum-told .given .1) at (c .before .before .accept .ensures)) in (a .image, a .accepted)
+returns c =
+    let w = c .before .before .recognise in
+    let lent = now (c .before .before .before .before .args .table) in
+    says-of-model lent (w .result) (w .ensures) confluentOf _ (ap not (c .before .if1 .taken)) (c .check-confluent .ensures)
 
 returns-2 : tie.Need-returns-2
-returns-2 c = confluent-passed _ _ (rw (c .before .enum-told .given .1) at (c .before .before .before .accept .ensures)) (c .check-meeting .ensures)
+returns-2 c =
+    let w = c .before .before .recognise in
+    let lent = now (c .before .before .before .before .args .table) in
+    says-20 lent (w .result) (w .ensures) confluentOf _ (ap not (c .before .if1 .left)) (c .refused .ensures)
 
 pub confluent-spec : {M : Type 1} → statement M
 confluent-spec =
     tie.close
     (tie.spec
-    accept-requires
-    enum-told
-    enum-told-2
+    recognise-requires
+    check-confluent-requires
+    refused-requires
     returns
-    check-meeting-requires
     returns-2)

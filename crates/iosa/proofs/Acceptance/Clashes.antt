@@ -1,4 +1,4 @@
--- 18 with its place, exactly: of an accepted model it is answered with the least component, state, lower and higher action that clash.
+-- 18 with its place, exactly: of an accepted model it is answered with the least component, reached state, lower and higher action that clash.
 use mathlib.Core.Path.{_≡_, refl, _∙_}
 use mathlib.Core.Logic.{_↔_, _⊎_, inl, inr, ⊎-elim}
 use mathlib.Core.Option.{Option, none, some}
@@ -7,17 +7,15 @@ use Prim.Native.Nat.{ℕ, suc, _+_}
 use native.Mathlib.Omega.{arith}
 use lib.ListN.{length}
 use Rattle.laws.specs.Search.{orElse, mapSome}
-use Rattle.answer.specs.Limits.{maxActions}
 use Rattle.answer.specs.Told.{Told, tell}
 use Rattle.iosa.specs.Model.{Comp, Model, compAt}
-use Rattle.iosa.specs.WellFormed.{WellComp, WellFormed}
-use Rattle.iosa.specs.Checks.{clashes, check18, clashAmong, acceptOf, confluentOf}
+use Rattle.iosa.specs.WellFormed.{WellFormed}
+use Rattle.iosa.specs.Checks.{check18, clashAmong, acceptOf, confluentOf}
 use Rattle.iosa.specs.Faults.{Broken18, Clash, clash, Fault, First}
-use Rattle.iosa.proofs.Acceptance.Rows.{Single, from-below, urgent-below}
-use Rattle.iosa.proofs.Acceptance.Check18.{clash-broken, broken-clash}
+use Rattle.iosa.proofs.Acceptance.Check18.{decides-18}
 use Rattle.iosa.proofs.Acceptance.ConfluentExactly.{accepted-single}
 use Rattle.iosa.proofs.Acceptance.Ranks.{Decides, decided-exactly, decides-as, decides-map, Retold}
-use Rattle.iosa.proofs.Acceptance.Places.{AtThree, decides-three}
+use Rattle.iosa.proofs.Acceptance.Places.{AtThree}
 use Rattle.iosa.proofs.Acceptance.InTurn.{inTurn, InTurn, decides-turn}
 use Rattle.iosa.proofs.Acceptance.Refused.{refused-exactly, unrefused-exactly}
 
@@ -27,13 +25,6 @@ clashAt i n c = mapSome (λ p. tell 18 (i ∷ p)) (check18 c)
 
 abbrev Clashing : Comp → ℕ → ℕ → List ℕ → Told → Type 0
 Clashing c i n = Retold (λ p. tell 18 (i ∷ p)) (AtThree (Broken18 c))
-
-pub decides-18 : (c : Comp) → WellComp c → Single c → Decides (AtThree (Broken18 c)) (check18 c)
-unfolding check18
-decides-18 c w one = decides-three (Broken18 c) (clashes c) (c .states) maxActions
-    (λ s a b h k l. clash-broken c one s a b k)
-    (λ s a b x. broken-clash c one s a b (x .order) x)
-    (λ s a b x. (from-below c w (x .row), x .order, urgent-below c w b (x .higher)))
 
 -- ---- the components in turn
 among-turn : (i n : ℕ) (m : Model) → clashAmong i m ≡ inTurn clashAt i n m
@@ -71,7 +62,7 @@ module _ (m : Model) where
       pub decides-clashes : Decides (Clash m) (clashAmong 0 m)
       unfolding clashAt
       decides-clashes = decides-as (λ q t. (turn-clash q t, clash-turn q t)) (rw (among-turn 0 0 m) (
-          decides-turn clashAt Clashing 0 0 m (λ j h k l. decides-map (λ p. tell 18 (k ∷ p)) (decides-18 (compAt m j) (w .each j h) (accepted-single m w ok j h)))))
+          decides-turn clashAt Clashing 0 0 m (λ j h k l. decides-map (λ p. tell 18 (k ∷ p)) (decides-18 (compAt m j) (accepted-single m w ok j h) (w .each j h)))))
 
       pub clash-exactly : (t : Told) → (confluentOf m ≡ some t) ↔ First (Clash m) t
       unfolding confluentOf

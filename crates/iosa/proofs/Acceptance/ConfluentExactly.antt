@@ -1,4 +1,4 @@
--- Confluent exactly: of an accepted model no 18 exactly if every component is confluent.
+-- Confluent exactly: of an accepted model no 18 exactly if every component is confluent where it can get.
 use mathlib.Core.Path.{_≡_, refl}
 use mathlib.Core.Logic.{_↔_}
 use mathlib.Core.Option.{Option, none, some}

@@ -66,8 +66,9 @@ module _ (c : Comp) (cs : List Comp) (well : WellFormed (c ∷ cs)) (s : List �
   answer-printed (passes k (refuses r)) out = (sym, sym)
   answer-printed (passes k (passes al (refuses r))) out = (sym, sym)
   answer-printed (passes k (passes al (passes w (refuses r)))) out = (sym, sym)
-  answer-printed (passes k (passes al (passes w (passes b (refuses r))))) out = (sym, sym)
-  answer-printed (passes k (passes al (passes w (passes b (passes t (gives {x = d} r)))))) out = (
+  answer-printed (passes k (passes al (passes w (passes p (refuses r))))) out = (sym, sym)
+  answer-printed (passes k (passes al (passes w (passes p (passes b (refuses r)))))) out = (sym, sym)
+  answer-printed (passes k (passes al (passes w (passes p (passes b (passes t (gives {x = d} r))))))) out = (
     λ e. rw (← e) (printed-run c cs well (conforming-definition (c ∷ cs) well .1 (k .0)) (k .1) s w budget d (r .run)),
     run-printed c cs well (conforming-definition (c ∷ cs) well .1 (k .0)) (k .1) s w d out,
   )

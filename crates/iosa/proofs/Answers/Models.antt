@@ -15,27 +15,29 @@ use Rattle.answer.specs.Told.{Told, tell, Answer, answered, refused, moved}
 use Rattle.iosa.specs.Model.{Comp, Model, compAt, rowCount}
 use Rattle.iosa.specs.WellFormed.{WellFormed}
 use Rattle.iosa.specs.Automaton.{UrgentRow, Conforming, Joinable, AllConfluent}
-use Rattle.iosa.specs.Product.{product, stateOf, Within}
+use Rattle.iosa.specs.Product.{product, stateOf, Within, Reached}
 use Rattle.iosa.specs.Checks.{faultAt, indexFault, componentOf, compatibleOf, acceptOf, clashAmong, confluentOf}
 use Rattle.iosa.specs.Step.{named, lowest, urgentStep, inRange, stateFault, unless, taken, takenBy, stepOf, stepByOf}
-use Rattle.iosa.specs.Settle.{settle, budgetFault, traceFault, play, settleOf, settleListOf}
+use Rattle.iosa.specs.Settle.{settle, reachFault, beginFault, budgetFault, traceFault, play, settleOf, settleListOf}
 use Rattle.iosa.specs.Stepped.{StepsByRule, StepsByName, by-action, Gone, Stepping}
 use Rattle.iosa.specs.Orders.{OneEnd, Called, Settling}
 use Rattle.iosa.specs.InOrder.{_▹_, refuses, passes, Gives, gives, needs, room, accepted, conforms, joinable, confluent}
 use Rattle.iosa.specs.Answers.{Fine, stateOk, AcceptAnswer, ComponentAnswer, CompatibleAnswer, ConfluentAnswer, StepAnswer, Enabled, StepByAnswer}
-use Rattle.iosa.specs.Answers.{SettleAnswer, ListAnswer, is23, is-series, SettleListAnswer}
+use Rattle.iosa.specs.Answers.{partsOk, SettleAnswer, ListAnswer, is23, is-series, SettleListAnswer}
 use Rattle.iosa.proofs.Acceptance.Accepted.{conditions-exactly, joinable-exactly, accepted-exactly}
 use Rattle.iosa.proofs.Acceptance.Refused.{refused-exactly, component-refused-exactly, compatible-refused-exactly}
 use Rattle.iosa.proofs.Acceptance.InHalves.{there-own}
 use Rattle.iosa.proofs.Acceptance.Clashes.{clash-exactly}
 use Rattle.iosa.proofs.Acceptance.ConfluentExactly.{confluent-exactly}
 use Rattle.iosa.proofs.Settling.Range.{range-exactly}
+use Rattle.iosa.proofs.Settling.ProductOfMany.{wells}
 use Rattle.iosa.proofs.Settling.Steps.{row-is-a-step, steps-exactly, step-is-a-row}
 use Rattle.iosa.proofs.Settling.Demand3.{demand-3}
 use Rattle.iosa.proofs.Settling.Listed.{list-that-is-a-series, list-that-is-no-series}
 use Rattle.iosa.proofs.Settling.Called.{one-end}
 use Rattle.iosa.proofs.Settling.StepCalled.{rule-taken, taken-rule}
 use Rattle.iosa.proofs.Thesis.Proposition41.{component-definition, conforming-definition, accepted-is-definition-4-1}
+use Rattle.iosa.proofs.Reaching.Refused19.{reach-faultless, reach-fault-exactly}
 use Rattle.iosa.proofs.Answers.InOrder.{Decided, refusedOr, either, or-refused, unless-refused}
 use Rattle.iosa.proofs.Answers.InOrder.{check-exactly, gives-exactly, needs-decided, room-decided}
 use Rattle.iosa.proofs.Answers.OneRun.{our-run-exactly}
@@ -84,6 +86,12 @@ state-decided c cs s = needs-decided 21 (Within (c ∷ cs) s) (not (inRange (c �
   λ e. range-exactly (c ∷ cs) s .0 (not-false (inRange (c ∷ cs) s) e),
   λ w. rw (range-exactly (c ∷ cs) s .1 w),
 )
+
+-- of a state in range
+parts-decided : (c : Comp) (cs : List Comp) → WellFormed (c ∷ cs) → (s : List ℕ) → Within (c ∷ cs) s → Decided (partsOk c cs s) (reachFault (c ∷ cs) s)
+parts-decided c cs well s w =
+    let al = wells (c ∷ cs) well in
+    record { told = reach-fault-exactly (c ∷ cs) s al w; fine = reach-faultless (c ∷ cs) s al w }
 
 budget-decided : (n : ℕ) → Decided (needs 22 (n ≤ maxBudget)) (budgetFault n)
 unfolding budgetFault
@@ -180,16 +188,16 @@ module _ (c : Comp) (cs : List Comp) (well : WellFormed (c ∷ cs)) where
         check-exactly (stateOk c cs s) (stateFault m s) (state-decided c cs s) x R (λ w. by-named k w b (urgentStep m s b) refl)) a)
 
     -- ---- settling
-    module _ (k : Conforming m × Joinable m) (al : AllConfluent m) (w : Within m s) where
+    module _ (k : Conforming m × Joinable m) (al : AllConfluent m) (w : Within m s) (r : Reached m s) where
       confluent-none : confluentOf m ≡ none
       confluent-none = confluent-exactly m well (accepted-exactly m well .1 k) .1 al
 
       pub orders-agree : OneEnd (product c cs) (stateOf c cs s)
-      orders-agree = one-end (demand-3 c cs well confluent-none s w)
+      orders-agree = one-end (demand-3 c cs well confluent-none s r)
 
       called-exactly : (budget : ℕ) (d : Settling (List ℕ)) → (settle (urgentStep m) budget s ≡ d) ↔ Called c cs s budget d
       called-exactly budget d =
-          let t = demand-3 c cs well confluent-none s w in
+          let t = demand-3 c cs well confluent-none s r in
           let o = our-run-exactly c cs well (k .0) (k .1) s w budget d in (
             λ e. record {
               orders = orders-agree;
@@ -198,7 +206,7 @@ module _ (c : Comp) (cs : List Comp) (well : WellFormed (c ∷ cs)) where
               short = λ run st h. rw (← e) (t .stops run st .short budget h .unstable);
               never = λ f. rw (← e) (t .never f budget .unstable);
             },
-            λ r. o .1 (r .run),
+            λ d. o .1 (d .run),
           )
 
       list-exactly : (l : List ℕ) (a : Answer (Settling (List ℕ))) → (play m 0 l s ≡ a) ↔ ListAnswer c cs s l a
@@ -215,21 +223,24 @@ module _ (c : Comp) (cs : List Comp) (well : WellFormed (c ∷ cs)) where
           back (is23 {i = i} n) = list-that-is-no-series c cs well (k .0) (k .1) s w l (tell 23 (i ∷ [])) .1 (i, refl, n)
           back (is-series {d = d} r) = list-that-is-a-series c cs well (k .0) (k .1) s w l d .1 (r .listed)
 
-    -- what `confluent` refuses, then 21, then the call's own
-    after-21 : {A : Type 0} (p : Option Told) (x : Answer A) (R : Answer A → Type 0)
-        → (Conforming m × Joinable m → AllConfluent m → Within m s → (a : Answer A) → (refusedOr p x ≡ a) ↔ R a)
-        → (a : Answer A) → ((elim (orElse (confluentOf m) (orElse (stateFault m s) p)) as (λ _. Answer A) [ some t ↦ refused t | none ↦ x ]) ≡ a)
-        ↔ (accepted m ▹ confluent m ▹ stateOk c cs s ▹ R) a
-    unfolding confluentOf
-    after-21 p x R f a =
+    -- what `confluent` refuses, then 21, then 19, then the call's own
+    after-19 : {A : Type 0} (p : Option Told) (x : Answer A) (R : Answer A → Type 0)
+        → (Conforming m × Joinable m → AllConfluent m → Within m s → Reached m s → (a : Answer A) → (refusedOr p x ≡ a) ↔ R a)
+        → (a : Answer A) → ((elim (orElse (confluentOf m) (orElse (beginFault m s) p)) as (λ _. Answer A) [ some t ↦ refused t | none ↦ x ]) ≡ a)
+        ↔ (accepted m ▹ confluent m ▹ stateOk c cs s ▹ partsOk c cs s ▹ R) a
+    unfolding confluentOf beginFault
+    after-19 p x R f a =
         let y = refusedOr p x in
-        let z = refusedOr (stateFault m s) y in
-        let e = or-refused (orElse (acceptOf m) (clashAmong 0 m)) (orElse (stateFault m s) p) x in
-        let g = ap (refusedOr (orElse (acceptOf m) (clashAmong 0 m))) (or-refused (stateFault m s) p x) in
-        rw (either (orElse (confluentOf m) (orElse (stateFault m s) p)) x ∙ e ∙ g ∙ or-refused (acceptOf m) (clashAmong 0 m) z) (
-        check-accepted m well (refusedOr (clashAmong 0 m) z) (confluent m ▹ stateOk c cs s ▹ R) (λ k.
-        check-exactly (confluent m) (clashAmong 0 m) (confluent-decided m well k) z (stateOk c cs s ▹ R) (λ al.
-        check-exactly (stateOk c cs s) (stateFault m s) (state-decided c cs s) y R (λ w. f k al w))) a)
+        let v = refusedOr (reachFault m s) y in
+        let z = refusedOr (stateFault m s) v in
+        let e = or-refused (orElse (acceptOf m) (clashAmong 0 m)) (orElse (orElse (stateFault m s) (reachFault m s)) p) x in
+        let h = or-refused (orElse (stateFault m s) (reachFault m s)) p x ∙ or-refused (stateFault m s) (reachFault m s) y in
+        let g = ap (refusedOr (orElse (acceptOf m) (clashAmong 0 m))) h in
+        rw (either (orElse (confluentOf m) (orElse (beginFault m s) p)) x ∙ e ∙ g ∙ or-refused (acceptOf m) (clashAmong 0 m) z) (
+        check-accepted m well (refusedOr (clashAmong 0 m) z) (confluent m ▹ stateOk c cs s ▹ partsOk c cs s ▹ R) (λ k.
+        check-exactly (confluent m) (clashAmong 0 m) (confluent-decided m well k) z (stateOk c cs s ▹ partsOk c cs s ▹ R) (λ al.
+        check-exactly (stateOk c cs s) (stateFault m s) (state-decided c cs s) v (partsOk c cs s ▹ R) (λ w.
+        check-exactly (partsOk c cs s) (reachFault m s) (parts-decided c cs well s w) y R (λ r. f k al w r)))) a)
 
     pub settle-model-exactly : (budget trace : ℕ) (a : Answer (Settling (List ℕ))) → (settleOf m s budget trace ≡ a) ↔ SettleAnswer c cs s budget trace a
     unfolding settleOf
@@ -237,14 +248,14 @@ module _ (c : Comp) (cs : List Comp) (well : WellFormed (c ∷ cs)) where
         let x : Answer (Settling (List ℕ)) = answered (settle (urgentStep m) budget s) in
         let b = budgetFault budget in
         let t = traceFault budget trace in
-        after-21 (orElse b t) x (needs 22 (budget ≤ maxBudget) ▹ room budget trace ▹ Gives (Called c cs s budget)) (λ k al w a. rw (or-refused b t x) (
+        after-19 (orElse b t) x (needs 22 (budget ≤ maxBudget) ▹ room budget trace ▹ Gives (Called c cs s budget)) (λ k al w r a. rw (or-refused b t x) (
         check-exactly (needs 22 (budget ≤ maxBudget)) b (budget-decided budget) (refusedOr t x) (room budget trace ▹ Gives (Called c cs s budget)) (λ h.
         check-exactly (room budget trace) t (trace-decided budget trace) x (Gives (Called c cs s budget)) (λ i.
-        gives-exactly (settle (urgentStep m) budget s) (Called c cs s budget) (called-exactly k al w budget))) a)) a
+        gives-exactly (settle (urgentStep m) budget s) (Called c cs s budget) (called-exactly k al w r budget))) a)) a
 
     pub settle-list-model-exactly : (l : List ℕ) (a : Answer (Settling (List ℕ))) → (settleListOf m s l ≡ a) ↔ SettleListAnswer c cs s l a
     unfolding settleListOf
     settle-list-model-exactly l a =
-        after-21 (budgetFault (length l)) (play m 0 l s) (needs 22 (length l ≤ maxBudget) ▹ ListAnswer c cs s l) (λ k al w.
+        after-19 (budgetFault (length l)) (play m 0 l s) (needs 22 (length l ≤ maxBudget) ▹ ListAnswer c cs s l) (λ k al w r.
         check-exactly (needs 22 (length l ≤ maxBudget)) (budgetFault (length l)) (budget-decided (length l)) (play m 0 l s) (ListAnswer c cs s l) (λ h.
-        list-exactly k al w l)) a
+        list-exactly k al w r l)) a

@@ -9,12 +9,14 @@ use Rattle.iosa.specs.Model.{Comp}
 use Rattle.iosa.specs.WellFormed.{WellFormed}
 use Rattle.iosa.specs.Automaton.{Conforming, Joinable, AllConfluent}
 use Rattle.iosa.specs.Thesis.{AllDefinition41}
-use Rattle.iosa.specs.Product.{product, stateOf, Within, Series}
+use Rattle.iosa.specs.Product.{product, stateOf, Within, Reached, Series}
 use Rattle.iosa.specs.Orders.{OneEnd}
 use Rattle.iosa.specs.Merge.{mergeOf}
 use Rattle.iosa.specs.MergedAs.{Replaced, Small, is-merged}
 use Rattle.iosa.specs.MergedExactly.{pairedAt}
 use Rattle.iosa.proofs.Acceptance.Accepted.{accepted-exactly}
+use Rattle.iosa.proofs.Settling.ProductOfMany.{wells}
+use Rattle.iosa.proofs.Reaching.Keeps.{reached-within}
 use Rattle.iosa.proofs.Thesis.Proposition41.{conforming-definition, accepted-is-definition-4-1}
 use Rattle.iosa.proofs.Merging.Models.{merge-exactly, merging-is-exact}
 use Rattle.iosa.proofs.Merging.Accepted.{merging-keeps-acceptance}
@@ -22,10 +24,11 @@ use Rattle.iosa.proofs.Merging.SameRuns.{merging-keeps-the-rows, mergin
 use Rattle.iosa.proofs.Answers.Models.{orders-agree}
 use Rattle.iosa.proofs.Answers.Merged.{merged-answers-exactly}
 
--- from every composed state of an accepted model of confluent components
+-- from every composed state made of reached parts, of an accepted model of components that are confluent where they can get
 pub demand-3-by-itself : (c : Comp) (cs : List Comp) → WellFormed (c ∷ cs) → AllDefinition41 (c ∷ cs) → Joinable (c ∷ cs) → AllConfluent (c ∷ cs)
-    → (s : List ℕ) → Within (c ∷ cs) s → OneEnd (product c cs) (stateOf c cs s)
-demand-3-by-itself c cs well d join al s w = orders-agree c cs well s (conforming-definition (c ∷ cs) well .1 d, join) al w
+    → (s : List ℕ) → Reached (c ∷ cs) s → OneEnd (product c cs) (stateOf c cs s)
+demand-3-by-itself c cs well d join al s r =
+    orders-agree c cs well s (conforming-definition (c ∷ cs) well .1 d, join) al (reached-within (c ∷ cs) s (wells (c ∷ cs) well) r) r
 
 -- ---- the model e, es has the product of the components i and i+1 of c, cs in their place, and keeps the limits
 module _ (c : Comp) (cs : List Comp) (well : WellFormed (c ∷ cs)) (d : AllDefinition41 (c ∷ cs)) (join : Joinable (c ∷ cs))

@@ -5,13 +5,11 @@ use mathlib.Core.List.{List, _∷_}
 use Prim.Native.Nat.{ℕ}
 use Rattle.iosa.specs.Model.{Comp}
 use Rattle.iosa.specs.WellFormed.{WellFormed}
-use Rattle.iosa.specs.Automaton.{Confluent, Conforming, Joinable, AllConfluent}
+use Rattle.iosa.specs.Automaton.{Confluent, Conforming, Joinable}
 use Rattle.iosa.specs.Product.{product, stateOf, Within}
 use Rattle.iosa.specs.Step.{urgentStep, RowStep}
 use Rattle.iosa.specs.Stepped.{Gone}
 use Rattle.iosa.proofs.Settling.Parts.{within-length}
-use Rattle.iosa.proofs.Settling.ProductOfMany.{in-range-is-a-state}
-use Rattle.iosa.proofs.Settling.SystemConfluent.{system-is-confluent}
 use Rattle.iosa.proofs.Settling.Steps.{state-is-one-list, step-is-a-row, row-is-a-step}
 use Rattle.iosa.proofs.Settling.Descent.{Diamond}
 
@@ -32,8 +30,3 @@ module _ (c : Comp) (cs : List Comp) (well : WellFormed (c ∷ cs)) (conf : Conf
       close g h x y =
           let e = state-is-one-list c cs (y .after) (x .after) (within-length (c ∷ cs) (y .after) (y .within)) (within-length (c ∷ cs) (x .after) (x .within)) (sym (y .state) ∙ x .state) in
           (x .after, x .step, y .step ∙ (λ i. some (record { resets = g .resets; after = e i })))
-
-  -- "any composed state": all in range
-  pub urgent-steps-commute : AllConfluent (c ∷ cs) → Diamond (urgentStep (c ∷ cs)) (Within (c ∷ cs))
-  urgent-steps-commute al s a b g h w ne e f =
-      confluent-steps-commute (product c cs .States) (system-is-confluent c cs well join al) s a b g h (w, in-range-is-a-state c cs s w) ne e f

@@ -1,6 +1,6 @@
--- Demand 3: one theorem over series of urgent outputs of the product's own rows; and our run is one of them.
+-- Demand 3: one theorem over series of urgent outputs of the product's own rows, from any composed state made of reached parts; and our run is one of them.
 use mathlib.Core.Path.{_≡_, refl, sym, _∙_, ap}
-use mathlib.Core.Logic.{_↔_, _⊎_, by-cases}
+use mathlib.Core.Logic.{_↔_, _⊎_, inl, by-cases}
 use mathlib.Core.Bool.{Bool, true, false, true≢false}
 use mathlib.Core.Option.{none}
 use mathlib.Core.List.{List, _∷_}
@@ -11,8 +11,8 @@ use lib.ListN.{length}
 use Rattle.laws.proofs.SearchLaws.{no-some}
 use Rattle.iosa.specs.Model.{Comp}
 use Rattle.iosa.specs.WellFormed.{WellFormed}
-use Rattle.iosa.specs.Automaton.{Conforming, Joinable, Stable}
-use Rattle.iosa.specs.Product.{product, stateOf, Within, Series}
+use Rattle.iosa.specs.Automaton.{Conforming, Joinable, Stable, ReachedIn, AllConfluent}
+use Rattle.iosa.specs.Product.{product, stateOf, Within, Reached, MadeOf, Series}
 use Rattle.iosa.specs.Checks.{confluentOf}
 use Rattle.iosa.specs.Step.{urgentStep}
 use Rattle.iosa.specs.Settle.{settle}
@@ -22,9 +22,12 @@ use Rattle.iosa.proofs.Acceptance.Accepted.{accepted-exactly}
 use Rattle.iosa.proofs.Acceptance.ConfluentExactly.{confluent-exactly, confluent-accepted}
 use Rattle.iosa.proofs.Settling.Descent.{Run, Stuck, Keeps, Diamond, none-is-longer, all-that-stop-are-alike}
 use Rattle.iosa.proofs.Settling.Rule.{Ran, Exact, settle-ran, settle-exact, settle-never}
-use Rattle.iosa.proofs.Settling.Steps.{steps-keep-the-range, steps-are-bounded, stable-stuck, stuck-stable, stable-or-goes-on}
-use Rattle.iosa.proofs.Settling.Commute.{urgent-steps-commute}
+use Rattle.iosa.proofs.Settling.Steps.{step-is-a-row, steps-are-bounded, stable-stuck, stuck-stable, stable-or-goes-on}
+use Rattle.iosa.proofs.Settling.ProductOfMany.{wells}
+use Rattle.iosa.proofs.Settling.SystemConfluent.{system-is-confluent}
+use Rattle.iosa.proofs.Settling.Commute.{confluent-steps-commute}
 use Rattle.iosa.proofs.Settling.SeriesAndRuns.{series-is-a-run, run-is-a-series, low-run-is-a-series}
+use Rattle.iosa.proofs.Reaching.Keeps.{reached-within, row-keeps-reached-parts}
 
 module _ (c : Comp) (cs : List Comp) (well : WellFormed (c ∷ cs)) (conf : Conforming (c ∷ cs)) (join : Joinable (c ∷ cs)) where
   -- ---- over any composed states that urgent steps keep and in which they commute
@@ -94,10 +97,25 @@ module _ (c : Comp) (cs : List Comp) (well : WellFormed (c ∷ cs)) (conf : Conf
           settled true e st = e
           settled false e st = let v = ran .going e .1 in absurd (no-some (st (v .0 .action)) (v .1))
 
--- any accepted model whose components pass 18, and any composed state in range
-pub demand-3 : (c : Comp) (cs : List Comp) → WellFormed (c ∷ cs) → confluentOf (c ∷ cs) ≡ none → (s : List ℕ) → Within (c ∷ cs) s → Demand3 c cs s
-demand-3 c cs well e s w =
+  -- ---- made of reached parts
+  abbrev Good : List ℕ → Type 0
+  Good s = Within (c ∷ cs) s × MadeOf ReachedIn c cs (stateOf c cs s)
+
+  pub steps-keep-reached-parts : Keeps (urgentStep (c ∷ cs)) Good
+  steps-keep-reached-parts s a g ok e =
+      let p = step-is-a-row c cs well conf join s (ok .0) a g e in
+      (p .1, row-keeps-reached-parts c cs well conf join 0 a (g .resets) (stateOf c cs s) (stateOf c cs (g .after)) (inl (p .0 .urgent)) (p .0 .row) (ok .1))
+
+  pub demand-3-from-reached-parts : AllConfluent (c ∷ cs) → (s : List ℕ) → Reached (c ∷ cs) s → Demand3 c cs s
+  demand-3-from-reached-parts al s r =
+      let w = reached-within (c ∷ cs) s (wells (c ∷ cs) well) r in
+      commuting-steps-settle Good steps-keep-reached-parts
+      (confluent-steps-commute c cs well conf join (MadeOf ReachedIn c cs) (system-is-confluent c cs well join al)) s w
+      (w, record { list = s; parts = r; state = refl })
+
+-- any accepted model whose components pass 18, and "any composed state made of such parts"
+pub demand-3 : (c : Comp) (cs : List Comp) → WellFormed (c ∷ cs) → confluentOf (c ∷ cs) ≡ none → (s : List ℕ) → Reached (c ∷ cs) s → Demand3 c cs s
+demand-3 c cs well e =
     let ok = confluent-accepted (c ∷ cs) e in
     let k = accepted-exactly (c ∷ cs) well .0 ok in
-    commuting-steps-settle c cs well (k .0) (k .1) (Within (c ∷ cs)) (steps-keep-the-range c cs well (k .0) (k .1))
-    (urgent-steps-commute c cs well (k .0) (k .1) (confluent-exactly (c ∷ cs) well ok .0 e)) s w w
+    demand-3-from-reached-parts c cs well (k .0) (k .1) (confluent-exactly (c ∷ cs) well ok .0 e)

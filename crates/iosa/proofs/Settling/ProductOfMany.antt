@@ -43,7 +43,7 @@ joinable-pairwise (c ∷ cs) j = (
   joinable-pairwise cs (record { pair = λ i k h l. j .pair (suc i) (suc k) (omega arith) (omega arith) }),
 )
 
-fits-on : (A B : Automaton) (cs : Model) → Fits A cs → Fits B cs → Fits (A ⊗ B) cs
+pub fits-on : (A B : Automaton) (cs : Model) → Fits A cs → Fits B cs → Fits (A ⊗ B) cs
 fits-on A B [] f g = tt
 fits-on A B (c ∷ cs) f g = (compatible-goes-on A B (autoOf c) (f .0) (g .0), fits-on A B cs (f .1) (g .1))
 

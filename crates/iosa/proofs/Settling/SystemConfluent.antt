@@ -1,18 +1,18 @@
--- Proposition 4.2 of document 000 for a system, pair by pair: at one composed state, over composed states made of parts that count, and over all.
+-- Proposition 4.2 of document 000 for a system, pair by pair: at one composed state, over composed states made of parts that count, and of reached ones.
 use mathlib.Core.Path.{refl}
 use mathlib.Core.List.{List, [], _∷_}
 use Prim.Native.Nat.{ℕ, _<_}
 use Rattle.laws.specs.Sets.{_∈_}
 use Rattle.iosa.specs.Model.{Comp, Model, acts, urgents}
 use Rattle.iosa.specs.WellFormed.{WellComp, WellFormed}
-use Rattle.iosa.specs.Automaton.{Automaton, autoOf, MeetsAt, ConfluentFor, Confluent, Joinable, AllConfluent, Meets}
+use Rattle.iosa.specs.Automaton.{Automaton, autoOf, ReachedIn, MeetsAt, ConfluentFor, Confluent, Joinable, AllConfluent, Meets}
 use Rattle.iosa.specs.Product.{_⊗_, productFrom, product, embed, stateOf, EachPart, MadeOf}
 use Rattle.iosa.proofs.Settling.Each.{All, each-all, all-map, all-zip}
 use Rattle.iosa.proofs.Settling.Parts.{label-parts}
 use Rattle.iosa.specs.Thesis.{OwnNames}
 use Rattle.iosa.proofs.Settling.OwnNames.{component-own, product-own}
 use Rattle.iosa.proofs.Settling.ProductConfluent.{product-meets-at}
-use Rattle.iosa.proofs.Settling.ProductOfMany.{joinable-pairwise, wells, system-own, state-has-a-list}
+use Rattle.iosa.proofs.Settling.ProductOfMany.{joinable-pairwise, wells, system-own}
 use Rattle.iosa.proofs.Settling.UrgentOutputs.{urgent-everywhere}
 
 -- what holds of each component, and of each part, together
@@ -68,12 +68,6 @@ module _ (c : Comp) (cs : List Comp) (well : WellFormed (c ∷ cs)) where
         everywhere : (a : ℕ) → a ∈ product c cs .urgent → All (λ d. a ∈ acts d → a ∈ urgents d) (c ∷ cs)
         everywhere a u = urgent-everywhere (c ∷ cs) a (joinable-pairwise (c ∷ cs) join) (label-parts (λ A. A .urgent) (λ A B. refl) cs (autoOf c) a u)
 
-  -- ---- over all states
-  pub system-is-confluent : Joinable (c ∷ cs) → AllConfluent (c ∷ cs) → Confluent (product c cs) (product c cs .States)
-  system-is-confluent join al =
-      let k = system-is-confluent-where (λ d x. x < d .states) join (each-all (λ d. Confluent (autoOf d) (autoOf d .States)) (c ∷ cs) (al .each)) in
-      record {
-        pair = λ a b ne ua ub. record {
-          meets = λ y ok. let p = state-has-a-list c cs y ok in k .pair a b ne ua ub .meets y (record { list = p .0; parts = p .1; state = p .2 });
-        };
-      }
+  -- ---- over composed states made of reached parts
+  pub system-is-confluent : Joinable (c ∷ cs) → AllConfluent (c ∷ cs) → Confluent (product c cs) (MadeOf ReachedIn c cs)
+  system-is-confluent join al = system-is-confluent-where ReachedIn join (each-all (λ d. Confluent (autoOf d) (ReachedIn d)) (c ∷ cs) (al .each))

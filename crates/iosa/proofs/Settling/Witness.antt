@@ -12,24 +12,26 @@ use Rattle.laws.specs.Tests.{allOf}
 use Rattle.answer.specs.Told.{tell, answered, refused}
 use Rattle.iosa.specs.Model.{Row, Comp}
 use Rattle.iosa.specs.WellFormed.{WellFormed}
-use Rattle.iosa.specs.Automaton.{Stable, Conforming, Joinable}
-use Rattle.iosa.specs.Product.{product, stateOf, Within, Series}
+use Rattle.iosa.specs.Automaton.{Stable, at-start, Conforming, Joinable}
+use Rattle.iosa.specs.Product.{product, stateOf, Within, Reached, Series}
 use Rattle.iosa.specs.Checks.{acceptOf, confluentOf}
 use Rattle.iosa.specs.Reading.{readOf}
 use Rattle.iosa.specs.Step.{urgentStep, isStable}
-use Rattle.iosa.specs.Settle.{settle, play, settleOf}
+use Rattle.iosa.specs.Settle.{settle, reachFault, play, settleOf}
 use Rattle.iosa.specs.Orders.{OneEnd, Called, Listed, CalledByList, Settling}
 use Rattle.iosa.specs.Demand3.{Demand3, SettledAs, Same, Unsettled}
 use Rattle.iosa.specs.Examples.{M, loop, bytesOf, reply}
 use Rattle.iosa.proofs.Acceptance.Accepted.{accepted-exactly}
 use Rattle.iosa.proofs.Acceptance.ConfluentExactly.{confluent-accepted}
 use Rattle.iosa.proofs.Settling.Range.{range-exactly}
+use Rattle.iosa.proofs.Settling.ProductOfMany.{wells}
 use Rattle.iosa.proofs.Settling.WellFormedTest.{wellFormed, wellComp, wellRow, well-formed}
 use Rattle.iosa.proofs.Settling.Demand3.{demand-3}
 use Rattle.iosa.proofs.Settling.Descent.{Run}
 use Rattle.iosa.proofs.Settling.Steps.{stable-exactly}
 use Rattle.iosa.proofs.Settling.SeriesAndRuns.{series-is-a-run}
 use Rattle.iosa.proofs.Settling.Listed.{list-that-is-a-series}
+use Rattle.iosa.proofs.Reaching.Refused19.{reach-faultless}
 
 -- a row: from, guard, action, resets, target
 abbrev row : ℕ → ℕ → ℕ → ℕ → ℕ → Row
@@ -63,14 +65,15 @@ pub record TwoOrders (c : Comp) (cs : List Comp) (s l k : List ℕ) (d : Settlin
   pub same : Same (product c cs) l (d .resets) (stateOf c cs (d .state)) k (d .resets) (stateOf c cs (d .state))
   pub settled : (budget : ℕ) → length l ≤ budget → SettledAs c cs (length l) (d .resets) (stateOf c cs (d .state)) (settle (urgentStep (c ∷ cs)) budget s)
 
-two-orders : (c : Comp) (cs : List Comp) → WellFormed (c ∷ cs) → confluentOf (c ∷ cs) ≡ none → (s : List ℕ) → Within (c ∷ cs) s → (l k : List ℕ) (d d′ : Settling (List ℕ))
+two-orders : (c : Comp) (cs : List Comp) → WellFormed (c ∷ cs) → confluentOf (c ∷ cs) ≡ none → (s : List ℕ) → Within (c ∷ cs) s
+    → reachFault (c ∷ cs) s ≡ none → (l k : List ℕ) (d d′ : Settling (List ℕ))
     → play (c ∷ cs) 0 l s ≡ answered d → play (c ∷ cs) 0 k s ≡ answered d′ → d .stable ≡ true → d .resets ≡ d′ .resets → d .state ≡ d′ .state → TwoOrders c cs s l k d
-two-orders c cs well e s w l k d d′ p q st f g =
+two-orders c cs well e s w r l k d d′ p q st f g =
     let a = accepted-exactly (c ∷ cs) well .0 (confluent-accepted (c ∷ cs) e) in
     let x = list-that-is-a-series c cs well (a .0) (a .1) s w l d .0 p in
     let y = list-that-is-a-series c cs well (a .0) (a .1) s w k d′ .0 q in
     let z = rw (← f, ← g) at (y .series) in
-    let t = demand-3 c cs well e s w in
+    let t = demand-3 c cs well e s (reach-faultless (c ∷ cs) s (wells (c ∷ cs) well) w .0 r) in
     let v = x .stable .0 st in
     record {
       one = x .series;
@@ -89,7 +92,7 @@ ended n R t = record { stable = true; steps = n; resets = R; trace = []; state =
 pub M-in-two-orders : TwoOrders M₀ (M₁ ∷ []) (1 ∷ 1 ∷ []) (1 ∷ 2 ∷ []) (2 ∷ 1 ∷ []) (ended 2 1 (0 ∷ 2 ∷ []))
 unfolding reply M₀ M₁
 M-in-two-orders =
-    two-orders M₀ (M₁ ∷ []) M-well M-confluent (1 ∷ 1 ∷ []) (range-exactly (M₀ ∷ M₁ ∷ []) (1 ∷ 1 ∷ []) .0 refl) (1 ∷ 2 ∷ []) (2 ∷ 1 ∷ [])
+    two-orders M₀ (M₁ ∷ []) M-well M-confluent (1 ∷ 1 ∷ []) (range-exactly (M₀ ∷ M₁ ∷ []) (1 ∷ 1 ∷ []) .0 refl) refl (1 ∷ 2 ∷ []) (2 ∷ 1 ∷ [])
     (ended 2 1 (0 ∷ 2 ∷ [])) (ended 2 1 (0 ∷ 2 ∷ [])) refl refl refl refl refl
 
 -- ---- three components: two that tell the third by urgent outputs 0 and 1 and reset clocks 0 and 1; it waits for both, then tells by 2 and resets clock 2
@@ -127,7 +130,7 @@ T-confluent = refl
 pub three-in-two-orders : TwoOrders T₀ (T₁ ∷ T₂ ∷ []) (0 ∷ 0 ∷ 0 ∷ []) (0 ∷ 1 ∷ 2 ∷ []) (1 ∷ 0 ∷ 2 ∷ []) (ended 3 7 (1 ∷ 1 ∷ 4 ∷ []))
 unfolding reply T₀ T₁ T₂
 three-in-two-orders =
-    two-orders T₀ (T₁ ∷ T₂ ∷ []) T-well T-confluent (0 ∷ 0 ∷ 0 ∷ []) (range-exactly (T₀ ∷ T₁ ∷ T₂ ∷ []) (0 ∷ 0 ∷ 0 ∷ []) .0 refl) (0 ∷ 1 ∷ 2 ∷ []) (1 ∷ 0 ∷ 2 ∷ [])
+    two-orders T₀ (T₁ ∷ T₂ ∷ []) T-well T-confluent (0 ∷ 0 ∷ 0 ∷ []) (range-exactly (T₀ ∷ T₁ ∷ T₂ ∷ []) (0 ∷ 0 ∷ 0 ∷ []) .0 refl) refl (0 ∷ 1 ∷ 2 ∷ []) (1 ∷ 0 ∷ 2 ∷ [])
     (ended 3 7 (1 ∷ 1 ∷ 4 ∷ [])) (ended 3 7 (1 ∷ 1 ∷ 4 ∷ [])) refl refl refl refl refl
 
 -- ---- "Inputs count": the third remembers which of 0 and 1 came first, so its two inputs clash and nothing else does
@@ -220,9 +223,13 @@ looping-starts : Within (looping ∷ []) (0 ∷ [])
 unfolding reply looping
 looping-starts = range-exactly (looping ∷ []) (0 ∷ []) .0 refl
 
+looping-reached : Reached (looping ∷ []) (0 ∷ [])
+unfolding looping
+looping-reached = (at-start, tt)
+
 pub loop-never-settles : (budget : ℕ) → Unsettled budget (settle (urgentStep (looping ∷ [])) budget (0 ∷ []))
 loop-never-settles budget =
-    demand-3 looping [] looping-well looping-confluent (0 ∷ []) looping-starts .never
+    demand-3 looping [] looping-well looping-confluent (0 ∷ []) looping-reached .never
     (λ l R y run st. stops (series-is-a-run looping [] looping-well (accepted .0) (accepted .1) (0 ∷ []) looping-starts refl run) st) budget
   where
     accepted : Conforming (looping ∷ []) × Joinable (looping ∷ [])

@@ -1,17 +1,15 @@
 -- `report::put_answer` meets its contract.
 use native.Mathlib.Omega.{arith}
 use denote.Ref.{now}
-use Rattle.answer.specs.State.{partsOf}
-use Rattle.layout.specs.Image.{modelOf}
 use Rattle.tell.proofs.TellLaws.{put-as}
 use Rattle.steplines.proofs.Most.{refused-most}
-use Rattle.report.proofs.ReportLaws.{checked-image, checked-fine, checked-refused}
+use Rattle.report.proofs.ReportLaws.{checked-fine, checked-refused}
 use borrow.Author.Needs.{needs}
 use Rattle.report.proofs.put_answer.Statement.{statement}
 use Rattle.report.proofs.put_answer.Tie as tie
 
-confluent-requires : tie.Need-confluent-requires
-confluent-requires c κs = search needs
+check-entry-requires : tie.Need-check-entry-requires
+check-entry-requires c κs = search needs
 
 enum-known-checked : tie.Need-enum-known-checked
 enum-known-checked c = search needs
@@ -26,9 +24,9 @@ put-settled-requires : tie.Need-put-settled-requires
 put-settled-requires c κs =
     let s0 = c .before .before .before .before .before .before in
     let t = now (s0 .args .t) in
-    let r = c .before .before .before .confluent .result in
-    let e = checked-image t r (s0 .pre .0) (c .before .before .before .confluent .ensures) in
-    (s0 .pre .0, checked-fine (modelOf t) r e (c .before .enum-told .given .1), s0 .pre .1)
+    let r = c .before .before .before .check-entry in
+    let p = checked-fine t (s0 .args .x) (r .result) (r .ensures) (c .before .enum-told .given .1) in
+    (s0 .pre .0, p .0, p .1, s0 .pre .1)
 
 same-length : tie.Need-same-length
 same-length c = search needs
@@ -37,9 +35,10 @@ returns : tie.Need-returns
 returns c =
     let s0 = c .before .before .before .before .before .before .before .before .before .before in
     let t = now (s0 .args .t) in
-    let r = c .before .before .before .before .before .before .before .confluent .result in
-    let e = checked-image t r (s0 .pre .0) (c .before .before .before .before .before .before .before .confluent .ensures) in
-    put-as (checked-refused (modelOf t) r e (c .before .before .before .before .before .checked .given .0 .0) (c .before .before .before .before .before .checked .given .1) (partsOf (s0 .args .x)) (s0 .args .budget)) (c .before .before .put-refused .ensures)
+    let r = c .before .before .before .before .before .before .before .check-entry in
+    let why = c .before .before .before .before .before .checked in
+    let e = checked-refused t (s0 .args .x) (r .result) (r .ensures) (why .given .0 .0) (why .given .1) (s0 .args .budget) in
+    put-as e (c .before .before .put-refused .ensures)
 
 same-length-2 : tie.Need-same-length-2
 same-length-2 c = search needs
@@ -51,7 +50,7 @@ pub put-answer-spec : {M : Type 1} → statement M
 put-answer-spec =
     tie.close
     (tie.spec
-    confluent-requires
+    check-entry-requires
     enum-known-checked
     put-refused-requires
     enum-told

@@ -1,0 +1,3 @@
+pub mod Spreading
+pub mod Marking
+pub mod Along
