@@ -149,8 +149,9 @@ pub fn accept(table: &[u64]) -> Checked
 pub fn confluent(table: &[u64]) -> Checked
     ensures { λ r. ⌜ Confluently (now (table .entry)) r ⌝ }
 {
-    if !table::recognise(table) {
-        return refused(20);
+    if table::recognise(table) {
+        check_confluent(table)
+    } else {
+        refused(20)
     }
-    check_confluent(table)
 }
