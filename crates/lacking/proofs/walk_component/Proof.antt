@@ -75,4 +75,4 @@ returns c =
 
 pub walk-component-spec : {M : Type 1} → statement M
 walk-component-spec = tie.close (tie.spec Inv-loop μ-loop block-word-requires loop-holds walk-state-requires add-s loop-less loop-again
-same-length returns)
+    same-length returns)

@@ -58,4 +58,4 @@ returns c =
 
 pub raise-rows-spec : {M : Type 1} → statement M
 raise-rows-spec = tie.close (tie.spec count-of-requires sub-last block-word-requires first-of-requires mul-raise mul-raise-2 raise-requires
-same-length returns)
+    same-length returns)
