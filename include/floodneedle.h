@@ -102,7 +102,7 @@ struct floodneedle_answer {
   uint64_t number;   /* of the refusal, else 0 */
   uint64_t places;   /* how many values the refusal's place has, 1 to 4; 0 where nothing is refused */
   uint64_t place[4];
-  uint64_t count;    /* bytes written (write, report), steps taken (settle, settle_list), components (start); else 0 */
+  uint64_t count;    /* bytes written (write, report), rows added (repair), steps taken (settle, settle_list), components (start); else 0 */
   uint64_t action;   /* where moved or fired, else 0 */
   uint64_t resets;   /* a set of clocks: where moved or fired, of a settling, and those set at the start (start); else 0 */
   uint64_t ticks;    /* where fired, else 0 */

@@ -65,10 +65,12 @@ by-cells c w = same-rows (spread (λ s. spread (rowsBy (c .rows) s) 0 maxActions
         let k = at-in noRow (c .rows) m in
         let v = rw (k .2) at (w .rows (k .0) (k .1)) in
         in-spread (λ s. spread (rowsBy (c .rows) s) 0 maxActions) 0 (c .states) (z .from) (omega arith) (omega (arith, v .from))
-        (in-spread (rowsBy (c .rows) (z .from)) 0 maxActions (z .action) (omega arith) (omega (arith, act-below c w (z .action) (v .action))) (in-rows-by (c .rows) (z .from) (z .action) m refl refl))
+        (in-spread (rowsBy (c .rows) (z .from)) 0 maxActions (z .action) (omega arith) (omega (arith, act-below c w (z .action) (v .action)))
+        (in-rows-by (c .rows) (z .from) (z .action) m refl refl))
 
 module _ (μ : List Row → ℕ) (ν : List (List ℕ) → ℕ) (k : Measure μ ν) where
-  spread-sum : (F G : ℕ → List Row) (H : ℕ → List (List ℕ)) (j n : ℕ) → ((x : ℕ) → μ (F x) ≡ ν (H x) + μ (G x)) → μ (spread F j n) ≡ ν (spread H j n) + μ (spread G j n)
+  spread-sum : (F G : ℕ → List Row) (H : ℕ → List (List ℕ)) (j n : ℕ) → ((x : ℕ) → μ (F x) ≡ ν (H x) + μ (G x))
+      → μ (spread F j n) ≡ ν (spread H j n) + μ (spread G j n)
   spread-sum F G H j zero h = omega (arith, k .none, k .nothing)
   spread-sum F G H j (suc n) h =
       omega
@@ -85,12 +87,14 @@ module _ (μ : List Row → ℕ) (ν : List (List ℕ) → ℕ) (k : Measure μ 
   comp-sum : (i : ℕ) (c : Comp) → WellComp c → μ (repaired c .rows) ≡ ν (cellsOf i c) + μ (c .rows)
   unfolding repaired cellsOf
   comp-sum i c w =
-      spread-sum (λ s. spread (repairedAt c s) 0 maxActions) (λ s. spread (rowsBy (c .rows) s) 0 maxActions) (λ s. spread (cellAt i c s) 0 maxActions) 0 (c .states)
+      spread-sum (λ s. spread (repairedAt c s) 0 maxActions) (λ s. spread (rowsBy (c .rows) s) 0 maxActions) (λ s. spread (cellAt i c s) 0 maxActions) 0
+      (c .states)
       (λ s. spread-sum (repairedAt c s) (rowsBy (c .rows) s) (cellAt i c s) 0 maxActions (cell-sum i c s))
       ∙ ap (λ l. ν (spread (λ s. spread (cellAt i c s) 0 maxActions) 0 (c .states)) + μ l) (by-cells c w)
 
   -- over the components: a measure of a model, of which each component's rows are a part
-  models-sum : (φ : Model → ℕ) (f : Comp → ℕ) → ((c : Comp) (cs : Model) → φ (c ∷ cs) ≡ f c + φ cs) → φ [] ≡ 0 → (F G : ℕ → Comp) (H : ℕ → List (List ℕ)) (j n : ℕ)
+  models-sum : (φ : Model → ℕ) (f : Comp → ℕ) → ((c : Comp) (cs : Model) → φ (c ∷ cs) ≡ f c + φ cs) → φ [] ≡ 0
+      → (F G : ℕ → Comp) (H : ℕ → List (List ℕ)) (j n : ℕ)
       → ((x : ℕ) → j ≤ x → x < j + n → f (F x) ≡ ν (H x) + f (G x)) → φ (tab F j n) ≡ ν (spread H j n) + φ (tab G j n)
   models-sum φ f step base F G H j zero h = omega (arith, base, k .nothing)
   models-sum φ f step base F G H j (suc n) h =
@@ -120,7 +124,8 @@ module _ (m : Model) (w : WellFormed m) where
   pub repaired-row-count : rowCount (repairedOf m) ≡ rowCount m + length (addedTo m)
   unfolding addedTo
   repaired-row-count =
-      let e = models-sum length length counted rowCount (λ c. length (c .rows)) (λ c cs. unfold rowCount in refl) (unfold rowCount in refl) (λ i. repaired (compAt m i)) (compAt m) (λ i. cellsOf i (compAt m i)) 0 (length m)
+      let e = models-sum length length counted rowCount (λ c. length (c .rows)) (λ c cs. unfold rowCount in refl) (unfold rowCount in refl)
+      (λ i. repaired (compAt m i)) (compAt m) (λ i. cellsOf i (compAt m i)) 0 (length m)
       (λ i p q. comp-sum length length counted i (compAt m i) (w .each i (omega arith))) in
       omega (arith, e, ap rowCount (repaired-tab m), ap rowCount (model-tab m))
 
@@ -133,6 +138,7 @@ module _ (m : Model) (w : WellFormed m) where
   pub repaired-byte-count : length (textOf (repairedOf m)) ≡ length (textOf m) + widths (addedTo m)
   unfolding addedTo
   repaired-byte-count =
-      let e = models-sum (λ rs. length (rowLines rs)) widths measured (λ n. length (textOf n)) (λ c. length (compText c)) text-more (unfold textOf in refl) (λ i. repaired (compAt m i)) (compAt m) (λ i. cellsOf i (compAt m i)) 0 (length m)
+      let e = models-sum (λ rs. length (rowLines rs)) widths measured (λ n. length (textOf n)) (λ c. length (compText c)) text-more (unfold textOf in refl)
+      (λ i. repaired (compAt m i)) (compAt m) (λ i. cellsOf i (compAt m i)) 0 (length m)
       (λ i p q. comp-lines i (omega arith)) in
       omega (arith, e, ap (λ n. length (textOf n)) (repaired-tab m), ap (λ n. length (textOf n)) (model-tab m))

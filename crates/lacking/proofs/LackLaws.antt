@@ -27,13 +27,18 @@ use Rattle.lacking.specs.Repair.{cell, cellAt, cellsOf, addedTo}
 use Rattle.lacking.specs.Walk.{Out, walked, actionsFrom, lackIn, lackOf, cellIn, cellsIn, cellsBy}
 
 pub has-only : (x a : ℕ) → has (only x) a ≡ eqb x a
-has-only x a = elim (ℕ-discrete x a) [ yes e ↦ rw (eq-eqb x a e, ← e) (in-one x) | no e ↦ rw (ne-eqb x a e) (not-so (has (only x) a) (λ m. e (sym (one-in x a m)))) ]
+has-only x a = elim (ℕ-discrete x a) [
+  | yes e ↦ rw (eq-eqb x a e, ← e) (in-one x)
+  | no e ↦ rw (ne-eqb x a e)
+      (not-so (has (only x) a) (λ m. e (sym (one-in x a m))))
+]
 
 pub has-actions : (t : List ℕ) (lo hi a : ℕ) → has (actionsFrom t lo hi) a ≡ isSome (seek (λ r. when (eqb (actionAt t r) a) r) lo hi)
 unfolding actionsFrom
 has-actions t lo hi a =
     has-joined (λ r. only (actionAt t r)) a lo hi
-    ∙ ap isSome (seek-ext (λ r. when (has (only (actionAt t r)) a) r) (λ r. when (eqb (actionAt t r) a) r) lo hi (λ r p q. ap (λ v. when v r) (has-only (actionAt t r) a)))
+    ∙ ap isSome (seek-ext (λ r. when (has (only (actionAt t r)) a) r) (λ r. when (eqb (actionAt t r) a) r) lo hi
+    (λ r p q. ap (λ v. when v r) (has-only (actionAt t r) a)))
 
 module _ (t : List ℕ) (i s : ℕ) (b : s < blockWord t i 0) where
   leaving : (a : ℕ) → has (actionsFrom t (firstOf t i s) (firstOf t i (suc s))) a ≡ isSome (rowFor (compOf t i) s a)
@@ -54,7 +59,8 @@ module _ (t : List ℕ) (i s : ℕ) (b : s < blockWord t i 0) where
 pub cells-of-comp : (t : List ℕ) (i : ℕ) → cellsOf i (compOf t i) ≡ cellsBy t i
 unfolding cellsOf cellsBy compOf
 cells-of-comp t i =
-    spread-same (λ s. spread (cellAt i (compOf t i) s) 0 maxActions) (λ s. cellsIn (lackOf t i s) i s) 0 (blockWord t i 0) (λ s p q. cells-in-state t i s (omega arith))
+    spread-same (λ s. spread (cellAt i (compOf t i) s) 0 maxActions) (λ s. cellsIn (lackOf t i s) i s) 0 (blockWord t i 0)
+    (λ s p q. cells-in-state t i s (omega arith))
 
 pub added-to-model : (t : List ℕ) → addedTo (modelOf t) ≡ spread (cellsBy t) 0 (countOf t)
 unfolding addedTo
@@ -63,5 +69,6 @@ added-to-model t =
     ap (cellsOf i) (comp-at t i (omega (arith, model-length t))) ∙ cells-of-comp t i)
     ∙ ap (spread (cellsBy t) 0) (model-length t)
 
-pub by-comps : (write : Bool) (t : List ℕ) (count : ℕ) → count ≡ countOf t → (o : Out) → walked write (spread (cellsBy t) 0 (count - 0)) o ≡ walked write (addedTo (modelOf t)) o
+pub by-comps : (write : Bool) (t : List ℕ) (count : ℕ) → count ≡ countOf t → (o : Out)
+    → walked write (spread (cellsBy t) 0 (count - 0)) o ≡ walked write (addedTo (modelOf t)) o
 by-comps write t count e o = let z : count - 0 ≡ count = omega arith in ap (λ l. walked write l o) (ap (spread (cellsBy t) 0) (z ∙ e) ∙ sym (added-to-model t))

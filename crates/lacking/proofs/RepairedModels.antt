@@ -50,11 +50,13 @@ repaired-at m i h = map-at repaired noComp noComp m i h
 
 -- both models component by component
 pub model-tab : (m : Model) → m ≡ tab (compAt m) 0 (length m)
-model-tab m = ext-getD noComp m (tab (compAt m) 0 (length m)) (sym (tab-length (compAt m) 0 (length m))) (λ i h. let z : 0 + i ≡ i = omega arith in ap (compAt m) (sym z) ∙ sym (tab-at (compAt m) noComp 0 (length m) i h))
+model-tab m = ext-getD noComp m (tab (compAt m) 0 (length m)) (sym (tab-length (compAt m) 0 (length m)))
+    (λ i h. let z : 0 + i ≡ i = omega arith in ap (compAt m) (sym z) ∙ sym (tab-at (compAt m) noComp 0 (length m) i h))
 
 pub repaired-tab : (m : Model) → repairedOf m ≡ tab (λ i. repaired (compAt m i)) 0 (length m)
 repaired-tab m =
-    ext-getD noComp (repairedOf m) (tab (λ i. repaired (compAt m i)) 0 (length m)) (repaired-length m ∙ sym (tab-length (λ i. repaired (compAt m i)) 0 (length m)))
+    ext-getD noComp (repairedOf m) (tab (λ i. repaired (compAt m i)) 0 (length m))
+    (repaired-length m ∙ sym (tab-length (λ i. repaired (compAt m i)) 0 (length m)))
     (λ i h.
     let l : i < length m = omega (arith, repaired-length m) in
     let z : 0 + i ≡ i = omega arith in
@@ -93,7 +95,8 @@ module _ (i : ℕ) (c : Comp) where
   state-in s m = let p = spread-in (cellAt i c s) 0 maxActions m in let q = one-in s (p .0) (p .3) in (p .0, omega (arith, p .2), q .0, q .1)
 
   state-ascends : (s : ℕ) → Pairwise Lower (spread (cellAt i c s) 0 maxActions)
-  state-ascends s = pairwise-spread Lower (cellAt i c s) 0 maxActions (λ a p q. one-ascends s a) (λ a b x y p h q l m. rw (one-in s a l .1, one-in s b m .1) (by-action i s a b h))
+  state-ascends s = pairwise-spread Lower (cellAt i c s) 0 maxActions (λ a p q. one-ascends s a)
+      (λ a b x y p h q l m. rw (one-in s a l .1, one-in s b m .1) (by-action i s a b h))
 
   cells-in : {x : List ℕ} → In x (cellsOf i c) → (s : ℕ) × (a : ℕ) × (s < c .states) × (lacksRow c s a ≡ true) × (x ≡ cell i s a)
   unfolding cellsOf
@@ -129,12 +132,21 @@ module _ (m : Model) (w : WellFormed m) where
     λ l.
         let p = spread-in (λ i. cellsOf i (compAt m i)) 0 (length m) l in
         let q = cells-in (p .0) (compAt m (p .0)) (p .3) in
-        record { component = p .0; state = q .0; action = q .1; inside = omega (arith, p .2); lacked = lack-broken (compAt m (p .0)) (q .0) (q .1) (q .2) (q .3); bytes = q .4 },
+        record {
+          component = p .0;
+          state = q .0;
+          action = q .1;
+          inside = omega (arith, p .2);
+          lacked =
+              lack-broken (compAt m (p .0)) (q .0) (q .1) (q .2) (q .3);
+          bytes = q .4;
+        },
     λ r.
         let c = compAt m (r .component) in
         let b = r .lacked in
         rw (r .bytes) (in-spread (λ i. cellsOf i (compAt m i)) 0 (length m) (r .component) (omega arith) (omega (arith, r .inside))
-        (in-cells (r .component) c (r .state) (r .action) (b .state) (input-below c (w .each (r .component) (r .inside)) (r .action) (b .input)) (broken-lack c (r .state) (r .action) b))),
+        (in-cells (r .component) c (r .state) (r .action) (b .state) (input-below c (w .each (r .component) (r .inside)) (r .action) (b .input))
+        (broken-lack c (r .state) (r .action) b))),
   )
 
   -- ---- model and list are what the relation says, and no others are
@@ -149,8 +161,10 @@ module _ (m : Model) (w : WellFormed m) where
   pub only-mended : (d : Mended) → MendedAs m d → d ≡ record { model = repairedOf m; added = addedTo m }
   only-mended d r =
       let e : d .model ≡ repairedOf m = ext-getD noComp (d .model) (repairedOf m) (r .components ∙ sym (repaired-length m)) (λ i h.
-      let l : i < length m = omega (arith, r .components) in only-repaired (compAt m i) (w .each i l) (compAt (d .model) i) (r .each i l) ∙ sym (repaired-at m i l)) in
-      let f : d .added ≡ addedTo m = same-ascending Lower never-lower lower-transitive (d .added) (addedTo m) (pairwise-from Lower (cell 0 0 0) lower-transitive (d .added) (r .ascend)) (added-ascends m)
+      let l : i < length m = omega (arith, r .components) in only-repaired (compAt m i) (w .each i l) (compAt (d .model) i) (r .each i l)
+      ∙ sym (repaired-at m i l)) in
+      let f : d .added ≡ addedTo m = same-ascending Lower never-lower lower-transitive (d .added) (addedTo m)
+      (pairwise-from Lower (cell 0 0 0) lower-transitive (d .added) (r .ascend)) (added-ascends m)
       (λ z l. added-has z .1 (r .added z .0 l)) (λ z l. r .added z .1 (added-has z .0 l)) in
       λ i. record { model = e i; added = f i }
 
@@ -227,7 +241,8 @@ nothing-added m w =
     let c = compAt (repairedOf m) i in
     nowhere (λ s. spread (cellAt i c s) 0 maxActions) 0 (c .states) (λ s u v.
     nowhere (cellAt i c s) 0 maxActions (λ a x y.
-    let e : lacksRow c s a ≡ false = not-so (lacksRow c s a) (λ t. none-lacked (compAt m i) (w .each i l) s a (rw (repaired-at m i l) at (lack-broken c s a (omega arith) t))) in
+    let e : lacksRow c s a ≡ false = not-so (lacksRow c s a) (λ t. none-lacked (compAt m i) (w .each i l) s a
+    (rw (repaired-at m i l) at (lack-broken c s a (omega arith) t))) in
     ap (λ b. cond b (cell i s a ∷ []) []) e)))
   where
     nowhere : {A : Type 0} (f : ℕ → List A) (k n : ℕ) → ((j : ℕ) → k ≤ j → j < k + n → f j ≡ []) → spread f k n ≡ []

@@ -86,7 +86,8 @@ module _ (c : Comp) where
 
     pub repaired-ascends : Ascending (repaired c .rows)
     unfolding repaired
-    repaired-ascends = pairwise-spread Before (λ s. spread (repairedAt c s) 0 maxActions) 0 (c .states) (λ s p q. state-ascends s (omega arith)) (λ s u x y p l q m n.
+    repaired-ascends = pairwise-spread Before (λ s. spread (repairedAt c s) 0 maxActions) 0 (c .states) (λ s p q. state-ascends s (omega arith))
+        (λ s u x y p l q m n.
         by-from x y (omega (arith, rows-of-state s m, rows-of-state u n, l)))
 
     well-in : {r : Row} → In r (c .rows) → WellRow c r
@@ -101,22 +102,31 @@ module _ (c : Comp) where
             let p = spread-in (λ s. spread (repairedAt c s) 0 maxActions) 0 (c .states) m in
             let q = spread-in (repairedAt c (p .0)) 0 maxActions (p .3) in
             ⊎-elim
-            (λ l. let e = missing-in (p .0) (q .0) l in inr (record { state = p .0; action = q .0; lacked = lack-broken c (p .0) (q .0) (omega (arith, p .2)) (e .0); row = e .1 }))
+            (λ l. let e = missing-in (p .0) (q .0) l in inr (record {
+              state = p .0;
+              action = q .0;
+              lacked =
+                  lack-broken c (p .0) (q .0) (omega (arith, p .2)) (e .0);
+              row = e .1;
+            }))
             (λ l. inl (rows-by-in (c .rows) (p .0) (q .0) l .0)) (append-cases (missingAt c (p .0) (q .0)) (q .3))
 
         placed : (s a : ℕ) → s < c .states → a < maxActions → In r (repairedAt c s a) → In r (spread (λ s. spread (repairedAt c s) 0 maxActions) 0 (c .states))
-        placed s a h k m = in-spread (λ s. spread (repairedAt c s) 0 maxActions) 0 (c .states) s (omega arith) (omega arith) (in-spread (repairedAt c s) 0 maxActions a (omega arith) (omega arith) m)
+        placed s a h k m = in-spread (λ s. spread (repairedAt c s) 0 maxActions) 0 (c .states) s (omega arith) (omega arith)
+            (in-spread (repairedAt c s) 0 maxActions a (omega arith) (omega arith) m)
 
         old : In r (c .rows) → In r (spread (λ s. spread (repairedAt c s) 0 maxActions) 0 (c .states))
         old m =
             let v = well-in m in
-            placed (r .from) (r .action) (v .from) (act-below c w (r .action) (v .action)) (in-right (missingAt c (r .from) (r .action)) (in-rows-by (c .rows) (r .from) (r .action) m refl refl))
+            placed (r .from) (r .action) (v .from) (act-below c w (r .action) (v .action))
+            (in-right (missingAt c (r .from) (r .action)) (in-rows-by (c .rows) (r .from) (r .action) m refl refl))
 
         new : SelfLoop c r → In r (spread (λ s. spread (repairedAt c s) 0 maxActions) 0 (c .states))
         new l =
             let b = l .lacked in
             placed (l .state) (l .action) (b .state) (act-below c w (l .action) (or-in-l (inputs c) (outputs c) (l .action) (b .input)))
-            (in-left {s = missingAt c (l .state) (l .action)} (rowsBy (c .rows) (l .state) (l .action)) (when-in (lacksRow c (l .state) (l .action)) (broken-lack c (l .state) (l .action) b) (l .row)))
+            (in-left {s = missingAt c (l .state) (l .action)} (rowsBy (c .rows) (l .state) (l .action))
+            (when-in (lacksRow c (l .state) (l .action)) (broken-lack c (l .state) (l .action) b) (l .row)))
 
     -- ---- it is the component that the relation says, and no other
     pub repaired-as : RepairedComp c (repaired c)
@@ -137,7 +147,8 @@ module _ (c : Comp) where
     pub only-repaired : (e : Comp) → RepairedComp c e → e ≡ repaired c
     unfolding repaired
     only-repaired e r =
-        let q : e .rows ≡ repaired c .rows = same-rows (e .rows) (repaired c .rows) (pairwise-from Before noRow before-transitive (e .rows) (r .ascend)) repaired-ascends
+        let q : e .rows ≡ repaired c .rows = same-rows (e .rows) (repaired c .rows)
+        (pairwise-from Before noRow before-transitive (e .rows) (r .ascend)) repaired-ascends
         (λ z m. repaired-has z .1 (r .rows z .0 m)) (λ z m. r .rows z .1 (repaired-has z .0 m)) in
         λ i. record {
           states = r .states i;

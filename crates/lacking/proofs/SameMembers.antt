@@ -21,5 +21,6 @@ module _ {A : Type 0} (R : A → A → Type 0) (irreflexive : (x : A) → R x x 
   same-ascending [] (y ∷ ys) p q f g = absurd (in-none (g y (here refl)))
   same-ascending (x ∷ xs) [] p q f g = absurd (in-none (f x (here refl)))
   same-ascending (x ∷ xs) (y ∷ ys) p q f g =
-      let e : x ≡ y = ⊎-elim (λ e. e) (λ r. ⊎-elim (λ e. sym e) (λ s. absurd (asym y x r s)) (front y x xs (g y (here refl)) p)) (front x y ys (f x (here refl)) q) in
+      let e : x ≡ y = ⊎-elim (λ e. e) (λ r. ⊎-elim (λ e. sym e) (λ s. absurd (asym y x r s)) (front y x xs (g y (here refl)) p))
+      (front x y ys (f x (here refl)) q) in
       ap₂ _∷_ e (same-ascending xs ys (p .1) (q .1) (λ z m. behind x y z xs ys e p m (f z (there m))) (λ z m. behind y x z ys xs (sym e) q m (g z (there m))))

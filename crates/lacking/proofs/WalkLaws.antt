@@ -119,7 +119,8 @@ module _ (write : Bool) where
   pub nothing-lacks : (lacking i s : ℕ) (o : Out) → lacking ≡ 0 → walked write (cellsIn lacking i s) o ≡ o
   unfolding cellsIn cellIn
   nothing-lacks lacking i s o z =
-      ap (λ l. walked write l o) (spread-none (cellIn lacking i s) 0 maxActions (λ a p. ap (λ b. cond b (cell i s a ∷ []) []) (ap (λ n. has n a) z ∙ not-so (has 0 a) (none-in a))))
+      ap (λ l. walked write l o) (spread-none (cellIn lacking i s) 0 maxActions
+      (λ a p. ap (λ b. cond b (cell i s a ∷ []) []) (ap (λ n. has n a) z ∙ not-so (has 0 a) (none-in a))))
       ∙ walked-none o
 
 pub cell-stored : (write : Bool) (l : List ℕ) (rows i s a : ℕ) → write ≡ true

@@ -33,7 +33,8 @@ use Rattle.table.proofs.OnImageExactly.{held-model}
 use Rattle.mend.specs.Printed.{repairedText, mendedText, Printed, Filled}
 
 -- the line of a refusal
-pub printed-line : {old new : List ℕ} {r : ℕ} (f : Refusal) (t : Told) (text : List ℕ) → told f ≡ some t → text ≡ refusedLine t → mostBytes ≤ length old → Put old 0 (refusedText f) new r → Printed text old new r
+pub printed-line : {old new : List ℕ} {r : ℕ} (f : Refusal) (t : Told) (text : List ℕ) → told f ≡ some t → text ≡ refusedLine t → mostBytes ≤ length old
+    → Put old 0 (refusedText f) new r → Printed text old new r
 printed-line f t text e h room p =
     let q = told-text f t e ∙ sym h in
     record { put = put-as q p; room = omega (arith, ap length q, refused-most f, room) }
@@ -52,11 +53,14 @@ module _ (t l t′ l′ : List ℕ) (im : Image t) (long : cellBytes * mostCells
   unfolding repairOn
   on = on-image t (repairOf (length l)) (image-exactly t .1 im) ∙ ap (λ n. repairOf n (modelOf t)) (sym long)
 
-  pub repair-refused : (r : Written) (f : Refusal) → r ≡ Refused f → Repairing t l r t′ l′ → (u : Told) × (told f ≡ some u) × (repairedText (modelOf t) ≡ refusedLine u)
+  pub repair-refused : (r : Written) (f : Refusal) → r ≡ Refused f → Repairing t l r t′ l′
+      → (u : Told) × (told f ≡ some u) × (repairedText (modelOf t) ≡ refusedLine u)
   unfolding saysWritten repairedText
-  repair-refused r f e g = go (told f) refl (repairOf (cellBytes * mostCells) (modelOf t)) refl (ap saysWritten (sym e) ∙ g .answer ∙ ap (λ a. some (numberIn a)) on)
+  repair-refused r f e g = go (told f) refl (repairOf (cellBytes * mostCells) (modelOf t)) refl
+      (ap saysWritten (sym e) ∙ g .answer ∙ ap (λ a. some (numberIn a)) on)
     where
-      go : (o : Option Told) → told f ≡ o → (a : Answer Mended) → repairOf (cellBytes * mostCells) (modelOf t) ≡ a → _≡_ {A = Option (Answer ℕ)} (asRefused o) (some (numberIn a))
+      go : (o : Option Told) → told f ≡ o → (a : Answer Mended) → repairOf (cellBytes * mostCells) (modelOf t) ≡ a
+          → _≡_ {A = Option (Answer ℕ)} (asRefused o) (some (numberIn a))
           → (u : Told) × (told f ≡ some u) × (repairedText (modelOf t) ≡ refusedLine u)
       go none p a q s = absurd (let z : _≡_ {A = ℕ} 0 1 = cc in omega arith)
       go (some u) p (answered d) q s = absurd (let z : _≡_ {A = ℕ} 0 1 = cc in omega arith)
@@ -69,15 +73,18 @@ module _ (t l t′ l′ : List ℕ) (im : Image t) (long : cellBytes * mostCells
       d : Done t t′
       d = repair-done t l t′ l′ n (rw e at g)
 
-      go : (a : Answer Mended) → repairOf (cellBytes * mostCells) (modelOf t) ≡ a → _≡_ {A = Option (Answer ℕ)} (some (answered n)) (some (numberIn a)) → Image t′ × (repairedText (modelOf t) ≡ textOf (modelOf t′))
+      go : (a : Answer Mended) → repairOf (cellBytes * mostCells) (modelOf t) ≡ a → _≡_ {A = Option (Answer ℕ)} (some (answered n)) (some (numberIn a))
+          → Image t′ × (repairedText (modelOf t) ≡ textOf (modelOf t′))
       go (refused v) q s = absurd (let z : _≡_ {A = ℕ} 0 1 = cc in omega arith)
       go (answered x) q s = (
         d .image,
-        rw (q, repairedText) (ap textOf (answered-is (cellBytes * mostCells) (modelOf t) x q ∙ ap repairedOf (held-model t (d .model) (d .held)) ∙ sym (d .now-held))),
+        rw (q, repairedText) (ap textOf (answered-is (cellBytes * mostCells) (modelOf t) x q ∙ ap repairedOf (held-model t (d .model) (d .held))
+            ∙ sym (d .now-held))),
       )
 
 -- the text of the repaired table
-pub printed-text : {old new : List ℕ} {r : ℕ} (t : List ℕ) (text : List ℕ) → Image t → text ≡ textOf (modelOf t) → mostBytes ≤ length old → Put old 0 (textOf (modelOf t)) new r → Printed text old new r
+pub printed-text : {old new : List ℕ} {r : ℕ} (t : List ℕ) (text : List ℕ) → Image t → text ≡ textOf (modelOf t) → mostBytes ≤ length old
+    → Put old 0 (textOf (modelOf t)) new r → Printed text old new r
 printed-text t text im h room p =
     record { put = put-as (sym h) p; room = omega (arith, ap length h, well-formed t im .bytes, room) }
 

@@ -54,7 +54,8 @@ rows-of-tab u s k (suc n) (suc (suc (suc (suc y)))) h =
     rw e (rows-of-tab u s (suc k) n y (omega arith))
 
 -- a row is its four words
-pub same-row : (u t : List ℕ) (s r q : ℕ) → ((v : ℕ) → v < rowWords → getD u (rowsAt + rowWords * r + v) 0 ≡ getD t (rowsAt + rowWords * q + v) 0) → rowIn u s r ≡ rowIn t s q
+pub same-row : (u t : List ℕ) (s r q : ℕ) → ((v : ℕ) → v < rowWords → getD u (rowsAt + rowWords * r + v) 0 ≡ getD t (rowsAt + rowWords * q + v) 0)
+    → rowIn u s r ≡ rowIn t s q
 unfolding actionAt guardAt resetsAt targetAt
 same-row u t s r q h =
     let e : rowsAt + rowWords * r + 0 ≡ rowsAt + rowWords * r = omega arith in

@@ -57,8 +57,10 @@ in-tab f k (suc n) x p q = elim (ℕ-discrete x k) [ yes e ↦ here (ap f e) | n
 
 tab-ascends : (f : ℕ → Row) (k n : ℕ) → ((x y : ℕ) → k ≤ x → x < y → y < k + n → Before (f x) (f y)) → Ascending (tab f k n)
 tab-ascends f k zero h = tt
-tab-ascends f k (suc n) h =
-    (λ z m. let p = tab-in f (suc k) n m in rw (p .3) (h k (p .0) (omega arith) (p .1) (omega (arith, p .2))), tab-ascends f (suc k) n (λ x y a b c. h x y (omega arith) b (omega arith)))
+tab-ascends f k (suc n) h = (
+  λ z m. let p = tab-in f (suc k) n m in rw (p .3) (h k (p .0) (omega arith) (p .1) (omega (arith, p .2))),
+  tab-ascends f (suc k) n (λ x y a b c. h x y (omega arith) b (omega arith)),
+)
 
 -- of any image
 module _ (t : List ℕ) (im : Image t) (i : ℕ) (h : i < countOf t) where
@@ -92,7 +94,14 @@ module _ (t : List ℕ) (im : Image t) (i : ℕ) (h : i < countOf t) where
   pub total-over : (s : ℕ) → s ≤ blockWord t i 0 → firstOf t i s ≤ rowCount (modelOf t)
   total-over s p =
       let l : i < length (modelOf t) = omega (arith, model-length t) in
-      omega (arith, first-up t im i h s (blockWord t i 0) p (omega arith), rows-end t im i h, first-start t im i h, rows-before (modelOf t) i l, ap (λ c. length (c .rows)) (comp-at t i h))
+      omega (
+        arith,
+        first-up t im i h s (blockWord t i 0) p (omega arith),
+        rows-end t im i h,
+        first-start t im i h,
+        rows-before (modelOf t) i l,
+        ap (λ c. length (c .rows)) (comp-at t i h),
+      )
 
 module _ (T X : List ℕ) (n : ℕ) (k : Working T X n) where
   pub same-count : countOf X ≡ countOf T
@@ -157,11 +166,13 @@ module _ (T X : List ℕ) (n : ℕ) (k : Working T X n) where
           upward = let u = comp-ranges T (k .image) i h .up s (suc s) (omega arith) b in omega arith;
           from = λ x p q. ap (λ r. r .from) (at x p q);
           action = λ x p q. rw (at x p q) (row-ranges T (k .image) i s (x - n) h b (omega arith) (omega arith) .action);
-          ascend = λ x y p l q. rw (at x p (omega arith), at y (omega arith) q) (range-ascends T (k .image) i s h b (x - n) (y - n) (omega arith, omega arith) (omega arith, omega arith) (omega arith));
+          ascend = λ x y p l q. rw (at x p (omega arith), at y (omega arith) q)
+              (range-ascends T (k .image) i s h b (x - n) (y - n) (omega arith, omega arith) (omega arith, omega arith) (omega arith));
           apart = λ x p q. not-so (has L (g x .action)) (λ m.
               let r = rowIn T s (x - n) in
               let e : g x .action ≡ r .action = ap (λ z. z .action) (at x p q) in
-              broken (r .action) (rw (← e) m) .lacks (rows-by-lead c s (r .action) (in-rows-by (c .rows) s (r .action) (own-row (x - n) (omega arith) (omega arith)) refl refl)));
+              broken (r .action) (rw (← e) m) .lacks (rows-by-lead c s (r .action)
+              (in-rows-by (c .rows) s (r .action) (own-row (x - n) (omega arith) (omega arith)) refl refl)));
           low = λ a m. input-below c w a (broken a m .input);
         }
 
@@ -169,14 +180,16 @@ module _ (T X : List ℕ) (n : ℕ) (k : Working T X n) where
         many = (hi + n - (lo + n)) + sizeOf L
 
         pub woven-is : woven g s (hi + n) many L (lo + n) ≡ rowsLeaving X i s
-        woven-is = same-rows (woven g s (hi + n) many L (lo + n)) (rowsLeaving X i s) (woven-ascends g s (hi + n) many (lo + n) L state-ready refl) (leaving-ascends X (k .again) i inX s bX) there-to back
+        woven-is = same-rows (woven g s (hi + n) many L (lo + n)) (rowsLeaving X i s) (woven-ascends g s (hi + n) many (lo + n) L state-ready refl)
+            (leaving-ascends X (k .again) i inX s bX) there-to back
           where
             put : {z : Row} → In z (c .rows) ⊎ SelfLoop c z → z .from ≡ s → In z (rowsLeaving X i s)
             put {z} m e = rows-leaving X (k .again) i inX s (rw comp-new (repaired-has c w z .1 m)) e
 
             there-to : (z : Row) → In z (woven g s (hi + n) many L (lo + n)) → In z (rowsLeaving X i s)
             there-to z m = ⊎-elim
-                (λ o. let e = o .3 ∙ at (o .0) (o .1) (o .2) in put (inl (rw e (own-row (o .0 - n) (omega (arith, o .1)) (omega (arith, o .2, o .1))))) (ap (λ r. r .from) e))
+                (λ o. let e = o .3 ∙ at (o .0) (o .1) (o .2) in put (inl (rw e (own-row (o .0 - n) (omega (arith, o .1)) (omega (arith, o .2, o .1)))))
+                (ap (λ r. r .from) e))
                 (λ v. put (inr (record { state = s; action = v .0; lacked = broken (v .0) (v .1); row = v .2 })) (ap (λ r. r .from) (v .2)))
                 (woven-in g s (hi + n) many (lo + n) L state-ready refl m)
 
@@ -186,16 +199,28 @@ module _ (T X : List ℕ) (n : ℕ) (k : Working T X n) where
                 ⊎-elim
                 (λ o.
                 let q = leaving-in T (k .image) i h s (rows-leaving T (k .image) i h s o (p .1)) in
-                old-in g s (hi + n) many (lo + n) L state-ready refl (q .0 + n, omega (arith, q .1), omega (arith, q .2), q .3 ∙ sym (old (q .0) (q .1) (q .2))))
+                old-in g s (hi + n) many (lo + n) L state-ready refl (
+                  q .0 + n,
+                  omega (arith, q .1),
+                  omega (arith, q .2),
+                  q .3
+                      ∙ sym (old (q .0) (q .1) (q .2)),
+                ))
                 (λ l.
                 let e : l .state ≡ s = sym (ap (λ r. r .from) (l .row)) ∙ p .1 in
-                new-in g s (hi + n) many (lo + n) L state-ready refl (l .action, lacked (l .action) (rw e at (l .lacked)), l .row ∙ ap (λ x. loopAt x (l .action)) e))
+                new-in g s (hi + n) many (lo + n) L state-ready refl (
+                  l .action,
+                  lacked (l .action) (rw e at (l .lacked)),
+                  l .row
+                      ∙ ap (λ x. loopAt x (l .action)) e,
+                ))
                 (repaired-has c w z .0 (rw comp-new at (p .0)))
 
         pub next-first : firstOf X i (suc s) ≡ firstOf X i s + many
         unfolding rowsLeaving
         next-first =
-            let e = sym (ap length woven-is ∙ tab-length (rowIn X s) (firstOf X i s) (firstOf X i (suc s) - firstOf X i s)) ∙ woven-length g s (hi + n) many L (lo + n) in
+            let e = sym (ap length woven-is ∙ tab-length (rowIn X s) (firstOf X i s) (firstOf X i (suc s) - firstOf X i s))
+            ∙ woven-length g s (hi + n) many L (lo + n) in
             omega (arith, e, first-up X (k .again) i inX s (suc s) (omega arith) bX)
 
       -- a state gains no fewer rows than it had
@@ -263,7 +288,8 @@ module _ (T X : List ℕ) (n : ℕ) (k : Working T X n) where
           let f : rowsAt + rowWords * x + v ≡ rowsAt + (rowWords * x + v) = omega arith in
           rw (e, f) (st .left (rowWords * x + v) (omega arith) (omega (arith, total-over T (k .image) i h (suc s) b))))
 
-      actions-read : over (λ r x. x ∪ only (actionAt u r)) (firstOf T i s + n) (firstOf T i (suc s) + n) 0 ≡ over (λ r x. x ∪ only (actionAt T r)) (firstOf T i s) (firstOf T i (suc s)) 0
+      actions-read : over (λ r x. x ∪ only (actionAt u r)) (firstOf T i s + n) (firstOf T i (suc s) + n) 0
+          ≡ over (λ r x. x ∪ only (actionAt T r)) (firstOf T i s) (firstOf T i (suc s)) 0
       actions-read =
           let e : firstOf T i s + n ≡ n + firstOf T i s = omega arith in
           let f : firstOf T i (suc s) + n ≡ n + firstOf T i (suc s) = omega arith in
@@ -284,7 +310,8 @@ module _ (T X : List ℕ) (n : ℕ) (k : Working T X n) where
       state-put u1 u2 ew e1 e2 = record {
         long = ap length e2 ∙ length-set u1 (firstAt i s) wr ∙ ap length e1 ∙ length-sets u at vs ∙ st .long;
         low = λ x p. elim (ℕ-discrete x (firstAt i s)) [
-          | yes q ↦ rw (e2, q) (getD-set-same u1 (firstAt i s) wr 0 (omega (arith, ap length e1, length-sets u at vs, st .long, image-long X (k .again), in-front)) ∙ ew ∙ first-word)
+          | yes q ↦ rw (e2, q) (getD-set-same u1 (firstAt i s) wr 0 (omega
+              (arith, ap length e1, length-sets u at vs, st .long, image-long X (k .again), in-front)) ∙ ew ∙ first-word)
           | no q ↦ front x (λ w. q w) (omega (arith, in-front, p, q)) ∙ st .low x (below-of x p q)
         ];
         mid = λ x p q. front x (λ w. omega (arith, p, w)) q ∙ st .mid x (omega arith) q;
@@ -301,8 +328,10 @@ module _ (T X : List ℕ) (n : ℕ) (k : Working T X n) where
         left = λ x p q.
             let c = room i h (suc s) b in
             behind (rowsAt + (rowWords * n + x)) (omega (arith, in-front))
-            ∙ sets-above u at vs (rowsAt + (rowWords * n + x)) (omega (arith, many-words, c)) ∙ st .left x (omega (arith, first-up T (k .image) i h s (suc s) (omega arith) b)) q;
-        rest = λ x p. behind (rowsAt + x) (omega (arith, in-front)) ∙ sets-above u at vs (rowsAt + x) (omega (arith, many-words, room i h (suc s) b, total-over T (k .image) i h (suc s) b)) ∙ st .rest x p;
+            ∙ sets-above u at vs (rowsAt + (rowWords * n + x)) (omega (arith, many-words, c))
+            ∙ st .left x (omega (arith, first-up T (k .image) i h s (suc s) (omega arith) b)) q;
+        rest = λ x p. behind (rowsAt + x) (omega (arith, in-front)) ∙ sets-above u at vs (rowsAt + x)
+            (omega (arith, many-words, room i h (suc s) b, total-over T (k .image) i h (suc s) b)) ∙ st .rest x p;
       }
         where
           at : ℕ
@@ -318,7 +347,12 @@ module _ (T X : List ℕ) (n : ℕ) (k : Working T X n) where
           upX = first-up X (k .again) i (omega (arith, same-count)) s (suc s) (omega arith) bX′
 
           many-words : rowWords * wr + length vs ≡ rowWords * firstOf X i (suc s)
-          many-words = omega (arith, rows-length (tab (rowIn X s) (firstOf X i s) (firstOf X i (suc s) - firstOf X i s)), tab-length (rowIn X s) (firstOf X i s) (firstOf X i (suc s) - firstOf X i s), upX)
+          many-words = omega (
+            arith,
+            rows-length (tab (rowIn X s) (firstOf X i s) (firstOf X i (suc s) - firstOf X i s)),
+            tab-length (rowIn X s) (firstOf X i s) (firstOf X i (suc s) - firstOf X i s),
+            upX,
+          )
 
           fits : firstOf X i (suc s) ≤ maxRows
           fits = omega (arith, room i h (suc s) b, total-over T (k .image) i h (suc s) b, all-fit)

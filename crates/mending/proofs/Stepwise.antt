@@ -41,7 +41,8 @@ takes-none u s hi left r h = rw (le-ltb r hi h)
 
 -- ---- one row put
 module _ (u : List ℕ) (s hi v : ℕ) (x : Next) where
-  pub put-taken : (u′ : List ℕ) → takes (rowIn u s) hi (x .left) (x .r) ≡ true → u′ ≡ putRow u v (rowIn u s (x .r)) → Put u s hi v x (record { r = x .r + 1; left = x .left }) u′
+  pub put-taken : (u′ : List ℕ) → takes (rowIn u s) hi (x .left) (x .r) ≡ true → u′ ≡ putRow u v (rowIn u s (x .r))
+      → Put u s hi v x (record { r = x .r + 1; left = x .left }) u′
   put-taken u′ e h = record { next = rw e; table = rw e h }
 
   pub put-loop : (a l : ℕ) (u′ : List ℕ) → takes (rowIn u s) hi (x .left) (x .r) ≡ false → a ≡ lowestOf (x .left) → l ≡ later (x .left)
@@ -50,7 +51,8 @@ module _ (u : List ℕ) (s hi v : ℕ) (x : Next) where
 
 -- ---- and the walk goes on
 module _ (s hi v end : ℕ) (u : List ℕ) where
-  pub weave-on : (u′ : List ℕ) (x y : Next) → v < end → Put u s hi v x y u′ → weave s hi (end - v) v (x .left) (x .r) u ≡ weave s hi (end - (v + 1)) (v + 1) (y .left) (y .r) u′
+  pub weave-on : (u′ : List ℕ) (x y : Next) → v < end → Put u s hi v x y u′
+      → weave s hi (end - v) v (x .left) (x .r) u ≡ weave s hi (end - (v + 1)) (v + 1) (y .left) (y .r) u′
   unfolding weave
   weave-on u′ x y h p =
       let e : end - v ≡ suc (end - (v + 1)) = omega arith in
@@ -58,8 +60,11 @@ module _ (s hi v end : ℕ) (u : List ℕ) where
       rw (e, p .next, p .table) (go k (takes (rowIn u s) hi (x .left) (x .r)))
     where
       go : (k : ℕ) (b : Bool)
-          → cond b (weave s hi k (v + 1) (x .left) (x .r + 1) (putRow u v (rowIn u s (x .r)))) (weave s hi k (v + 1) (later (x .left)) (x .r) (putRow u v (loopAt s (lowestOf (x .left)))))
-          ≡ weave s hi k (v + 1) (cond {A = Next} b (record { r = x .r + 1; left = x .left }) (record { r = x .r; left = later (x .left) }) .left) (cond {A = Next} b (record { r = x .r + 1; left = x .left }) (record { r = x .r; left = later (x .left) }) .r) (cond b (putRow u v (rowIn u s (x .r))) (putRow u v (loopAt s (lowestOf (x .left)))))
+          → cond b (weave s hi k (v + 1) (x .left) (x .r + 1) (putRow u v (rowIn u s (x .r))))
+          (weave s hi k (v + 1) (later (x .left)) (x .r) (putRow u v (loopAt s (lowestOf (x .left)))))
+          ≡ weave s hi k (v + 1) (cond {A = Next} b (record { r = x .r + 1; left = x .left }) (record { r = x .r; left = later (x .left) }) .left)
+          (cond {A = Next} b (record { r = x .r + 1; left = x .left }) (record { r = x .r; left = later (x .left) }) .r)
+          (cond b (putRow u v (rowIn u s (x .r))) (putRow u v (loopAt s (lowestOf (x .left)))))
       go k true = refl
       go k false = refl
 

@@ -36,7 +36,8 @@ woven-same g h s hi (suc k) left r e =
     rw (takes-same g h hi left r (λ p. e r (omega arith) p))
     (go (takes h hi left r) refl (λ p. woven-same g h s hi k left (suc r) (λ x a b. e x (omega arith) b)) (woven-same g h s hi k (later left) r e))
   where
-    go : (b : Bool) → takes h hi left r ≡ b → (r < hi → woven g s hi k left (suc r) ≡ woven h s hi k left (suc r)) → woven g s hi k (later left) r ≡ woven h s hi k (later left) r
+    go : (b : Bool) → takes h hi left r ≡ b → (r < hi → woven g s hi k left (suc r) ≡ woven h s hi k left (suc r))
+        → woven g s hi k (later left) r ≡ woven h s hi k (later left) r
         → cond b (g r ∷ woven g s hi k left (suc r)) (loopAt s (lowestOf left) ∷ woven g s hi k (later left) r)
         ≡ cond b (h r ∷ woven h s hi k left (suc r)) (loopAt s (lowestOf left) ∷ woven h s hi k (later left) r)
     go true t p q = let l = takes-below h hi left r t in ap₂ _∷_ (e r (omega arith) l) (p l)
@@ -67,7 +68,8 @@ module _ (s hi k v left r : ℕ) (u : List ℕ) (q : Row) (h : v < r) where
   put-ready : Ready (rowIn u s) s r hi left → Ready (rowIn (putRow u v q) s) s r hi left
   put-ready d = ready-same (rowIn u s) (rowIn (putRow u v q) s) s r hi left (λ x p l. sym (kept x p l)) d
 
-  put-then : Woven s hi k (v + 1) left r (putRow u v q) → weave s hi k (v + 1) left r (putRow u v q) ≡ sets u (rowsAt + rowWords * v) (rowsOf (q ∷ woven (rowIn u s) s hi k left r))
+  put-then : Woven s hi k (v + 1) left r (putRow u v q) → weave s hi k (v + 1) left r (putRow u v q)
+      ≡ sets u (rowsAt + rowWords * v) (rowsOf (q ∷ woven (rowIn u s) s hi k left r))
   unfolding rowsOf
   put-then ih =
       let next : rowsAt + rowWords * (v + 1) ≡ suc (suc (suc (suc (rowsAt + rowWords * v)))) = omega arith in
@@ -77,14 +79,17 @@ pub weave-is : (s hi k v left r : ℕ) (u : List ℕ) → Ready (rowIn u s) s r 
 unfolding weave woven
 weave-is s hi zero v left r u d e b = unfold rowsOf in refl
 weave-is s hi (suc k) v left r u d e b =
-    go (weave-is s hi k (v + 1) left (suc r) (putRow u v (rowIn u s r))) (weave-is s hi k (v + 1) (later left) r (putRow u v (loopAt s (lowestOf left)))) (takes (rowIn u s) hi left r) refl
+    go (weave-is s hi k (v + 1) left (suc r) (putRow u v (rowIn u s r))) (weave-is s hi k (v + 1) (later left) r (putRow u v (loopAt s (lowestOf left))))
+    (takes (rowIn u s) hi left r) refl
   where
-    go : (Ready (rowIn (putRow u v (rowIn u s r)) s) s (suc r) hi left → k ≡ (hi - suc r) + sizeOf left → v + 1 + k ≤ hi → Woven s hi k (v + 1) left (suc r) (putRow u v (rowIn u s r)))
+    go : (Ready (rowIn (putRow u v (rowIn u s r)) s) s (suc r) hi left → k ≡ (hi - suc r) + sizeOf left → v + 1 + k ≤ hi
+        → Woven s hi k (v + 1) left (suc r) (putRow u v (rowIn u s r)))
         → (Ready (rowIn (putRow u v (loopAt s (lowestOf left))) s) s r hi (later left) → k ≡ (hi - r) + sizeOf (later left) → v + 1 + k ≤ hi
         → Woven s hi k (v + 1) (later left) r (putRow u v (loopAt s (lowestOf left))))
         → (c : Bool) → takes (rowIn u s) hi left r ≡ c
         → cond c (weave s hi k (v + 1) left (r + 1) (putRow u v (rowIn u s r))) (weave s hi k (v + 1) (later left) r (putRow u v (loopAt s (lowestOf left))))
-        ≡ sets u (rowsAt + rowWords * v) (rowsOf (cond c (rowIn u s r ∷ woven (rowIn u s) s hi k left (suc r)) (loopAt s (lowestOf left) ∷ woven (rowIn u s) s hi k (later left) r)))
+        ≡ sets u (rowsAt + rowWords * v) (rowsOf (cond c (rowIn u s r ∷ woven (rowIn u s) s hi k left (suc r))
+        (loopAt s (lowestOf left) ∷ woven (rowIn u s) s hi k (later left) r)))
     go ir il true t =
         let a = after-row (rowIn u s) s hi k r left d e t in
         let q = rowIn u s r in

@@ -29,7 +29,8 @@ use Rattle.mending.proofs.Woven.{Ready}
 use Rattle.mending.proofs.Weaving.{weave-is}
 use Rattle.mending.proofs.Steps.{same-count, head-same, next-first, state-ready, woven-is, room, all-fit, total-over, first-here, first-there, raised-row, lack-read, state-put}
 
-weave-same : (s w : ℕ) (u : List ℕ) {hi hi′ k k′ left left′ r r′ : ℕ} → hi ≡ hi′ → k ≡ k′ → left ≡ left′ → r ≡ r′ → weave s hi k w left r u ≡ weave s hi′ k′ w left′ r′ u
+weave-same : (s w : ℕ) (u : List ℕ) {hi hi′ k k′ left left′ r r′ : ℕ} → hi ≡ hi′ → k ≡ k′ → left ≡ left′ → r ≡ r′
+    → weave s hi k w left r u ≡ weave s hi′ k′ w left′ r′ u
 weave-same s w u a b c d = λ i. weave s (a i) (b i) w (c i) (d i) u
 
 -- ---- one state
@@ -118,7 +119,8 @@ module _ {u : List ℕ} {n i s w : ℕ} (p : AtState u n i s w) where
         put = state-put T X n (p .work) i (p .inside) s (p .below) u w (p .stage) u1 u2 (p .here) rows e2
 
 -- ---- words that are the same in both are passed over
-skip : (T X : List ℕ) (n : ℕ) (u : List ℕ) (f f′ r w : ℕ) → f ≤ f′ → f′ ≤ rowsAt → ((x : ℕ) → f ≤ x → x < f′ → getD T x 0 ≡ getD X x 0) → Stage T X n u f r w → Stage T X n u f′ r w
+skip : (T X : List ℕ) (n : ℕ) (u : List ℕ) (f f′ r w : ℕ) → f ≤ f′ → f′ ≤ rowsAt → ((x : ℕ) → f ≤ x → x < f′ → getD T x 0 ≡ getD X x 0) → Stage T X n u f r w
+    → Stage T X n u f′ r w
 skip T X n u f f′ r w a b same st = record {
   long = st .long;
   low = λ x p. elim (decLt x f) [
@@ -171,7 +173,8 @@ module _ {u : List ℕ} {n i w : ℕ} (p : AtComp u n i w) where
       rw e (words-same TC XC i j (sym (head-same TC XC n (p .work) i (p .inside) j (omega arith))))) (p .stage)
 
   -- and its first words end
-  pub comp-ends : (v : List ℕ) (k : ℕ) → k ≡ firstOf XC i states → Stage TC XC n v (firstAt i states) (firstOf TC i states) k → (v′ : List ℕ) → v′ ≡ set v (firstAt i states) k → Behind p v′ k
+  pub comp-ends : (v : List ℕ) (k : ℕ) → k ≡ firstOf XC i states → Stage TC XC n v (firstAt i states) (firstOf TC i states) k → (v′ : List ℕ)
+      → v′ ≡ set v (firstAt i states) k → Behind p v′ k
   comp-ends v k ek st v′ ev = record {
     here = ek;
     stage = skip TC XC n v′ (firstAt i (suc states)) (blockAt (suc i)) (firstOf TC i states) k (omega (arith, comp-states)) (omega (arith, comp-few)) above put;
@@ -207,7 +210,8 @@ module _ {u : List ℕ} {n i w : ℕ} (p : AtComp u n i w) where
           let s = x - firstAt i 0 in
           let e : x ≡ firstAt i s = omega arith in
           let zt : firstOf TC i s ≡ 0 = first-over TC (p .work .image) i (p .inside) s (omega arith) (omega arith) in
-          let zx : firstOf XC i s ≡ 0 = first-over XC (p .work .again) i (omega (arith, p .inside, same-count TC XC n (p .work))) s (omega (arith, head-same TC XC n (p .work) i (p .inside) 0 (omega arith))) (omega arith) in
+          let zx : firstOf XC i s ≡ 0 = first-over XC (p .work .again) i (omega (arith, p .inside, same-count TC XC n (p .work))) s
+          (omega (arith, head-same TC XC n (p .work) i (p .inside) 0 (omega arith))) (omega arith) in
           rw e (firsts-same TC XC i s (zt ∙ sym zx))
 
 -- ---- all components
@@ -230,7 +234,13 @@ module _ {u : List ℕ} {n : ℕ} (p : AtStart u n) where
 
   rows-old : (i : ℕ) → i < countOf TA → rowCount (take (suc i) (modelOf TA)) ≡ firstOf TA i (blockWord TA i 0)
   rows-old i h =
-      omega (arith, rows-next (modelOf TA) i (omega (arith, model-length TA)), rows-end TA (p .work .image) i h, first-start TA (p .work .image) i h, ap (λ c. length (c .rows)) (comp-at TA i h))
+      omega (
+        arith,
+        rows-next (modelOf TA) i (omega (arith, model-length TA)),
+        rows-end TA (p .work .image) i h,
+        first-start TA (p .work .image) i h,
+        ap (λ c. length (c .rows)) (comp-at TA i h),
+      )
 
   rows-new : (i : ℕ) → i < countOf TA → rowCount (take (suc i) (modelOf XA)) ≡ firstOf XA i (blockWord TA i 0)
   rows-new i h =
@@ -254,7 +264,8 @@ module _ {u : List ℕ} {n : ℕ} (p : AtStart u n) where
     stage = rw (first-start TA (p .work .image) i h) (r .stage);
   }
 
-  pub past-comp : (v : List ℕ) (i w : ℕ) (h : i < countOf TA) (r : Reached p v i w) (v′ : List ℕ) (k : ℕ) → Behind (at-comp v i w h r) v′ k → Reached p v′ (suc i) k
+  pub past-comp : (v : List ℕ) (i w : ℕ) (h : i < countOf TA) (r : Reached p v i w) (v′ : List ℕ) (k : ℕ) → Behind (at-comp v i w h r) v′ k
+      → Reached p v′ (suc i) k
   past-comp v i w h r v′ k b = record { here = b .here ∙ sym (rows-new i h); stage = rw (rows-old i h) (b .stage) }
 
   -- ---- the end
@@ -306,7 +317,8 @@ module _ (t : List ℕ) (im : Image t) (well : WellFormed (repairedOf (modelOf t
     again = record { model = repairedOf (modelOf t); well = well; front = front-is };
     model = model-is (repairedOf (modelOf t)) new well front-is;
     long = omega (arith, length-append m (drop imageWords t), front-long, length-drop imageWords t, image-long t im);
-    rows = ap rowCount (model-is (repairedOf (modelOf t)) new well front-is) ∙ repaired-row-count (modelOf t) (well-formed t im) ∙ ap (λ x. rowCount (modelOf t) + x) (sym en);
+    rows = ap rowCount (model-is (repairedOf (modelOf t)) new well front-is) ∙ repaired-row-count (modelOf t) (well-formed t im)
+        ∙ ap (λ x. rowCount (modelOf t) + x) (sym en);
   }
 
   total : ℕ
@@ -351,7 +363,8 @@ module _ (t : List ℕ) (im : Image t) (well : WellFormed (repairedOf (modelOf t
       count-word : getD t 0 0 ≡ getD new 0 0
       count-word = sym (same-count t new n working)
 
-  pub begun-new : (u : List ℕ) (r : Raised t u (rowWords * rowCount (modelOf t)) (rowWords * n)) → begun u r .new ≡ imageOf (repairedOf (modelOf t)) ++ drop imageWords t
+  pub begun-new : (u : List ℕ) (r : Raised t u (rowWords * rowCount (modelOf t)) (rowWords * n))
+      → begun u r .new ≡ imageOf (repairedOf (modelOf t)) ++ drop imageWords t
   unfolding begun
   begun-new u r = refl
 
@@ -367,19 +380,23 @@ module _ {u : List ℕ} {n i w : ℕ} (p : AtComp u n i w) where
   abbrev pub at-state : (v : List ℕ) (s k : ℕ) → s < blockWord (p .old) i 0 → Within p v s k → AtState v n i s k
   at-state v s k b q = record { old = p .old; new = p .new; work = p .work; inside = p .inside; below = b; here = q .here; stage = q .stage }
 
-  pub past-state : (v : List ℕ) (s k : ℕ) (b : s < blockWord (p .old) i 0) (q : Within p v s k) (v′ : List ℕ) (r : ℕ) → After (at-state v s k b q) v′ r → Within p v′ (s + 1) r
+  pub past-state : (v : List ℕ) (s k : ℕ) (b : s < blockWord (p .old) i 0) (q : Within p v s k) (v′ : List ℕ) (r : ℕ) → After (at-state v s k b q) v′ r
+      → Within p v′ (s + 1) r
   past-state v s k b q v′ r a = rw (add-one s) (record { here = a .here; stage = a .stage })
 
-  pub comp-done : (v : List ℕ) (s k states : ℕ) → s ≡ states → states ≡ blockWord (p .old) i 0 → Within p v s k → (v′ : List ℕ) → v′ ≡ set v (firstAt i states) k → Behind p v′ k
+  pub comp-done : (v : List ℕ) (s k states : ℕ) → s ≡ states → states ≡ blockWord (p .old) i 0 → Within p v s k → (v′ : List ℕ)
+      → v′ ≡ set v (firstAt i states) k → Behind p v′ k
   comp-done v s k states a b q v′ e =
       let z = a ∙ b in
       comp-ends p v k (q .here ∙ ap (firstOf (p .new) i) z) (rw z at (q .stage)) v′ (rw b at e)
 
 -- the rows of a table, read off its last component
-pub total-rows : (t : List ℕ) → Image t → (count states rows : ℕ) → count ≡ countOf t → states ≡ blockWord t (count - 1) 0 → rows ≡ firstOf t (count - 1) states → rows ≡ rowCount (modelOf t)
+pub total-rows : (t : List ℕ) → Image t → (count states rows : ℕ) → count ≡ countOf t → states ≡ blockWord t (count - 1) 0
+    → rows ≡ firstOf t (count - 1) states → rows ≡ rowCount (modelOf t)
 total-rows t im count states rows ec es er =
     let some = well-formed t im .some in
     er ∙ ap (firstOf t (count - 1)) es ∙ rows-last t im (count - 1) (omega (arith, some, ec, model-length t))
 
 pub last-inside : (t : List ℕ) → Image t → (count : ℕ) → count ≡ countOf t → (1 ≤ count) × (count - 1 < countOf t) × (count - 1 < maxComponents)
-last-inside t im count ec = let some = well-formed t im .some in (omega (arith, some, ec, model-length t), omega (arith, some, ec, model-length t), omega (arith, some, ec, model-length t, count-below t im))
+last-inside t im count ec = let some = well-formed t im .some in
+    (omega (arith, some, ec, model-length t), omega (arith, some, ec, model-length t), omega (arith, some, ec, model-length t, count-below t im))

@@ -115,15 +115,19 @@ module _ (g : ℕ → Row) (s hi : ℕ) where
       more : Old r z ⊎ New (later left) z → Old r z ⊎ New left z
       more w = ⊎-elim (λ o. inl o) (λ n. inr (n .0, later-in left (n .0) (n .1), n .2)) w
 
-      row : (IfRow k r left (In z (woven g s hi k left (suc r)) → Old (suc r) z ⊎ New left z)) → takes g hi left r ≡ true → In z (g r ∷ woven g s hi k left (suc r)) → Old r z ⊎ New left z
+      row : (IfRow k r left (In z (woven g s hi k left (suc r)) → Old (suc r) z ⊎ New left z)) → takes g hi left r ≡ true
+          → In z (g r ∷ woven g s hi k left (suc r)) → Old r z ⊎ New left z
       row ih t (here q) = inl (r, omega arith, takes-below g hi left r t, q)
       row ih t (there q) = let a = after-row k r left d e t in wider (ih (a .0) (a .1) q)
 
-      loop : (IfLoop k r left (In z (woven g s hi k (later left) r) → Old r z ⊎ New (later left) z)) → takes g hi left r ≡ false → In z (loopAt s (lowestOf left) ∷ woven g s hi k (later left) r) → Old r z ⊎ New left z
+      loop : (IfLoop k r left (In z (woven g s hi k (later left) r) → Old r z ⊎ New (later left) z)) → takes g hi left r ≡ false
+          → In z (loopAt s (lowestOf left) ∷ woven g s hi k (later left) r) → Old r z ⊎ New left z
       loop ih t (here q) = inr (lowestOf left, lowest-least left (d .low) (some-left k r left d e t) .here, q)
       loop ih t (there q) = let a = after-loop k r left d e t in more (ih (a .0) (a .1) q)
 
-      go : (IfRow k r left (In z (woven g s hi k left (suc r)) → Old (suc r) z ⊎ New left z)) → (IfLoop k r left (In z (woven g s hi k (later left) r) → Old r z ⊎ New (later left) z)) → (b : Bool) → takes g hi left r ≡ b → In z (cond b (g r ∷ woven g s hi k left (suc r)) (loopAt s (lowestOf left) ∷ woven g s hi k (later left) r)) → Old r z ⊎ New left z
+      go : (IfRow k r left (In z (woven g s hi k left (suc r)) → Old (suc r) z ⊎ New left z))
+          → (IfLoop k r left (In z (woven g s hi k (later left) r) → Old r z ⊎ New (later left) z)) → (b : Bool) → takes g hi left r ≡ b
+          → In z (cond b (g r ∷ woven g s hi k left (suc r)) (loopAt s (lowestOf left) ∷ woven g s hi k (later left) r)) → Old r z ⊎ New left z
       go ir il true t q = row ir t q
       go ir il false t q = loop il t q
 
@@ -138,7 +142,8 @@ module _ (g : ℕ → Row) (s hi : ℕ) where
         | no q ↦ let a = after-row k r left d e t in there (ih (a .0) (a .1) (o .0, omega (arith, o .1), o .2, o .3))
       ]
 
-      go : (IfRow k r left (Old (suc r) z → In z (woven g s hi k left (suc r)))) → (IfLoop k r left (Old r z → In z (woven g s hi k (later left) r))) → (b : Bool) → takes g hi left r ≡ b → In z (cond b (g r ∷ woven g s hi k left (suc r)) (loopAt s (lowestOf left) ∷ woven g s hi k (later left) r))
+      go : (IfRow k r left (Old (suc r) z → In z (woven g s hi k left (suc r)))) → (IfLoop k r left (Old r z → In z (woven g s hi k (later left) r)))
+          → (b : Bool) → takes g hi left r ≡ b → In z (cond b (g r ∷ woven g s hi k left (suc r)) (loopAt s (lowestOf left) ∷ woven g s hi k (later left) r))
       go ir il true t = row ir t
       go ir il false t = let a = after-loop k r left d e t in there (il (a .0) (a .1) o)
 
@@ -150,13 +155,15 @@ module _ (g : ℕ → Row) (s hi : ℕ) where
   new-in zero r left d e n = absurd (none-of-none r left (n .0) d e (n .1))
   new-in (suc k) r left {z} d e n = go (new-in k (suc r) left) (new-in k r (later left)) (takes g hi left r) refl
     where
-      loop : (IfLoop k r left (New (later left) z → In z (woven g s hi k (later left) r))) → takes g hi left r ≡ false → In z (loopAt s (lowestOf left) ∷ woven g s hi k (later left) r)
+      loop : (IfLoop k r left (New (later left) z → In z (woven g s hi k (later left) r))) → takes g hi left r ≡ false
+          → In z (loopAt s (lowestOf left) ∷ woven g s hi k (later left) r)
       loop ih t = elim (ℕ-discrete (n .0) (lowestOf left)) [
         | yes q ↦ here (n .2 ∙ ap (loopAt s) q)
         | no q ↦ let a = after-loop k r left d e t in there (ih (a .0) (a .1) (n .0, in-later left (n .0) (n .1) q, n .2))
       ]
 
-      go : (IfRow k r left (New left z → In z (woven g s hi k left (suc r)))) → (IfLoop k r left (New (later left) z → In z (woven g s hi k (later left) r))) → (b : Bool) → takes g hi left r ≡ b → In z (cond b (g r ∷ woven g s hi k left (suc r)) (loopAt s (lowestOf left) ∷ woven g s hi k (later left) r))
+      go : (IfRow k r left (New left z → In z (woven g s hi k left (suc r)))) → (IfLoop k r left (New (later left) z → In z (woven g s hi k (later left) r)))
+          → (b : Bool) → takes g hi left r ≡ b → In z (cond b (g r ∷ woven g s hi k left (suc r)) (loopAt s (lowestOf left) ∷ woven g s hi k (later left) r))
       go ir il true t = let a = after-row k r left d e t in there (ir (a .0) (a .1) n)
       go ir il false t = loop il t
 
@@ -170,7 +177,8 @@ module _ (g : ℕ → Row) (s hi : ℕ) where
       first-row t z w =
           let h = takes-below g hi left r t in
           ⊎-elim (λ o. rw (o .3) (d .ascend r (o .0) (omega arith) (o .1) (o .2)))
-          (λ n. by-action (g r) z (d .from r (omega arith) h ∙ sym (ap (λ q. q .from) (n .2))) (omega (arith, lowest-le left (d .low) (n .0) (n .1), takes-lower g hi left r t, ap (λ q. q .action) (n .2)))) w
+          (λ n. by-action (g r) z (d .from r (omega arith) h ∙ sym (ap (λ q. q .from) (n .2)))
+          (omega (arith, lowest-le left (d .low) (n .0) (n .1), takes-lower g hi left r t, ap (λ q. q .action) (n .2)))) w
 
       row-above : takes g hi left r ≡ false → (x : ℕ) → r ≤ x → x < hi → lowestOf left ≤ g x .action
       row-above t x p q = elim (ℕ-discrete r x) [
@@ -190,12 +198,15 @@ module _ (g : ℕ → Row) (s hi : ℕ) where
           let f = d .from (o .0) (o .1) (o .2) in
           let p = row-above t (o .0) (o .1) (o .2) in
           let q : g (o .0) .action ≡ lowestOf left → ⊥ = λ x. true≢false (sym here-is ∙ ap (has left) (sym x) ∙ d .apart (o .0) (o .1) (o .2)) in
-          by-action (loopAt s (lowestOf left)) z (sym (ap (λ q. q .from) (o .3) ∙ f)) (omega (arith, p, ap (λ q. q .action) (o .3), strict (lowestOf left) (g (o .0) .action) p q)))
+          by-action (loopAt s (lowestOf left)) z (sym (ap (λ q. q .from) (o .3) ∙ f))
+          (omega (arith, p, ap (λ q. q .action) (o .3), strict (lowestOf left) (g (o .0) .action) p q)))
           (λ n.
           let p = lowest-le left (d .low) (n .0) (later-in left (n .0) (n .1)) in
-          by-action (loopAt s (lowestOf left)) z (sym (ap (λ q. q .from) (n .2))) (omega (arith, ap (λ q. q .action) (n .2), strict (lowestOf left) (n .0) p (later-not left (n .0) (n .1))))) w
+          by-action (loopAt s (lowestOf left)) z (sym (ap (λ q. q .from) (n .2)))
+          (omega (arith, ap (λ q. q .action) (n .2), strict (lowestOf left) (n .0) p (later-not left (n .0) (n .1))))) w
 
       go : IfRow k r left (Ascending (woven g s hi k left (suc r))) → IfLoop k r left (Ascending (woven g s hi k (later left) r))
-          → (b : Bool) → takes g hi left r ≡ b → Ascending (cond b (g r ∷ woven g s hi k left (suc r)) (loopAt s (lowestOf left) ∷ woven g s hi k (later left) r))
+          → (b : Bool) → takes g hi left r ≡ b → Ascending (cond b (g r ∷ woven g s hi k left (suc r))
+          (loopAt s (lowestOf left) ∷ woven g s hi k (later left) r))
       go ir il true t = let a = after-row k r left d e t in (λ z m. first-row t z (woven-in k (suc r) left (a .0) (a .1) m), ir (a .0) (a .1))
       go ir il false t = let a = after-loop k r left d e t in (λ z m. first-loop t z (woven-in k r (later left) (a .0) (a .1) m), il (a .0) (a .1))

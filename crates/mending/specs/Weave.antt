@@ -33,4 +33,5 @@ putRow u v r = sets u (rowsAt + rowWords * v) (wordsOf r)
 unfoldable pub weave : ℕ → ℕ → ℕ → ℕ → ℕ → ℕ → List ℕ → List ℕ
 weave s hi zero v left r u = u
 weave s hi (suc k) v left r u =
-    cond (takes (rowIn u s) hi left r) (weave s hi k (v + 1) left (r + 1) (putRow u v (rowIn u s r))) (weave s hi k (v + 1) (later left) r (putRow u v (loopAt s (lowestOf left))))
+    cond (takes (rowIn u s) hi left r) (weave s hi k (v + 1) left (r + 1) (putRow u v (rowIn u s r)))
+    (weave s hi k (v + 1) (later left) r (putRow u v (loopAt s (lowestOf left))))

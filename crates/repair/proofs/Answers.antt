@@ -49,7 +49,8 @@ module _ (bytes : ℕ) (c : Comp) (cs : List Comp) (w : WellFormed (c ∷ cs)) w
       let d = when big (tell 26 (0 ∷ [])) in
       let e = either (orElse b d) (answered D) ∙ or-refused b d (answered D) in
       rw e (check-exactly (room needed bytes) b (room-decided needed bytes) (refusedOr d (answered D)) _ (λ p.
-      check-exactly (needs 26 (Small (repairedOf (c ∷ cs)))) d (needs-decided 26 (Small (repairedOf (c ∷ cs))) big (small-exactly (repairedOf (c ∷ cs)))) (answered D) (Gives (λ x. x ≡ D)) (λ q.
+      check-exactly (needs 26 (Small (repairedOf (c ∷ cs)))) d (needs-decided 26 (Small (repairedOf (c ∷ cs))) big (small-exactly (repairedOf (c ∷ cs))))
+      (answered D) (Gives (λ x. x ≡ D)) (λ q.
       gives-exactly D (λ x. x ≡ D) (λ y. (sym, sym)))) a)
 
   model-exactly : (a : Answer Mended) → (repairOf bytes (c ∷ cs) ≡ a) ↔ RepairAnswer bytes c cs a
@@ -61,5 +62,8 @@ module _ (bytes : ℕ) (c : Comp) (cs : List Comp) (w : WellFormed (c ∷ cs)) w
 pub repair-answers-exactly : (t l : List ℕ) (r : Written) (t′ l′ : List ℕ) → Repairing t l r t′ l′ ↔ RepairExactly t l r t′ l′
 unfolding repairOn
 repair-answers-exactly t l r t′ l′ =
-    let e = on-table-leaves t (repairOf (length l)) (RepairAnswer (length l)) (λ c cs w. model-exactly (length l) c cs w) (Mends t l r t′ l′) in
-    (λ g. e .0 (record { answer = g .answer; table = g .table; list = g .list }), λ g. let k = e .1 g in record { answer = k .answer; table = k .table; list = k .list })
+    let e = on-table-leaves t (repairOf (length l)) (RepairAnswer (length l)) (λ c cs w. model-exactly (length l) c cs w) (Mends t l r t′ l′) in (
+      λ g. e .0 (record { answer = g .answer; table = g .table; list = g .list }),
+      λ g. let k =
+          e .1 g in record { answer = k .answer; table = k .table; list = k .list },
+    )

@@ -33,7 +33,8 @@ abbrev big : Model → Bool
 big m = ltb maxRows (rowCount m) || ltb maxBytes (length (textOf m))
 
 -- what the call says and leaves, from what it answers
-called : (t l : List ℕ) (r : Written) (t′ l′ : List ℕ) (a : Answer Mended) → repairOn t l ≡ a → saysWritten r ≡ some (numberIn a) → t′ ≡ tableWith a t → l′ ≡ listWith a l → Repairing t l r t′ l′
+called : (t l : List ℕ) (r : Written) (t′ l′ : List ℕ) (a : Answer Mended) → repairOn t l ≡ a → saysWritten r ≡ some (numberIn a) → t′ ≡ tableWith a t
+    → l′ ≡ listWith a l → Repairing t l r t′ l′
 called t l r t′ l′ a e p q s =
     record { answer = p ∙ ap (λ b. some (numberIn b)) (sym e); table = q ∙ ap (λ b. tableWith b t) (sym e); list = s ∙ ap (λ b. listWith b l) (sym e) }
 
@@ -69,7 +70,8 @@ module _ (t l : List ℕ) where
     unfolding repairOn
     on a e = on-image t (repairOf (length l)) (image-exactly t .1 im) ∙ e
 
-    pub no-room : (r : Written) (k : ℕ) (l′ : List ℕ) → r ≡ Refused (record { number = 24; place = Bytes k }) → k ≡ cellBytes * length (addedTo (modelOf t)) → length l < k → l′ ≡ l → Repairing t l r t l′
+    pub no-room : (r : Written) (k : ℕ) (l′ : List ℕ) → r ≡ Refused (record { number = 24; place = Bytes k }) → k ≡ cellBytes * length (addedTo (modelOf t))
+        → length l < k → l′ ≡ l → Repairing t l r t l′
     unfolding repairOf
     no-room r k l′ er ek h el =
         called t l r t l′ (refused (tell 24 (cellBytes * length (addedTo (modelOf t)) ∷ [])))

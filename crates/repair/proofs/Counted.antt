@@ -43,12 +43,14 @@ walked-dry [] o = refl
 walked-dry (x ∷ xs) o = walked-dry xs (oneMore false x o)
 
 -- every cell is
-pub walked-wet : (xs : List (List ℕ)) (o : Out) → All (λ x. length x ≡ cellBytes) xs → walked true xs o .list ≡ sets (o .list) (cellBytes * o .rows) (bytesIn xs)
+pub walked-wet : (xs : List (List ℕ)) (o : Out) → All (λ x. length x ≡ cellBytes) xs
+    → walked true xs o .list ≡ sets (o .list) (cellBytes * o .rows) (bytesIn xs)
 unfolding walked oneMore bytesIn
 walked-wet [] o h = refl
 walked-wet (x ∷ xs) o h =
     let e : cellBytes * (o .rows + 1) ≡ cellBytes * o .rows + length x = omega (arith, h .0) in
-    walked-wet xs (oneMore true x o) (h .1) ∙ ap (λ k. sets (sets (o .list) (cellBytes * o .rows) x) k (bytesIn xs)) e ∙ sym (sets-append (o .list) x (bytesIn xs) (cellBytes * o .rows))
+    walked-wet xs (oneMore true x o) (h .1) ∙ ap (λ k. sets (sets (o .list) (cellBytes * o .rows) x) k (bytesIn xs)) e
+    ∙ sym (sets-append (o .list) x (bytesIn xs) (cellBytes * o .rows))
 
 pub bytes-length : (xs : List (List ℕ)) → All (λ x. length x ≡ cellBytes) xs → length (bytesIn xs) ≡ cellBytes * length xs
 unfolding bytesIn
@@ -75,7 +77,8 @@ bound : (x y n : ℕ) → x ≡ y → y ≤ 1 * n → x ≤ n
 bound x y n e h = omega arith
 
 state-most : (i : ℕ) (c : Comp) (s : ℕ) → length (spread (cellAt i c s) 0 maxActions) ≤ maxActions
-state-most i c s = bound _ _ maxActions (spread-length (cellAt i c s) 0 maxActions) (sum-at-most (λ a. length (cellAt i c s a)) 1 0 maxActions (λ a p q. one-most i c s a))
+state-most i c s = bound _ _ maxActions (spread-length (cellAt i c s) 0 maxActions)
+    (sum-at-most (λ a. length (cellAt i c s a)) 1 0 maxActions (λ a p q. one-most i c s a))
 
 bound-by : (x y n m : ℕ) → x ≡ y → y ≤ maxActions * n → n ≤ m → x ≤ maxActions * m
 bound-by x y n m e h l = omega arith
@@ -91,14 +94,16 @@ module _ (m : Model) (w : WellFormed m) where
   unfolding addedTo
   added-most =
       let e = spread-length (λ i. cellsOf i (compAt m i)) 0 (length m) in
-      let f = sum-at-most (λ i. length (cellsOf i (compAt m i))) (maxActions * maxStates) 0 (length m) (λ i p q. cells-most i (compAt m i) (w .each i (omega arith) .states)) in
+      let f = sum-at-most (λ i. length (cellsOf i (compAt m i))) (maxActions * maxStates) 0 (length m)
+      (λ i p q. cells-most i (compAt m i) (w .each i (omega arith) .states)) in
       omega (arith, e, f, w .components)
 
   pub added-cells : All (λ x. length x ≡ cellBytes) (addedTo m)
   added-cells = at-all (λ x. length x ≡ cellBytes) [] (addedTo m) (λ k h. ap length (added-has m w _ .0 (in-at [] (addedTo m) k h) .bytes))
 
   -- a walk from no rows and the bytes of the text
-  module _ (write : Bool) (bytes : ℕ) (list : List ℕ) (eb : bytes ≡ length (textOf m)) (long : write ≡ true → cellBytes * length (addedTo m) ≤ length list) where
+  module _ (write : Bool) (bytes : ℕ) (list : List ℕ) (eb : bytes ≡ length (textOf m))
+      (long : write ≡ true → cellBytes * length (addedTo m) ≤ length list) where
     abbrev start : Out
     start = record { rows = 0; bytes = bytes; list = list }
 
@@ -160,10 +165,12 @@ module _ (m : Model) (w : WellFormed m) (bytes : ℕ) (l : List ℕ) (eb : bytes
     pub wet-list : 3 * n .rows ≤ length l′ → (k : Tally) (l″ : List ℕ) → outOf k l″ ≡ walked true (addedTo m) (record { rows = 0; bytes = bytes; list = l′ })
         → l″ ≡ bytesIn (addedTo m) ++ drop (cellBytes * length (addedTo m)) l
     wet-list h k l″ f =
-        ap (λ o. o .list) f ∙ end-list m w bytes l′ (omega (arith, h, needed-is)) ∙ ap (λ x. bytesIn (addedTo m) ++ drop (cellBytes * length (addedTo m)) x) dry-list
+        ap (λ o. o .list) f ∙ end-list m w bytes l′ (omega (arith, h, needed-is))
+        ∙ ap (λ x. bytesIn (addedTo m) ++ drop (cellBytes * length (addedTo m)) x) dry-list
 
     -- 26, counted
-    pub size-there : (rows : ℕ) (b : Bool) → rows ≡ rowCount m → b ≡ (ltb maxRows (rows + n .rows) || ltb maxBytes (n .bytes)) → (ltb maxRows (rowCount (repairedOf m)) || ltb maxBytes (length (textOf (repairedOf m)))) ≡ b
+    pub size-there : (rows : ℕ) (b : Bool) → rows ≡ rowCount m → b ≡ (ltb maxRows (rows + n .rows) || ltb maxBytes (n .bytes))
+        → (ltb maxRows (rowCount (repairedOf m)) || ltb maxBytes (length (textOf (repairedOf m)))) ≡ b
     size-there rows b er eb =
         let e : rowCount (repairedOf m) ≡ rows + n .rows = repaired-row-count m w ∙ ap₂ (λ x y. x + y) (sym er) (sym dry-rows) in
         ap₂ (λ x y. ltb maxRows x || ltb maxBytes y) e (sym dry-bytes) ∙ sym eb

@@ -7,4 +7,9 @@ use Rattle.answer.proofs.SaysFixes.{written-fixed}
 use Rattle.repair.specs.Repairing.{repairOn, numberIn, Repairing}
 
 pub repair-determined : (t l : List ℕ) (r q : Written) (t′ l′ t″ l″ : List ℕ) → Repairing t l r t′ l′ → Repairing t l q t″ l″ → (r ≡ q) × (t′ ≡ t″) × (l′ ≡ l″)
-repair-determined t l r q t′ l′ t″ l″ g h = (written-fixed r q (numberIn (repairOn t l)) (g .answer) (h .answer), g .table ∙ sym (h .table), g .list ∙ sym (h .list))
+repair-determined t l r q t′ l′ t″ l″ g h = (
+  written-fixed r q (numberIn (repairOn t l)) (g .answer) (h .answer),
+  g .table ∙ sym (h .table),
+  g .list
+      ∙ sym (h .list),
+)

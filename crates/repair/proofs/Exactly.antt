@@ -47,7 +47,8 @@ module _ (t l t′ l′ : List ℕ) (n : ℕ) (g : Repairing t l (Length n) t′
   told a e = Option·some-inj .0 e
 
   pub repair-done : Done t t′
-  repair-done = let k = repair-answers-exactly t l (Length n) t′ l′ .0 g in of-image (k .answer) (k .right) (told (k .answer) (k .left .answer)) (k .left .table)
+  repair-done = let k = repair-answers-exactly t l (Length n) t′ l′ .0 g in of-image (k .answer) (k .right) (told (k .answer) (k .left .answer))
+      (k .left .table)
     where
       fine : (c : Comp) (cs : List Comp) → Holds t (c ∷ cs) → Small (repairedOf (c ∷ cs)) → t′ ≡ imageOf (repairedOf (c ∷ cs)) ++ drop imageWords t → Done t t′
       fine c cs h s e =
@@ -61,7 +62,8 @@ module _ (t l t′ l′ : List ℕ) (n : ℕ) (g : Repairing t l (Length n) t′
             image = record { model = repairedOf (c ∷ cs); well = w; front = f };
           }
 
-      of-answer : (c : Comp) (cs : List Comp) → Holds t (c ∷ cs) → (a : Answer Mended) → RepairAnswer (length l) c cs a → answered n ≡ numberIn a → t′ ≡ tableWith a t → Done t t′
+      of-answer : (c : Comp) (cs : List Comp) → Holds t (c ∷ cs) → (a : Answer Mended) → RepairAnswer (length l) c cs a → answered n ≡ numberIn a
+          → t′ ≡ tableWith a t → Done t t′
       of-answer c cs h a (of-repaired r (refuses p)) e q = absurd (never e)
       of-answer c cs h a (of-repaired r (passes p (refuses u))) e q = absurd (never e)
       of-answer c cs h a (of-repaired {d = d} r (passes p (passes s (gives {x = x} y)))) e q =
@@ -86,9 +88,11 @@ module _ (t l t′ l′ : List ℕ) (n : ℕ) (g : Repairing t l (Length n) t′
 pub answered-is : (bytes : ℕ) (m : Model) (d : Mended) → repairOf bytes m ≡ answered d → d .model ≡ repairedOf m
 unfolding repairOf
 answered-is bytes m d e =
-    go (orElse (when (ltb bytes (cellBytes * length (addedTo m))) (tell 24 (cellBytes * length (addedTo m) ∷ []))) (when (ltb maxRows (rowCount (repairedOf m)) || ltb maxBytes (length (textOf (repairedOf m)))) (tell 26 (0 ∷ [])))) e
+    go (orElse (when (ltb bytes (cellBytes * length (addedTo m))) (tell 24 (cellBytes * length (addedTo m) ∷ [])))
+    (when (ltb maxRows (rowCount (repairedOf m)) || ltb maxBytes (length (textOf (repairedOf m)))) (tell 26 (0 ∷ [])))) e
   where
-    go : (o : Option Told) → (elim o as (λ _. Answer Mended) [ some t ↦ refused t | none ↦ answered (record { model = repairedOf m; added = addedTo m }) ]) ≡ answered d → d .model ≡ repairedOf m
+    go : (o : Option Told) → (elim o as (λ _. Answer Mended) [ some t ↦ refused t | none ↦ answered (record { model = repairedOf m; added = addedTo m }) ])
+        ≡ answered d → d .model ≡ repairedOf m
     go none q = let z : record { model = repairedOf m; added = addedTo m } ≡ d = same q in ap (λ x. x .model) (sym z)
       where
         same : {x y : Mended} → answered x ≡ answered y → x ≡ y

@@ -45,7 +45,8 @@ loop-again c =
     let l = c .before .before .before .before .loop in
     let t = now (c .before .before .before .before .before .before .args .t) in (
       omega (arith, l .inv .0),
-      ap (over (λ r x. x ∪ only (actionAt t r)) (l .k + 1) _) (c .union .ensures ∙ ap (λ g. l .seen ∪ g) (c .before .single .ensures ∙ ap only (c .before .before .action-at .ensures)))
+      ap (over (λ r x. x ∪ only (actionAt t r)) (l .k + 1) _) (c .union .ensures
+          ∙ ap (λ g. l .seen ∪ g) (c .before .single .ensures ∙ ap only (c .before .before .action-at .ensures)))
           ∙ sym (over-next (λ r x. x ∪ only (actionAt t r)) (l .k) _ (l .seen) (search needs)) ∙ l .inv .1,
     )
 

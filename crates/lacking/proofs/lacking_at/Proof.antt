@@ -32,7 +32,8 @@ unfolding lackOf
 returns c =
     let s = c .before .before .before .before in
     let t = now (s .args .t) in
-    c .lacking-in .ensures ∙ ap₂ (lackIn t (s .args .i)) (c .before .before .first-of .ensures) (c .before .first-of2 .ensures ∙ ap (firstOf t (s .args .i)) (add-one (s .args .s)))
+    c .lacking-in .ensures ∙ ap₂ (lackIn t (s .args .i)) (c .before .before .first-of .ensures)
+    (c .before .first-of2 .ensures ∙ ap (firstOf t (s .args .i)) (add-one (s .args .s)))
 
 pub lacking-at-spec : {M : Type 1} → statement M
 lacking-at-spec = tie.close (tie.spec first-of-requires add-first-of first-of-requires-2 lacking-in-requires returns)

@@ -25,7 +25,8 @@ returns : tie.Need-returns
 unfolding lackIn
 returns c =
     let u = c .before .before in
-    c .minus .ensures ∙ ap₂ (λ x y. x ∖ y) (u .union .ensures ∙ ap₂ (λ x y. x ∪ y) (u .before .before .block-word .ensures) (u .before .block-word2 .ensures)) (c .before .actions-from .ensures)
+    c .minus .ensures ∙ ap₂ (λ x y. x ∖ y) (u .union .ensures ∙ ap₂ (λ x y. x ∪ y) (u .before .before .block-word .ensures)
+    (u .before .block-word2 .ensures)) (c .before .actions-from .ensures)
 
 pub lacking-in-spec : {M : Type 1} → statement M
 lacking-in-spec = tie.close (tie.spec block-word-requires block-word-requires-2 union-requires actions-from-requires minus-requires returns)

@@ -41,10 +41,13 @@ same-length c = search needs
 returns : tie.Need-returns
 returns c =
     let s = c .before .before .before .before in
-    cell-stored (s .args .write) (now (s .args .list)) (s .args .rows) (s .args .x .component) (s .args .x .state) (s .args .x .action) (c .before .before .before .if1 .taken)
+    cell-stored (s .args .write) (now (s .args .list)) (s .args .rows) (s .args .x .component) (s .args .x .state) (s .args .x .action)
+    (c .before .before .before .if1 .taken)
 
 returns-2 : tie.Need-returns-2
 returns-2 c = search needs
 
 pub put-cell-spec : {M : Type 1} → statement M
-put-cell-spec = tie.close (tie.spec mul-at cast-list slice-write-list cast-list-2 add-list slice-write-list-2 cast-list-3 add-list-2 slice-write-list-3 same-length returns returns-2)
+put-cell-spec = tie.close
+    (tie.spec mul-at cast-list slice-write-list cast-list-2 add-list slice-write-list-2 cast-list-3 add-list-2 slice-write-list-3
+    same-length returns returns-2)

@@ -32,8 +32,12 @@ walk-component-requires c κs =
     let b = c .before .before .before in
     let s = b .before .before .before in
     let l = c .before .before .loop in
-    let h = c .before .loop-test .taken in
-    (s .pre .0, omega (arith, h, b .count-of .ensures), walk-room _ (cellsBy (s .args .t .now)) (l .i) (b .count-of .result) (outOf (l .m) (l .list)) _ h (l .inv .1) (s .pre .1))
+    let h = c .before .loop-test .taken in (
+      s .pre .0,
+      omega (arith, h, b .count-of .ensures),
+      walk-room _ (cellsBy (s .args .t .now)) (l .i) (b .count-of .result) (outOf (l .m) (l .list)) _ h
+          (l .inv .1) (s .pre .1),
+    )
 
 add-i : tie.Need-add-i Inv-loop μ-loop
 add-i c =
@@ -51,8 +55,11 @@ loop-again c =
     let t = c .before .before .before .before in
     let l = t .before .loop in
     let b = t .before .before in
-    let s = b .before .before .before in
-    (w .kept .1 .0 ∙ l .inv .0, walk-on _ (cellsBy (s .args .t .now)) (l .i) (b .count-of .result) (outOf (l .m) (l .list)) _ _ (t .loop-test .taken) (l .inv .1) (w .ensures))
+    let s = b .before .before .before in (
+      w .kept .1 .0 ∙ l .inv .0,
+      walk-on _ (cellsBy (s .args .t .now)) (l .i) (b .count-of .result) (outOf (l .m) (l .list)) _ _ (t .loop-test .taken)
+          (l .inv .1) (w .ensures),
+    )
 
 same-length : tie.Need-same-length Inv-loop μ-loop
 same-length c = c .before .loop .inv .0

@@ -34,8 +34,12 @@ walk-state-requires c κs =
     let b = c .before .before .before in
     let s = b .before .before .before in
     let l = c .before .before .loop in
-    let h = c .before .loop-test .taken in
-    (s .pre .0, s .pre .1, omega (arith, h, b .block-word .ensures), walk-room _ (at (s .args .t .now) (s .args .i)) (l .s) (b .block-word .result) (outOf (l .m) (l .list)) _ h (l .inv .1) (s .pre .2))
+    let h = c .before .loop-test .taken in (
+      s .pre .0,
+      s .pre .1,
+      omega (arith, h, b .block-word .ensures),
+      walk-room _ (at (s .args .t .now) (s .args .i)) (l .s) (b .block-word .result) (outOf (l .m) (l .list)) _ h (l .inv .1) (s .pre .2),
+    )
 
 add-s : tie.Need-add-s Inv-loop μ-loop
 add-s c =
@@ -53,8 +57,11 @@ loop-again c =
     let t = c .before .before .before .before in
     let l = t .before .loop in
     let b = t .before .before in
-    let s = b .before .before .before in
-    (w .kept .1 .0 ∙ l .inv .0, walk-on _ (at (s .args .t .now) (s .args .i)) (l .s) (b .block-word .result) (outOf (l .m) (l .list)) _ _ (t .loop-test .taken) (l .inv .1) (w .ensures))
+    let s = b .before .before .before in (
+      w .kept .1 .0 ∙ l .inv .0,
+      walk-on _ (at (s .args .t .now) (s .args .i)) (l .s) (b .block-word .result) (outOf (l .m) (l .list)) _ _
+          (t .loop-test .taken) (l .inv .1) (w .ensures),
+    )
 
 same-length : tie.Need-same-length Inv-loop μ-loop
 same-length c = c .before .loop .inv .0
@@ -67,4 +74,5 @@ returns c =
     walk-end _ (at (s .args .t .now) (s .args .i)) (l .s) (b .block-word .result) (outOf (l .m) (l .list)) _ (c .loop-test .left) (l .inv .1)
 
 pub walk-component-spec : {M : Type 1} → statement M
-walk-component-spec = tie.close (tie.spec Inv-loop μ-loop block-word-requires loop-holds walk-state-requires add-s loop-less loop-again same-length returns)
+walk-component-spec = tie.close (tie.spec Inv-loop μ-loop block-word-requires loop-holds walk-state-requires add-s loop-less loop-again
+    same-length returns)

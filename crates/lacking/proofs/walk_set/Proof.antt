@@ -13,7 +13,8 @@ use Rattle.lacking.proofs.walk_set.Tie as tie
 
 abbrev Inv-loop : tie.InvT-loop
 Inv-loop list₀ write lacking i s m₀ a₀ list m a =
-    (length list ≡ length list₀) × (walked write (spread (cellIn lacking i s) a (maxActions - a)) (outOf m list) ≡ walked write (cellsIn lacking i s) (outOf m₀ list₀))
+    (length list ≡ length list₀) × (walked write (spread (cellIn lacking i s) a (maxActions - a)) (outOf m list)
+    ≡ walked write (cellsIn lacking i s) (outOf m₀ list₀))
 
 abbrev μ-loop : tie.MeasureT-loop
 μ-loop list₀ write lacking i s m₀ a₀ list m a = maxActions - a
@@ -26,8 +27,13 @@ walk-action-requires : tie.Need-walk-action-requires Inv-loop μ-loop
 walk-action-requires c κs =
     let s = c .before .before .before .before in
     let l = c .before .before .loop in
-    let h = c .before .loop-test .taken in
-    (s .pre .0, s .pre .1, h, walk-room _ (cellIn (s .args .lacking) (s .args .i) (s .args .s)) (l .a) maxActions (outOf (l .m) (l .list)) _ h (l .inv .1) (s .pre .2))
+    let h = c .before .loop-test .taken in (
+      s .pre .0,
+      s .pre .1,
+      h,
+      walk-room _ (cellIn (s .args .lacking) (s .args .i) (s .args .s)) (l .a) maxActions (outOf (l .m) (l .list)) _ h (l .inv .1)
+          (s .pre .2),
+    )
 
 add-a : tie.Need-add-a Inv-loop μ-loop
 add-a c = omega (arith, c .before .before .before .before .loop-test .taken)
@@ -40,8 +46,11 @@ loop-again c =
     let w = c .before .before .walk-action in
     let t = c .before .before .before .before in
     let l = t .before .loop in
-    let s = t .before .before .before in
-    (w .kept .0 ∙ l .inv .0, walk-on _ (cellIn (s .args .lacking) (s .args .i) (s .args .s)) (l .a) maxActions (outOf (l .m) (l .list)) _ _ (t .loop-test .taken) (l .inv .1) (w .ensures))
+    let s = t .before .before .before in (
+      w .kept .0 ∙ l .inv .0,
+      walk-on _ (cellIn (s .args .lacking) (s .args .i) (s .args .s)) (l .a) maxActions (outOf (l .m) (l .list)) _ _
+          (t .loop-test .taken) (l .inv .1) (w .ensures),
+    )
 
 same-length : tie.Need-same-length Inv-loop μ-loop
 same-length c = c .before .loop .inv .0

@@ -22,7 +22,11 @@ enum-known-checked : tie.Need-enum-known-checked
 enum-known-checked c = search needs
 
 put-refused-requires : tie.Need-put-refused-requires
-put-refused-requires c κs = omega (arith, refused-most (c .before .before .checked .given .0 .0), c .before .before .before .before .before .before .before .before .before .pre)
+put-refused-requires c κs = omega (
+  arith,
+  refused-most (c .before .before .checked .given .0 .0),
+  c .before .before .before .before .before .before .before .before .before .pre,
+)
 
 enum-told : tie.Need-enum-told
 enum-told c = search needs
@@ -32,8 +36,10 @@ slice-aggregate-put-repaired c = search needs
 
 put-repaired-requires : tie.Need-put-repaired-requires
 put-repaired-requires c κs =
-    let r = c .before .before .before .before .before in
-    (fine-read _ _ _ _ (r .read .ensures) (omega (arith, length-replicate {A = ℕ} imageWords 0)) (c .before .before .enum-told .given .1) .2, r .before .before .before .before .pre)
+    let r = c .before .before .before .before .before in (
+      fine-read _ _ _ _ (r .read .ensures) (omega (arith, length-replicate {A = ℕ} imageWords 0)) (c .before .before .enum-told .given .1) .2,
+      r .before .before .before .before .pre,
+    )
 
 same-length : tie.Need-same-length
 same-length c = search needs
@@ -57,4 +63,6 @@ returns-2 c =
     as-printed (ap repairedText (p .3) ∙ sym (read-fine _ (p .0) (p .1))) (c .before .before .before .put-repaired .ensures)
 
 pub put-mended-spec : {M : Type 1} → statement M
-put-mended-spec = tie.close (tie.spec slice-aggregate-read read-requires enum-known-checked put-refused-requires enum-told slice-aggregate-put-repaired put-repaired-requires same-length returns same-length-2 returns-2)
+put-mended-spec = tie.close
+    (tie.spec slice-aggregate-read read-requires enum-known-checked put-refused-requires enum-told slice-aggregate-put-repaired
+    put-repaired-requires same-length returns same-length-2 returns-2)

@@ -21,7 +21,11 @@ enum-known-written : tie.Need-enum-known-written
 enum-known-written c = search needs
 
 put-refused-requires : tie.Need-put-refused-requires
-put-refused-requires c κs = omega (arith, refused-most (c .before .before .written .given .0 .0), c .before .before .before .before .before .before .before .before .before .before .before .before .before .pre .1)
+put-refused-requires c κs = omega (
+  arith,
+  refused-most (c .before .before .written .given .0 .0),
+  c .before .before .before .before .before .before .before .before .before .before .before .before .before .pre .1,
+)
 
 enum-told : tie.Need-enum-told
 enum-told c = search needs
@@ -66,4 +70,6 @@ returns-2 c =
     printed-text _ _ (p .0) (p .1) (s .pre .1) (c .before .before .write-text .ensures)
 
 pub put-repaired-spec : {M : Type 1} → statement M
-put-repaired-spec = tie.close (tie.spec empty-list-requires slice-aggregate-repair repair-requires enum-known-written put-refused-requires enum-told write-text-requires same-length same-length-2 returns same-length-3 same-length-4 returns-2)
+put-repaired-spec = tie.close
+    (tie.spec empty-list-requires slice-aggregate-repair repair-requires enum-known-written put-refused-requires enum-told
+    write-text-requires same-length same-length-2 returns same-length-3 same-length-4 returns-2)

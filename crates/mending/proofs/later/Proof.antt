@@ -19,7 +19,8 @@ minus-requires c κs = search needs
 
 returns : tie.Need-returns
 unfolding later
-returns c = c .minus .ensures ∙ ap (λ x. c .before .before .before .before .args .left ∖ x) (c .before .single .ensures ∙ ap only (c .before .before .before .lowest .ensures))
+returns c = c .minus .ensures ∙ ap (λ x. c .before .before .before .before .args .left ∖ x)
+    (c .before .single .ensures ∙ ap only (c .before .before .before .lowest .ensures))
 
 returns-2 : tie.Need-returns-2
 returns-2 c = later-none (c .before .before .args .left) (omega (arith, c .before .before .fits)) (omega (arith, c .if1 .left, c .before .lowest .ensures))

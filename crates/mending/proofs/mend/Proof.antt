@@ -25,7 +25,8 @@ returns : tie.Need-returns
 returns c =
     let r = c .before .before .before .before .before .before in
     let p = r .before .before .before .pre in
-    c .before .before .put-all .ensures (begun _ (p .0) (p .1) _ (p .2) _ (r .raise-rows .ensures)) ∙ begun-new _ (p .0) (p .1) _ (p .2) _ (r .raise-rows .ensures)
+    c .before .before .put-all .ensures (begun _ (p .0) (p .1) _ (p .2) _ (r .raise-rows .ensures))
+    ∙ begun-new _ (p .0) (p .1) _ (p .2) _ (r .raise-rows .ensures)
 
 pub mend-spec : {M : Type 1} → statement M
 mend-spec = tie.close (tie.spec raise-rows-requires put-all-requires same-length returns)

@@ -34,7 +34,8 @@ returns c =
     let g = r .before .before in
     let a = g .before .before in
     let s = a .before .before .before in
-    p .put-row .ensures ∙ row-words (now (s .args .t)) (rowsAt + rowWords * s .args .v) (s .args .s) (s .args .r) _ _ _ _ (a .action-at .ensures) (g .guard-at .ensures) (r .resets-at .ensures) (t .target-at .ensures)
+    p .put-row .ensures ∙ row-words (now (s .args .t)) (rowsAt + rowWords * s .args .v) (s .args .s) (s .args .r) _ _ _ _ (a .action-at .ensures)
+    (g .guard-at .ensures) (r .resets-at .ensures) (t .target-at .ensures)
 
 pub move-row-spec : {M : Type 1} → statement M
 move-row-spec = tie.close (tie.spec action-at-requires guard-at-requires resets-at-requires target-at-requires put-row-requires same-length returns)

@@ -52,7 +52,8 @@ loop-again c =
       omega (arith, h),
       λ p e.
           let r = l .inv .2 p e in
-          rw (add-one (l .i)) (past-comp p (l .t) (l .i) (l .w) (omega (arith, h, e)) r _ _ (q .ensures (at-comp p (l .t) (l .i) (l .w) (omega (arith, h, e)) r))),
+          rw (add-one (l .i)) (past-comp p (l .t) (l .i) (l .w) (omega (arith, h, e)) r _ _
+          (q .ensures (at-comp p (l .t) (l .i) (l .w) (omega (arith, h, e)) r))),
     )
 
 same-length : tie.Need-same-length Inv-loop μ-loop

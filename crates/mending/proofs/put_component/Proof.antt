@@ -48,7 +48,8 @@ loop-again c =
     let h = t .loop-test .taken in (
       q .kept .0 ∙ l .inv .0,
       omega (arith, h),
-      λ p e. past-state p (l .t) (l .s) (l .k) (omega (arith, h, e)) (l .inv .2 p e) _ _ (q .ensures (at-state p (l .t) (l .s) (l .k) (omega (arith, h, e)) (l .inv .2 p e))),
+      λ p e. past-state p (l .t) (l .s) (l .k) (omega (arith, h, e)) (l .inv .2 p e) _ _
+          (q .ensures (at-state p (l .t) (l .s) (l .k) (omega (arith, h, e)) (l .inv .2 p e))),
     )
 
 put-first-requires : tie.Need-put-first-requires Inv-loop μ-loop
@@ -69,4 +70,5 @@ returns c p =
     comp-done p (l .t) (l .s) (l .k) _ (omega (arith, t .loop-test .left, l .inv .1)) e (l .inv .2 p e) _ (c .before .before .put-first .ensures)
 
 pub put-component-spec : {M : Type 1} → statement M
-put-component-spec = tie.close (tie.spec Inv-loop μ-loop block-word-requires loop-holds put-state-requires add-s loop-less loop-again put-first-requires same-length returns)
+put-component-spec = tie.close
+    (tie.spec Inv-loop μ-loop block-word-requires loop-holds put-state-requires add-s loop-less loop-again put-first-requires same-length returns)

@@ -37,7 +37,8 @@ returns : tie.Need-returns
 returns c =
     let f = c .before .before .before .before .before in
     let s = f .before .before .before .before in
-    put-taken (now (s .args .t)) (s .args .s) (s .args .hi) (s .args .v) (s .args .x) _ (sym (f .before .takes-row .ensures) ∙ f .if1 .taken) (c .before .before .before .move-row .ensures)
+    put-taken (now (s .args .t)) (s .args .s) (s .args .hi) (s .args .v) (s .args .x) _ (sym (f .before .takes-row .ensures) ∙ f .if1 .taken)
+    (c .before .before .before .move-row .ensures)
 
 same-length-2 : tie.Need-same-length-2
 same-length-2 c = search needs
@@ -46,7 +47,10 @@ returns-2 : tie.Need-returns-2
 returns-2 c =
     let f = c .before .before .before .before .before .before in
     let s = f .before .before .before .before in
-    put-loop (now (s .args .t)) (s .args .s) (s .args .hi) (s .args .v) (s .args .x) _ _ _ (sym (f .before .takes-row .ensures) ∙ f .if1 .left) (c .before .before .before .before .lowest .ensures) (c .later .ensures) (c .before .before .before .put-row .ensures)
+    put-loop (now (s .args .t)) (s .args .s) (s .args .hi) (s .args .v) (s .args .x) _ _ _ (sym (f .before .takes-row .ensures) ∙ f .if1 .left)
+    (c .before .before .before .before .lowest .ensures) (c .later .ensures) (c .before .before .before .put-row .ensures)
 
 pub put-next-spec : {M : Type 1} → statement M
-put-next-spec = tie.close (tie.spec takes-row-requires move-row-requires add-t14 lowest-requires put-row-requires later-requires same-length returns same-length-2 returns-2)
+put-next-spec = tie.close
+    (tie.spec takes-row-requires move-row-requires add-t14 lowest-requires put-row-requires later-requires same-length returns same-length-2
+    returns-2)

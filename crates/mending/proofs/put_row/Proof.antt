@@ -55,4 +55,6 @@ returns : tie.Need-returns
 returns c = row-stored (now (c .args .t)) (rowsAt + rowWords * c .args .v) (c .args .action) (c .args .guard) (c .args .resets) (c .args .target)
 
 pub put-row-spec : {M : Type 1} → statement M
-put-row-spec = tie.close (tie.spec mul-at add-at mul-t slice-write-t add-t mul-t-2 slice-write-t-2 add-t-2 mul-t-3 slice-write-t-3 add-t-3 mul-t-4 slice-write-t-4 same-length returns)
+put-row-spec = tie.close
+    (tie.spec mul-at add-at mul-t slice-write-t add-t mul-t-2 slice-write-t-2 add-t-2 mul-t-3 slice-write-t-3 add-t-3 mul-t-4
+    slice-write-t-4 same-length returns)

@@ -37,8 +37,12 @@ loop-again c =
     let q = c .before .before .put-next in
     let t = c .before .before .before .before in
     let l = t .before .loop in
-    let s = t .before .before .before in
-    (q .kept .0 ∙ l .inv .0, omega (arith, l .inv .1), sym (weave-on (s .args .s) (s .args .hi) (l .v) (s .args .end) (l .t) _ (l .y) _ (t .loop-test .taken) (q .ensures)) ∙ l .inv .2)
+    let s = t .before .before .before in (
+      q .kept .0 ∙ l .inv .0,
+      omega (arith, l .inv .1),
+      sym (weave-on (s .args .s) (s .args .hi) (l .v) (s .args .end) (l .t) _ (l .y) _ (t .loop-test .taken)
+          (q .ensures)) ∙ l .inv .2,
+    )
 
 same-length : tie.Need-same-length Inv-loop μ-loop
 same-length c = c .before .loop .inv .0

@@ -39,7 +39,16 @@ sub-end c =
 add-end : tie.Need-add-end
 add-end c =
     let p = c .before .before .before .before .before .before .before .pre in
-    omega (arith, c .before .before .before .before .first-of .ensures, c .before .before .first-of2 .ensures, first-read p, next-read p, upward p, end-fits p, fits p)
+    omega (
+      arith,
+      c .before .before .before .before .first-of .ensures,
+      c .before .before .first-of2 .ensures,
+      first-read p,
+      next-read p,
+      upward p,
+      end-fits p,
+      fits p,
+    )
 
 count-requires : tie.Need-count-requires
 count-requires c κs = search needs
@@ -88,7 +97,11 @@ returns c p =
     let s = f .before .before .before in
     let el = ap (λ x. x + s .args .n) (f .first-of .ensures) in
     let eh = ap (λ x. x + s .args .n) (h .first-of2 .ensures) in
-    state-done p _ _ _ _ el eh (l .lacking-in .ensures) _ _ (ap (λ x. s .args .w + (h .first-of2 .result + s .args .n - (f .first-of .result + s .args .n)) + x) (k .count .ensures)) (r .put-rows .ensures) (c .before .before .put-first .ensures)
+    state-done p _ _ _ _ el eh (l .lacking-in .ensures) _ _ (ap (λ x. s .args .w +
+    (h .first-of2 .result + s .args .n - (f .first-of .result + s .args .n)) + x) (k .count .ensures)) (r .put-rows .ensures)
+    (c .before .before .put-first .ensures)
 
 pub put-state-spec : {M : Type 1} → statement M
-put-state-spec = tie.close (tie.spec first-of-requires add-lo add-first-of first-of-requires-2 add-hi lacking-in-requires sub-end add-end count-requires add-end-2 put-rows-requires put-first-requires same-length returns)
+put-state-spec = tie.close
+    (tie.spec first-of-requires add-lo add-first-of first-of-requires-2 add-hi lacking-in-requires sub-end add-end count-requires add-end-2
+    put-rows-requires put-first-requires same-length returns)

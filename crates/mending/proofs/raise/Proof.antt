@@ -25,19 +25,54 @@ mul-t : tie.Need-mul-t Inv-loop μ-loop
 mul-t c = let s = c .before .before in omega (arith, c .loop-test .taken, s .pre .0, s .pre .1, c .before .loop .inv .long, c .before .loop .inv .most)
 
 slice-read-t : tie.Need-slice-read-t Inv-loop μ-loop
-slice-read-t c = let s = c .before .before .before in omega (arith, c .before .loop-test .taken, s .pre .0, s .pre .1, c .before .before .loop .inv .long, c .before .before .loop .inv .most)
+slice-read-t c = let s = c .before .before .before in omega (
+  arith,
+  c .before .loop-test .taken,
+  s .pre .0,
+  s .pre .1,
+  c .before .before .loop .inv .long,
+  c .before .before .loop .inv .most,
+)
 
 add-t-2 : tie.Need-add-t-2 Inv-loop μ-loop
-add-t-2 c = let s = c .before .before .before in omega (arith, c .before .loop-test .taken, s .pre .0, s .pre .1, c .before .before .loop .inv .long, c .before .before .loop .inv .most)
+add-t-2 c = let s = c .before .before .before in omega (
+  arith,
+  c .before .loop-test .taken,
+  s .pre .0,
+  s .pre .1,
+  c .before .before .loop .inv .long,
+  c .before .before .loop .inv .most,
+)
 
 add-t-3 : tie.Need-add-t-3 Inv-loop μ-loop
-add-t-3 c = let s = c .before .before .before in omega (arith, c .before .loop-test .taken, s .pre .0, s .pre .1, c .before .before .loop .inv .long, c .before .before .loop .inv .most)
+add-t-3 c = let s = c .before .before .before in omega (
+  arith,
+  c .before .loop-test .taken,
+  s .pre .0,
+  s .pre .1,
+  c .before .before .loop .inv .long,
+  c .before .before .loop .inv .most,
+)
 
 mul-t-2 : tie.Need-mul-t-2 Inv-loop μ-loop
-mul-t-2 c = let s = c .before .before .before in omega (arith, c .before .loop-test .taken, s .pre .0, s .pre .1, c .before .before .loop .inv .long, c .before .before .loop .inv .most)
+mul-t-2 c = let s = c .before .before .before in omega (
+  arith,
+  c .before .loop-test .taken,
+  s .pre .0,
+  s .pre .1,
+  c .before .before .loop .inv .long,
+  c .before .before .loop .inv .most,
+)
 
 slice-write-t : tie.Need-slice-write-t Inv-loop μ-loop
-slice-write-t c = let s = c .before .before .before in omega (arith, c .before .loop-test .taken, s .pre .0, s .pre .1, c .before .before .loop .inv .long, c .before .before .loop .inv .most)
+slice-write-t c = let s = c .before .before .before in omega (
+  arith,
+  c .before .loop-test .taken,
+  s .pre .0,
+  s .pre .1,
+  c .before .before .loop .inv .long,
+  c .before .before .loop .inv .most,
+)
 
 loop-less : tie.Need-loop-less Inv-loop μ-loop
 loop-less c = omega (arith, c .before .loop-test .taken)
@@ -58,4 +93,6 @@ returns c =
     raising-end (now (s .args .t)) (l .t) (s .args .words) (s .args .by) (s .pre .0) (l .k) (omega (arith, c .loop-test .left)) (l .inv)
 
 pub raise-spec : {M : Type 1} → statement M
-raise-spec = tie.close (tie.spec Inv-loop μ-loop loop-holds sub-k add-t mul-t slice-read-t add-t-2 add-t-3 mul-t-2 slice-write-t loop-less loop-again same-length returns)
+raise-spec = tie.close
+    (tie.spec Inv-loop μ-loop loop-holds sub-k add-t mul-t slice-read-t add-t-2 add-t-3 mul-t-2 slice-write-t loop-less loop-again
+    same-length returns)

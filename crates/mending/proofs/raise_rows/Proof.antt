@@ -31,7 +31,8 @@ first-of-requires c κs =
 mul-raise : tie.Need-mul-raise
 mul-raise c =
     let s = c .before .before .before .before .before .before .before .before in
-    let e = total-rows _ (s .pre .0) _ _ _ (c .before .before .before .before .before .count-of .ensures) (c .before .before .before .block-word .ensures) (c .before .first-of .ensures) in
+    let e = total-rows _ (s .pre .0) _ _ _ (c .before .before .before .before .before .count-of .ensures) (c .before .before .before .block-word .ensures)
+    (c .before .first-of .ensures) in
     omega (arith, e, s .pre .1)
 
 mul-raise-2 : tie.Need-mul-raise-2
@@ -40,7 +41,8 @@ mul-raise-2 c = search needs
 raise-requires : tie.Need-raise-requires
 raise-requires c κs =
     let s = c .before .before .before .before .before .before .before .before in
-    let e = total-rows _ (s .pre .0) _ _ _ (c .before .before .before .before .before .count-of .ensures) (c .before .before .before .block-word .ensures) (c .before .first-of .ensures) in
+    let e = total-rows _ (s .pre .0) _ _ _ (c .before .before .before .before .before .count-of .ensures) (c .before .before .before .block-word .ensures)
+    (c .before .first-of .ensures) in
     (omega (arith, e, s .pre .1, image-long _ (s .pre .0)), omega (arith, e, s .pre .1))
 
 same-length : tie.Need-same-length
@@ -50,8 +52,10 @@ returns : tie.Need-returns
 returns c =
     let f = c .before .before .before .before in
     let s = f .before .before .before .before .before .before .before in
-    let e = total-rows _ (s .pre .0) _ _ _ (f .before .before .before .before .count-of .ensures) (f .before .before .block-word .ensures) (f .first-of .ensures) in
+    let e = total-rows _ (s .pre .0) _ _ _ (f .before .before .before .before .count-of .ensures) (f .before .before .block-word .ensures)
+    (f .first-of .ensures) in
     rw (← e) (c .before .before .raise .ensures)
 
 pub raise-rows-spec : {M : Type 1} → statement M
-raise-rows-spec = tie.close (tie.spec count-of-requires sub-last block-word-requires first-of-requires mul-raise mul-raise-2 raise-requires same-length returns)
+raise-rows-spec = tie.close (tie.spec count-of-requires sub-last block-word-requires first-of-requires mul-raise mul-raise-2 raise-requires
+    same-length returns)

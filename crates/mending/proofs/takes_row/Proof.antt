@@ -14,7 +14,8 @@ lowest-requires c κs = search needs
 returns : tie.Need-returns
 returns c =
     let s = c .before .before .before .before in
-    takes-some (now (s .args .t)) (s .args .s) (s .args .hi) (s .args .left) (s .args .r) _ _ (c .before .before .if1 .taken) (c .before .action-at .ensures) (c .lowest .ensures)
+    takes-some (now (s .args .t)) (s .args .s) (s .args .hi) (s .args .left) (s .args .r) _ _ (c .before .before .if1 .taken) (c .before .action-at .ensures)
+    (c .lowest .ensures)
 
 returns-2 : tie.Need-returns-2
 returns-2 c = let s = c .before .before in takes-none (now (s .args .t)) (s .args .s) (s .args .hi) (s .args .left) (s .args .r) (c .if1 .left)

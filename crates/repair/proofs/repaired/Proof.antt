@@ -48,7 +48,8 @@ returns c =
     let wf = well-formed _ im in
     let n = w .walk .result in
     let eb = m .text-length .ensures in
-    no-room _ _ im _ _ _ (c .refused .ensures) (needed-is _ wf _ _ eb n _ (w .walk .ensures)) (no-room-there _ wf _ _ eb n _ (w .walk .ensures) (c .before .if1 .taken)) (dry-list _ wf _ _ eb n _ (w .walk .ensures))
+    no-room _ _ im _ _ _ (c .refused .ensures) (needed-is _ wf _ _ eb n _ (w .walk .ensures))
+    (no-room-there _ wf _ _ eb n _ (w .walk .ensures) (c .before .if1 .taken)) (dry-list _ wf _ _ eb n _ (w .walk .ensures))
 
 row-count-requires : tie.Need-row-count-requires
 row-count-requires c κs = search needs
@@ -86,7 +87,8 @@ returns-2 c =
     let n = w .walk .result in
     let eb = m .text-length .ensures in
     let room = room-there _ wf _ _ eb n _ (w .walk .ensures) (c .before .before .before .before .before .before .if1 .left) in
-    too-big _ _ im room _ _ (c .refused2 .ensures) (size-there _ wf _ _ eb n _ (w .walk .ensures) _ _ (c .before .before .before .before .row-count .ensures) (c .before .before .too-large .ensures) ∙ c .before .if2 .taken) (dry-list _ wf _ _ eb n _ (w .walk .ensures))
+    too-big _ _ im room _ _ (c .refused2 .ensures) (size-there _ wf _ _ eb n _ (w .walk .ensures) _ _ (c .before .before .before .before .row-count .ensures)
+    (c .before .before .too-large .ensures) ∙ c .before .if2 .taken) (dry-list _ wf _ _ eb n _ (w .walk .ensures))
 
 walk-requires-2 : tie.Need-walk-requires-2
 walk-requires-2 c κs =
@@ -108,8 +110,10 @@ mend-requires c κs =
     let wf = well-formed _ im in
     let n = w .walk .result in
     let eb = m .text-length .ensures in
-    let room = room-there _ wf _ _ eb n _ (w .walk .ensures) (c .before .before .before .before .before .before .before .before .before .before .before .if1 .left) in
-    let h = size-there _ wf _ _ eb n _ (w .walk .ensures) _ _ (c .before .before .before .before .before .before .before .before .before .row-count .ensures) (c .before .before .before .before .before .before .before .too-large .ensures) ∙ c .before .before .before .before .before .before .if2 .left in
+    let room = room-there _ wf _ _ eb n _ (w .walk .ensures)
+    (c .before .before .before .before .before .before .before .before .before .before .before .if1 .left) in
+    let h = size-there _ wf _ _ eb n _ (w .walk .ensures) _ _ (c .before .before .before .before .before .before .before .before .before .row-count .ensures)
+    (c .before .before .before .before .before .before .before .too-large .ensures) ∙ c .before .before .before .before .before .before .if2 .left in
     (im, fine-well _ (now (s .args .list)) im room h, dry-rows _ wf _ _ eb n _ (w .walk .ensures))
 
 same-length-5 : tie.Need-same-length-5
@@ -129,8 +133,15 @@ returns-3 c =
     let eb = m .text-length .ensures in
     let left = c .before .before .before .before .before .before .before .before .before .before .before .before .before .before .if1 .left in
     let room = room-there _ wf _ _ eb n _ (w .walk .ensures) left in
-    let h = size-there _ wf _ _ eb n _ (w .walk .ensures) _ _ (c .before .before .before .before .before .before .before .before .before .before .before .before .row-count .ensures) (c .before .before .before .before .before .before .before .before .before .before .too-large .ensures) ∙ c .before .before .before .before .before .before .before .before .before .if2 .left in
-    done _ _ im room h _ _ _ (dry-rows _ wf _ _ eb n _ (w .walk .ensures)) (c .before .before .mend .ensures) (wet-list _ wf _ _ eb n _ (w .walk .ensures) left _ _ (c .before .before .before .before .before .before .walk2 .ensures))
+    let h = size-there _ wf _ _ eb n _ (w .walk .ensures) _ _
+    (c .before .before .before .before .before .before .before .before .before .before .before .before .row-count .ensures)
+    (c .before .before .before .before .before .before .before .before .before .before .too-large .ensures)
+    ∙ c .before .before .before .before .before .before .before .before .before .if2 .left in
+    done _ _ im room h _ _ _ (dry-rows _ wf _ _ eb n _ (w .walk .ensures)) (c .before .before .mend .ensures)
+    (wet-list _ wf _ _ eb n _ (w .walk .ensures) left _ _ (c .before .before .before .before .before .before .walk2 .ensures))
 
 pub repaired-spec : {M : Type 1} → statement M
-repaired-spec = tie.close (tie.spec text-length-requires walk-requires mul-needed refused-requires same-length same-length-2 returns row-count-requires add-rows too-large-requires refused-requires-2 same-length-3 same-length-4 returns-2 walk-requires-2 mend-requires same-length-5 same-length-6 returns-3)
+repaired-spec = tie.close
+    (tie.spec text-length-requires walk-requires mul-needed refused-requires same-length same-length-2 returns row-count-requires add-rows
+    too-large-requires refused-requires-2 same-length-3 same-length-4 returns-2 walk-requires-2 mend-requires same-length-5 same-length-6
+    returns-3)

@@ -22,7 +22,8 @@ first-of-requires c κs =
     (image-long _ p, i .2, omega (arith, c .block-word .ensures, comp-ranges _ p _ (i .1) .states))
 
 returns : tie.Need-returns
-returns c = total-rows _ (c .before .before .before .before .pre) _ _ _ (c .before .before .count-of .ensures) (c .before .block-word .ensures) (c .first-of .ensures)
+returns c = total-rows _ (c .before .before .before .before .pre) _ _ _ (c .before .before .count-of .ensures) (c .before .block-word .ensures)
+    (c .first-of .ensures)
 
 pub row-count-spec : {M : Type 1} → statement M
 row-count-spec = tie.close (tie.spec count-of-requires sub-last block-word-requires first-of-requires returns)
