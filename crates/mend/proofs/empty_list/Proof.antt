@@ -3,8 +3,6 @@ use mathlib.Core.Path.{sym}
 use Prim.Native.Nat.{ℕ, _*_}
 use lib.ListN.{length-replicate}
 use Rattle.lacking.specs.Walk.{cellBytes, mostCells}
-use Rattle.steplines.specs.Run.{mostBytes}
-use borrow.Author.Needs.{needs}
 use Rattle.mend.proofs.empty_list.Statement.{statement}
 use Rattle.mend.proofs.empty_list.Tie as tie
 

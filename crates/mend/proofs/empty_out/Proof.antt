@@ -1,10 +1,8 @@
 -- `mend::empty_out`: the length of so long an array is a law's, and is not computed.
 use mathlib.Core.Path.{sym}
-use Prim.Native.Nat.{ℕ, _*_}
+use Prim.Native.Nat.{ℕ}
 use lib.ListN.{length-replicate}
-use Rattle.lacking.specs.Walk.{cellBytes, mostCells}
 use Rattle.steplines.specs.Run.{mostBytes}
-use borrow.Author.Needs.{needs}
 use Rattle.mend.proofs.empty_out.Statement.{statement}
 use Rattle.mend.proofs.empty_out.Tie as tie
 
