@@ -24,6 +24,8 @@ Model model_for(Random& random, const Aim& aim) {
   const unsigned number = number_of(aim);
   const auto size = drawing::size(random);
   if (within(number, 10, 18)) return second::generate_failing(random, number, size);
+  if (aim.call == &calls::repair && aim.outcome != "nothing")
+    return number == 26 || random.chance(20) ? drawing::deaf_at_a_limit(random) : drawing::deaf(random, drawing::model(random));
   if (number == 26) return second::generate(random, second::families[random.below(9)], second::Size::large);
   // What comes behind 18 in one call comes before it in another, so all of these are confluent.
   static const std::vector<Family> settling = {Family::confluent, Family::endless, Family::sharing};
@@ -96,7 +98,9 @@ std::uint64_t number_for(Random& random, const Aim& aim, const Drawn& drawn, con
 // What each call writes, a little too short for 24.
 Bytes out_for(Random& random, const Aim& aim, const Drawn& drawn, std::uint64_t number) {
   const bool is_short = number_of(aim) == 24;
-  const std::size_t need = aim.call == &calls::write ? drawn.text.size() : number <= second::max_budget ? number : 0;
+  const std::size_t need = aim.call == &calls::write    ? drawn.text.size()
+                           : aim.call == &calls::repair ? 3 * second::lacking_rows(drawn.model).size()
+                           : number <= second::max_budget ? number : 0;
   const std::size_t bytes = !is_short ? need + random.below(9) : need > 0 ? need - 1 - random.below(need) : 0;
   return drawing::noise_bytes(random, bytes);
 }

@@ -123,6 +123,18 @@ Pair merge(const Subject& s) {
   return {"merge", [&] { floodneedle_merge(words(s), s.table.size(), 0, lent_out.into.data(), lent_out.into.size(), &lent_out.answer); },
           [&] { second::merge(lent(s.table), 0, {lent_out.into.data(), lent_out.into.size()}); }};
 }
+// Into a copy of the table, made anew each time by both.
+Pair repair(const Subject& s) {
+  return {"repair",
+          [&] {
+            std::copy(s.table.begin(), s.table.end(), lent_out.into.begin());
+            floodneedle_repair(lent_out.into.data(), lent_out.into.size(), lent_out.out.data(), lent_out.out.size(), &lent_out.answer);
+          },
+          [&] {
+            std::copy(s.table.begin(), s.table.end(), lent_out.into.begin());
+            second::repair({lent_out.into.data(), lent_out.into.size()}, {lent_out.out.data(), lent_out.out.size()});
+          }};
+}
 
 Pair report(const Subject& s) {
   static Bytes out(FLOODNEEDLE_REPORT);
@@ -233,6 +245,11 @@ int main(int count, char** arguments) {
                                         to_merge(8, 8, 4), to_merge(8, 8, 8), to_merge(16, 8, 4), to_merge(4, 4, 8)};
   head("Merging components 0 and 1: M, then 64 pairs of states with more and more rows, then 128 pairs, then 16");
   lines(merging, merge);
+
+  const std::vector<Subject> repairing = {deaf_paper_model(), deaf(1, 64, 1), deaf(16, 64, 1024), deaf(16, 64, 2), deaf(16, 64, 1), deaf(128, 8, 1),
+                                          one_component(64, 16), many_deaf(32)};
+  head("Missing self-loops put in: M without its last row; 64 rows; 1,024 rows of which one lacks, every other, and all; the same with 128 states; none of 1,024; all in 32 components");
+  lines(repairing, repair);
 
   const Subject large = one_component(64, 16);
   constexpr std::size_t first_row = FLOODNEEDLE_TABLE - 4 * FLOODNEEDLE_ROWS, last_row = FLOODNEEDLE_TABLE - 4;

@@ -27,6 +27,11 @@ std::string answered_kind(const Said& said, const Lent&) {
   return a.kind <= FLOODNEEDLE_QUIET ? names[a.kind] : "no kind";
 }
 
+// Of a repair that lacked nothing: then neither buffer changes.
+std::string repaired_kind(const Said& said, const Lent& lent) {
+  return said.answer.kind == FLOODNEEDLE_DONE && said.answer.count == 0 ? "nothing" : answered_kind(said, lent);
+}
+
 // Of a report: the number or the verdict that its last line begins with.
 std::string printed_kind(const Said& said, const Lent& lent) {
   if (said.answer.kind == FLOODNEEDLE_REFUSED) return answered_kind(said, lent);
@@ -132,6 +137,12 @@ Said engine_merge(const Lent& l) {
 }
 Said second_merge(const Lent& l) { return said(second::merge(l.table, l.number, l.into)); }
 
+Said engine_repair(const Lent& l) {
+  floodneedle_repair(l.repaired.front, l.repaired.length, l.out.front, l.out.length, l.answer);
+  return answered(l);
+}
+Said second_repair(const Lent& l) { return said(second::repair(l.repaired, l.out)); }
+
 Said engine_report(const Lent& l) {
   floodneedle_report(l.bytes.front, l.bytes.length, l.out.front, l.out.length, l.answer);
   return answered(l);
@@ -176,11 +187,12 @@ const Call settle_list = {"settle_list", engine_settle_list, second_settle_list,
                           answered_kind};
 const Call timed_step = {"timed_step", engine_timed_step, second_timed_step, numbers({{10, 17}, {20, 21}, {27, 30}}, {"fired", "quiet"}),
                          answered_kind};
+const Call repair = {"repair", engine_repair, second_repair, numbers({{20, 20}, {24, 24}, {26, 26}}, {"done", "nothing"}), repaired_kind};
 const Call merge = {"merge", engine_merge, second_merge, numbers({{10, 17}, {20, 20}, {24, 26}}, {"done"}), answered_kind};
 const Call report = {"report", engine_report, second_report, numbers({{1, 19}, {21, 22}, {24, 24}}, {"stable", "unsettled"}), printed_kind};
 const Call advance = {"advance", engine_advance, second_advance, numbers({{10, 17}, {20, 21}}, {"moved", "stable"}), answered_kind};
 
-const Call* const all[17] = {&recognise, &check_text, &read,    &write,       &start,      &component, &compatible, &accept, &confluent,
-                             &step,      &step_by,    &settle,  &settle_list, &timed_step, &merge,     &report,     &advance};
+const Call* const all[18] = {&recognise, &check_text, &read,   &write,       &start,      &component, &compatible, &accept, &confluent,
+                             &step,      &step_by,    &settle, &settle_list, &timed_step, &merge,     &repair,     &report, &advance};
 
 }  // namespace calls

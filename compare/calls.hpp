@@ -18,9 +18,9 @@ struct Call {
 namespace calls {
 
 extern const Call recognise, check_text, read, write, start, component, compatible, accept, confluent, step, step_by, settle, settle_list, timed_step, merge,
-    report, advance;
+    repair, report, advance;
 
 // In the order of the header.
-extern const Call* const all[17];
+extern const Call* const all[18];
 
 }  // namespace calls

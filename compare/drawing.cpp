@@ -90,6 +90,50 @@ Table odd_room(Random& random) {
   return noise(random, words);
 }
 
+second::Model deaf(Random& random, second::Model model) {
+  static const std::vector<unsigned> percents = {0, 2, 20, 60, 100};
+  const unsigned percent = random.pick(percents);
+  for (second::Component& component : model.components) {
+    std::vector<second::Row> kept;
+    for (const second::Row& row : component.rows)
+      if (!second::is_input(component.kind[row.action]) || !random.chance(percent)) kept.push_back(row);
+    component.rows = kept;
+  }
+  const unsigned more = random.chance(40) ? random.between(1, 6) : 0;
+  for (unsigned n = 0; n < more; ++n) {
+    second::Component& component = model.components[random.below(model.components.size())];
+    second::Kind& kind = component.kind[random.below(second::members)];
+    const bool urgent = random.chance(50);
+    if (kind == second::Kind::absent) kind = urgent ? second::Kind::uin : second::Kind::in;
+  }
+  return model;
+}
+
+second::Model deaf_at_a_limit(Random& random) {
+  for (;;) {
+    const auto of_size = size(random);
+    const second::Family family = second::families[random.below(5)];
+    const second::Model some = deaf(random, second::generate(random, family, of_size));
+    const std::vector<second::Cell> cells = second::lacking_rows(some);
+    const second::Model whole = second::repaired(some, cells);
+    const std::uint64_t text = second::text_of_model(some).size(), whole_text = second::text_of_model(whole).size();
+    const bool by_rows = random.chance(50);
+    const unsigned over = random.below(7);
+    // Room for what is put in behind, and more that lacks than may be too much.
+    if (cells.size() < 4 || some.components.size() + 3 > second::max_components) continue;
+    if (second::count_rows(whole) > second::max_rows / 2 || whole_text > second::max_text / 3) continue;
+    if (by_rows) return second::padded_to_rows(some, second::max_rows - cells.size() + over - 3);
+    return second::padded_to_text(some, second::max_text - (whole_text - text) + over - 3);
+  }
+}
+
+Bytes list_room(Random& random, const Drawn& drawn) {
+  const std::size_t need = 3 * second::lacking_rows(drawn.model).size();
+  const unsigned style = random.below(10);
+  const std::size_t bytes = style < 5 ? need : style < 8 ? need + random.below(40) : style < 9 && need > 0 ? need - 1 : random.below(need + 1);
+  return noise_bytes(random, bytes);
+}
+
 Bytes state(Random& random, const Drawn& drawn) {
   return random.chance(50) ? second::generate_state(random, drawn.model) : second::generate_calm_state(random, drawn.model);
 }

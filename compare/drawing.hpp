@@ -3,6 +3,8 @@
 
 #include "engine.hpp"
 #include "generate.hpp"
+#include "generate_limits.hpp"
+#include "repairing.hpp"
 
 namespace drawing {
 
@@ -27,6 +29,14 @@ second::Model model(Random& random);
 
 // The same table, at times with words of noise behind it: they are neither read nor changed.
 Table lengthened(Random& random, Table table);
+
+// The same model with rows of inputs taken out, or with inputs declared that no state hears: what `repair` puts in.
+second::Model deaf(Random& random, second::Model model);
+// Such a model that has, repaired, just as many rows or bytes of text as there may be, or a few less or more.
+second::Model deaf_at_a_limit(Random& random);
+// Room for a list of what the model lacks, as long as needed or longer; at times shorter.
+Bytes list_room(Random& random, const Drawn& drawn);
+
 // A buffer for a table, as long as an image or longer; the odd one may be a word short, or empty.
 Table room(Random& random);
 Table odd_room(Random& random);

@@ -71,6 +71,12 @@ inline Said said(const second::StartAnswer& a) {
   return s;
 }
 
+inline Said said(const second::RepairAnswer& a) {
+  Said s = said(FLOODNEEDLE_DONE, a.refusal);
+  s.answer.count = a.rows;
+  return s;
+}
+
 inline Said said(const second::StepAnswer& a) {
   Said s = said(a.outcome == second::StepOutcome::moved ? FLOODNEEDLE_MOVED : FLOODNEEDLE_STABLE, a.refusal);
   s.answer.action = a.action;

@@ -7,19 +7,20 @@
 
 // All that some call takes; each call uses its own part and must leave the others as they are.
 struct Loan {
-  Table table;
+  Table table;                // read; `repair` writes it too
   Bytes state;                // read; `advance` writes it too
   std::uint64_t missing = 0;  // parts that the state is said to have beyond its bytes
   Bytes bytes;                // read: a text, a list, or the program's input
   std::uint64_t number = 0;   // a budget, a named action, or an index
   Table into;                 // written: a table
-  Bytes out;                  // written: a text, a trace, or a report
+  Bytes out;                  // written: a text, a trace, a report, or a list of added rows
   Clocks clocks;              // read and written
 };
 
 // The same as a call gets it: fronts and lengths, and where its answer goes.
 struct Lent {
   second::Words table;
+  second::WordsToWrite repaired;  // the table again, for `repair`
   second::Bytes state;
   second::BytesToWrite advanced;  // the state again, for `advance`
   second::Bytes bytes;
@@ -87,6 +88,7 @@ struct Kept {
   Lent lent() {
     const std::uint64_t parts = state.size() + missing;
     return {{table.front(), table.size()},
+            {table.front(), table.size()},
             {state.front(), parts},
             {state.front(), parts},
             {bytes.front(), bytes.size()},

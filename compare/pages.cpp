@@ -129,10 +129,12 @@ void PagedLoan::hold(const Loan& loan) {
 
 Lent PagedLoan::lent(bool read_only) {
   const auto words = table.lent(true);
+  const auto repaired = table.lent(read_only);
   const auto read = bytes.lent(true);
   const auto parts = state.lent(true);
   const auto advanced = state.lent(read_only);
   return {{words.front, words.length},
+          repaired,
           {parts.front, parts.length + missing},
           {advanced.front, advanced.length + missing},
           {read.front, read.length},

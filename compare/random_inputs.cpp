@@ -64,8 +64,25 @@ void try_calls(Random& random, const Table& table, const Drawn& drawn) {
 
   loan.number = second::generate_index(random, drawn.model);
   try_call(calls::component, loan);
+  loan.out = drawing::list_room(random, drawn);
+  try_call(calls::repair, loan);
   loan.into = drawing::odd_room(random);
   try_call(calls::merge, loan);
+}
+
+// A model that lacks rows of inputs is repaired, then checked, repaired again and written.
+void try_repairs(Random& random, const Drawn& drawn) {
+  const Drawn deaf(random.chance(80) ? drawing::deaf(random, drawn.model) : drawing::deaf_at_a_limit(random));
+  Loan loan;
+  loan.table = drawing::lengthened(random, random.chance(95) ? deaf.table : second::damaged_table(random, deaf.table));
+  loan.out = drawing::list_room(random, deaf);
+  const Comparison made = try_call(calls::repair, loan);
+  if (made.second.answer.kind == FLOODNEEDLE_REFUSED) return;
+  loan.table = made.left.table.content();
+  loan.number = random.below(deaf.model.components.size());
+  for (const Call* call : {&calls::recognise, &calls::accept, &calls::component, &calls::repair}) try_call(*call, loan);
+  loan.out = drawing::noise_bytes(random, second::max_text);
+  try_call(calls::write, loan);
 }
 
 // ---- sequences: each call on what the call before has left
@@ -175,6 +192,7 @@ void try_input(std::uint64_t seed, std::uint64_t index) {
   const Table damaged = second::damaged_table(random, drawn.table);
   try_calls(random, drawing::lengthened(random, damaged), drawn);
   try_sequence(random, drawn.text);
+  try_repairs(random, drawn);
   if (index % 4 == 0) try_report(random, drawn);
   if (index % 16 == 0) try_nonsense(random);
   for (unsigned n = 0; n < aims_for_a_model; ++n) {

@@ -161,6 +161,27 @@ Subject to_merge(unsigned left, unsigned right, unsigned actions) {
   return subject(counted(left * right, "pairs into ") + counted(2 * left * right * actions, "rows"), model);
 }
 
+Subject deaf_paper_model() {
+  Model model = paper_model().model;
+  model.components.back().rows.pop_back();
+  return subject("M without its last row", model);
+}
+
+Subject deaf(unsigned states, unsigned inputs, unsigned every) {
+  Component component;
+  component.states = states;
+  for (unsigned action = 0; action < inputs; ++action) component.kind[action] = Kind::in;
+  for (unsigned cell = 0; cell < states * inputs; ++cell)
+    if (cell % every != 0) add_row(component, cell / inputs, cell % inputs, 0, 0);
+  return subject(counted(states, states == 1 ? "state by " : "states by ") + counted(inputs, "inputs, of which lack ") + std::to_string((states * inputs + every - 1) / every), {{component}});
+}
+
+Subject many_deaf(unsigned components) {
+  Model model;
+  for (unsigned c = 0; c < components; ++c) model.components.push_back(deaf(2, 16, 1).model.components[0]);
+  return subject(counted(components, "components that lack ") + counted(32, "each"), model);
+}
+
 Subject damaged(Subject whole, const std::string& name, std::size_t word) {
   whole.name = name;
   whole.table[word] ^= second::only(63);

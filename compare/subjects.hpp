@@ -41,5 +41,11 @@ Subject waiting(unsigned components);
 // Two components of so many states, by so many inputs each, which have nothing in common.
 Subject to_merge(unsigned left, unsigned right, unsigned actions);
 
+// Self-loops of inputs that lack: M without its last row; one component of so many states by inputs, whose first row of every so many lacks; and
+// that of 2 states by 16 inputs so many times, without any row.
+Subject deaf_paper_model();
+Subject deaf(unsigned states, unsigned inputs, unsigned every);
+Subject many_deaf(unsigned components);
+
 // The same with one word of its table wrong: no image.
 Subject damaged(Subject whole, const std::string& name, std::size_t word);

@@ -19,7 +19,7 @@
  *
  * Stack, in bytes, the deepest seen of each call (`make -C compare stack` measures it, and holds these numbers to it):
  *   recognise 240, check_text 560, read 704, write 400, start 496, component 1568, compatible 656, accept 1872, confluent 2128, merge 2048,
- *   step 2224, advance 2288, step_by 2016, settle 2736, settle_list 2688, timed_step 2048, report 70672 (it keeps a table of its own).
+ *   repair 368, step 2224, advance 2288, step_by 2016, settle 2736, settle_list 2688, timed_step 2048, report 70672 (it keeps a table of its own).
  *
  * A model is a text (docs/MODEL.md), without the request line that the program `settle` reads in front of it. A table is what
  * floodneedle_read makes of it, 64-bit words at the front of a buffer; what lies behind the image is neither read nor changed. No caller
@@ -90,7 +90,7 @@ enum floodneedle_refusal {
   FLOODNEEDLE_NOT_ENABLED = 23,          /* an action that was named or listed is no enabled urgent output */
   FLOODNEEDLE_BUFFER_TOO_SHORT = 24,     /* the place is the number of bytes needed */
   FLOODNEEDLE_COMPONENT_ABSENT = 25,     /* no component has this index, or none the next one in merging */
-  FLOODNEEDLE_MERGED_TOO_LARGE = 26,     /* the merged model would exceed a limit */
+  FLOODNEEDLE_MERGED_TOO_LARGE = 26,     /* the merged or repaired model would exceed a limit */
   FLOODNEEDLE_NOT_STABLE = 27,           /* timed: an urgent output is enabled */
   FLOODNEEDLE_VALUES_MISFIT = 28,        /* timed: not FLOODNEEDLE_CLOCKS values, or one outside -2^40 to 2^40 */
   FLOODNEEDLE_CLOCK_BELOW_ZERO = 29,     /* timed: an enabling clock is below zero */
@@ -102,7 +102,7 @@ struct floodneedle_answer {
   uint64_t number;   /* of the refusal, else 0 */
   uint64_t places;   /* how many values the refusal's place has, 1 to 4; 0 where nothing is refused */
   uint64_t place[4];
-  uint64_t count;    /* bytes written (write, report), steps taken (settle, settle_list), components (start); else 0 */
+  uint64_t count;    /* bytes written (write, report), rows added (repair), steps taken (settle, settle_list), components (start); else 0 */
   uint64_t action;   /* where moved or fired, else 0 */
   uint64_t resets;   /* a set of clocks: where moved or fired, of a settling, and those set at the start (start); else 0 */
   uint64_t ticks;    /* where fired, else 0 */
@@ -170,6 +170,15 @@ void floodneedle_confluent(const uint64_t *table, size_t table_words, struct flo
  * FLOODNEEDLE_STATES states, or over FLOODNEEDLE_ROWS rows or FLOODNEEDLE_TEXT bytes of text in the whole model). */
 void floodneedle_merge(const uint64_t *table, size_t table_words, uint64_t i, uint64_t *into, size_t into_words,
                        struct floodneedle_answer *answer);
+
+/* Puts a self-loop (no guard, no resets) into the table's model wherever a state lacks a row of one of its component's inputs, `in` or
+ * `uin`; all other rows and everything else stay. Works in the lent table; words behind the image stay. Each added row is listed at the
+ * front of `list` as three bytes, component, state, action, ascending; later bytes stay. Done, with `count` the number of added rows: 0
+ * where none lacked, and then neither buffer changes. The model need not be accepted. The result never earns 12 of accept or component,
+ * and a second repair adds nothing.
+ * Refuses: 20, 24 (of the list; bytes needed: 3 for each row to be added), 26 (over FLOODNEEDLE_ROWS rows or FLOODNEEDLE_TEXT bytes of
+ * text in the repaired model). */
+void floodneedle_repair(uint64_t *table, size_t table_words, uint8_t *list, size_t list_bytes, struct floodneedle_answer *answer);
 
 /* One urgent step, by the lowest-numbered enabled urgent output: moved, with action and resets, or stable. `after` is always written:
  * the state after the step, the state as given where stable, zeros where refused; places past the state's own are 0.

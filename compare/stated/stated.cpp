@@ -26,6 +26,7 @@ void try_stated() {
   stated_reached();
   stated_clocks();
   stated_merges();
+  stated_repairs();
   stated_requests();
   stated_sizes();
 }

@@ -18,6 +18,7 @@ void stated_runs();
 void stated_reached();
 void stated_clocks();
 void stated_merges();
+void stated_repairs();
 void stated_requests();
 void stated_sizes();
 

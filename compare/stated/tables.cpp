@@ -8,6 +8,7 @@ void expect_no_image(const std::string& why, const Table& table) {
   const Said no_image = refused(20, {0});
   expect(why, calls::recognise, lent_table(table), no_image);
   expect(why, calls::write, lent_table(table), no_image);
+  expect(why, calls::repair, lent_table(table), no_image);
   expect_checks(why, table, no_image, no_image);
 }
 

@@ -9,6 +9,7 @@
 #include "composition.hpp"
 #include "merging.hpp"
 #include "reach.hpp"
+#include "repairing.hpp"
 #include "settling.hpp"
 #include "text_reading.hpp"
 #include "text_writing.hpp"
@@ -157,6 +158,24 @@ TimedAnswer timed_step(Words table, Bytes state, Ticks ticks) {
   std::copy(firing.fallen.begin(), firing.fallen.end(), ticks.front);
   return {Refusal{}, TimedOutcome::fired, firing.v, firing.move.action, firing.move.resets,
           firing.move.after};
+}
+
+RepairAnswer repair(WordsToWrite table, BytesToWrite list) {
+  const auto model = model_of_image({table.front, table.length});
+  if (!model) return refused<RepairAnswer>(refuse(20, {0}));
+  const std::vector<Cell> cells = lacking_rows(*model);
+  if (list.length < 3 * cells.size()) return refused<RepairAnswer>(refuse(24, {3 * cells.size()}));
+  if (count_rows(*model) + cells.size() > max_rows) return refused<RepairAnswer>(refuse(26, {0}));
+  const Model whole = repaired(*model, cells);
+  if (text_of_model(whole).size() > max_text) return refused<RepairAnswer>(refuse(26, {0}));
+  std::uint8_t* next = list.front;
+  for (const Cell& cell : cells) {
+    *next++ = static_cast<std::uint8_t>(cell.component);
+    *next++ = static_cast<std::uint8_t>(cell.state);
+    *next++ = static_cast<std::uint8_t>(cell.action);
+  }
+  put(whole, table);
+  return {Refusal{}, cells.size()};
 }
 
 Answer merge(Words table, std::uint64_t i, WordsToWrite into) {

@@ -59,6 +59,11 @@ struct TimedAnswer {
   State state;  // as given where quiet
 };
 
+struct RepairAnswer {
+  Refusal refusal;
+  std::uint64_t rows = 0;  // added, three bytes each at the list's front
+};
+
 // 1 to 8, 24.
 Answer read(Bytes text, WordsToWrite into);
 // 20, 24.
@@ -85,6 +90,8 @@ SettleAnswer settle(Words table, Bytes state, std::uint64_t budget, BytesToWrite
 SettleAnswer settle_list(Words table, Bytes state, Bytes list);
 // As accept, then 21, 27 to 30.
 TimedAnswer timed_step(Words table, Bytes state, Ticks ticks);
+// Adds the missing self-loops of inputs in the lent table. 20, 24 (of the list), 26.
+RepairAnswer repair(WordsToWrite table, BytesToWrite list);
 // As accept, then 24, 25, 26.
 Answer merge(Words table, std::uint64_t i, WordsToWrite into);
 

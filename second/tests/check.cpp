@@ -20,6 +20,7 @@ const char* const all_outcomes[] = {
     "component",     "compatible",       "started",
     "step moved",    "step stable",      "step_by moved",  "settle stable",  "settle unsettled",
     "list stable",   "list unsettled",   "timed fired",    "timed quiet",    "merged",
+    "repaired",      "repaired nothing",
     "report stable", "report unsettled", "report refused"};
 
 }  // namespace

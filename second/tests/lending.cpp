@@ -168,6 +168,17 @@ second::TimedAnswer lend_timed_step(const Table& table, const Part& state, Clock
   return answer;
 }
 
+second::RepairAnswer lend_repair(Table& table, Part& list) {
+  const Table before = table;
+  const Part list_before = list;
+  const auto answer = second::repair(lent_to_write(table), lent_to_write(list));
+  count(answer.refusal, answer.rows == 0 ? "repaired nothing" : "repaired");
+  check(!answer.refusal || answer.rows == 0, "refused repair holds zeros");
+  check(same_from(before, table, answer.rows == 0 ? 0 : second::image_words), "repair changes an image's words at most");
+  check(same_from(list_before, list, 3 * answer.rows), "later bytes of the list stay");
+  return answer;
+}
+
 second::Answer lend_merge(const Table& table, std::uint64_t i, Table& into) {
   const Table before = into;
   const auto answer = second::merge(lent(table), lent(i), lent_to_write(into));

@@ -20,5 +20,6 @@ void test_literal_product();
 void test_all_orders();
 void test_merged_runs();
 void test_timed_runs();
+void test_repairs();
 void test_damaged_inputs();
 void test_generator();

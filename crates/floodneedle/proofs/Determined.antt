@@ -14,6 +14,7 @@ use Rattle.table.specs.IsImage.{isImage}
 use Rattle.reading.specs.Read.{readOn}
 use Rattle.text.specs.Write.{writeOn, textAfter}
 use Rattle.merge.specs.Merging.{mergeOn}
+use Rattle.repair.specs.Repairing.{repairOn, numberIn, tableWith, listWith}
 use Rattle.report.specs.Reported.{lengthTold, reportIn}
 use Rattle.run.specs.Calls.{stepOn, stepByOn, settleOn, settleListOn, traceAfter}
 use Rattle.words.specs.Words.{checkedWords, writtenWords}
@@ -70,6 +71,10 @@ module _ (t : List ℕ) (p q b d : List ℕ) where
     pub floodneedle_merge-determined : (i : ℕ) → (p ≡ checkedWords (doneOf (mergeOn t i old))) × (b ≡ tableAfter (mergeOn t i old) old)
         → (q ≡ checkedWords (doneOf (mergeOn t i old))) × (d ≡ tableAfter (mergeOn t i old) old) → (p ≡ q) × (b ≡ d)
     floodneedle_merge-determined i e f = (one (e .0) (f .0), one (e .1) (f .1))
+
+    pub floodneedle_repair-determined : (l k : List ℕ) → (p ≡ writtenWords (numberIn (repairOn t old))) × (b ≡ tableWith (repairOn t old) t) × (l ≡ listWith (repairOn t old) old)
+        → (q ≡ writtenWords (numberIn (repairOn t old))) × (d ≡ tableWith (repairOn t old) t) × (k ≡ listWith (repairOn t old) old) → (p ≡ q) × (b ≡ d) × (l ≡ k)
+    floodneedle_repair-determined l k e f = (one (e .0) (f .0), one (e .1) (f .1), one (e .2) (f .2))
 
   -- s is the state that was lent
   module _ (s : List ℕ) where

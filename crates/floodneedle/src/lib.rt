@@ -11,6 +11,7 @@ ghost use Rattle.outset.specs.Start.{startOn};
 ghost use Rattle.reading.specs.Read.{readOn};
 ghost use Rattle.text.specs.Write.{writeOn, textAfter};
 ghost use Rattle.merge.specs.Merging.{mergeOn};
+ghost use Rattle.repair.specs.Repairing.{repairOn, numberIn, tableWith, listWith};
 ghost use Rattle.report.specs.Reported.{lengthTold, reportIn};
 ghost use Rattle.iosa.specs.Reading.{readOf};
 ghost use Rattle.table.specs.IsImage.{isImage};
@@ -134,6 +135,21 @@ pub extern "C" fn floodneedle_merge(
 {
     let checked = merge::merge(table, i, into);
     *answer = words::checked_words(checked);
+}
+
+// Puts in the missing self-loops, in the lent table, and lists them.
+#[no_mangle]
+pub extern "C" fn floodneedle_repair(
+    table: &mut [u64],
+    list: &mut [u8],
+    answer: &mut [u64; Words::COUNT],
+)
+    ensures answer { λ _. ⌜ now (answer .exit) ≡ writtenWords (numberIn (repairOn (now (table .entry)) (now (list .entry)))) ⌝ }
+    ensures table { λ _. ⌜ now (table .exit) ≡ tableWith (repairOn (now (table .entry)) (now (list .entry))) (now (table .entry)) ⌝ }
+    ensures list { λ _. ⌜ now (list .exit) ≡ listWith (repairOn (now (table .entry)) (now (list .entry))) (now (list .entry)) ⌝ }
+{
+    let written = repair::repair(table, list);
+    *answer = words::written_words(written);
 }
 
 // One timed step.

@@ -1,0 +1,4 @@
+pub mod Weave
+pub mod Next
+pub mod Raised
+pub mod Standing

@@ -1,0 +1,2 @@
+pub mod Repairing
+pub mod RepairExactly
