@@ -4,13 +4,49 @@ ghost use mathlib.Core.Option.{some};
 ghost use lib.ListN.{length};
 ghost use Rattle.answer.specs.Told.{saysChecked, doneOf};
 ghost use Rattle.iosa.specs.Reading.{linesFrom, atStart, readOf};
+ghost use Rattle.survey.specs.Places.{allowedOf, placeOf};
 use answer::Checked;
 use answer::Model;
 use answer::Place;
 use answer::Refusal;
+use columns::Allowed;
 use fields::Cursor;
 use judge::Judged;
+use judge::Progress;
 use lines::LineScan;
+
+// Every action or clock that there is, as a set.
+const ALL: u64 = 18446744073709551615;
+
+fn allowed(p: Progress, number: u8) -> Allowed
+    ensures { λ r. ⌜ r ≡ allowedOf p number ⌝ }
+{
+    if number == 4 {
+        return Allowed {
+            states: p.states,
+            acts: ALL,
+            clocks: ALL,
+        };
+    }
+    Allowed {
+        states: p.states,
+        acts: p.acts,
+        clocks: p.clocks,
+    }
+}
+
+// 4 and 5 give line and column; 3, 6 and 7 the line alone.
+fn place_of(n: usize, number: u8, column: usize) -> Place
+    ensures { λ r. ⌜ r ≡ placeOf n number column ⌝ }
+{
+    if number == 4 {
+        return Place::Spot { line: n, column };
+    }
+    if number == 5 {
+        return Place::Spot { line: n, column };
+    }
+    Place::Line(n)
+}
 
 fn check_lines(text: &[u8]) -> Checked
     ensures { λ r. ⌜ saysChecked r ≡ some (doneOf (linesFrom (length (now (text .entry))) 1 atStart (now (text .entry)))) ⌝ }
@@ -19,25 +55,29 @@ fn check_lines(text: &[u8]) -> Checked
     let mut at = 0;
     let mut n = 1;
     while at < text.len() {
-        let LineScan::Is(line, next) = lines::line_at(text, Cursor { at }) else {
-            return Checked::Refused(Refusal {
-                number: 2,
-                place: Place::Line(n),
-            });
-        };
-        match judge::step(p, line) {
-            Judged::Fault(number) => {
+        match lines::line_at(text, Cursor { at }) {
+            LineScan::Is(line, next) => {
+                match judge::step(p, line) {
+                    Judged::Fault(number) => {
+                        let column = columns::value_column(text, at, allowed(p, number), line);
+                        let place = place_of(n, number, column);
+                        return Checked::Refused(Refusal { number, place });
+                    }
+                    Judged::Taken(q) => {
+                        p = q;
+                    }
+                }
+                at = next.at;
+                n += 1;
+            }
+            LineScan::Missing(stop) => {
+                let column = columns::column_at(text, at, stop);
                 return Checked::Refused(Refusal {
-                    number,
-                    place: Place::Line(n),
+                    number: 2,
+                    place: Place::Spot { line: n, column },
                 });
             }
-            Judged::Taken(q) => {
-                p = q;
-            }
         }
-        at = next.at;
-        n += 1;
     }
     if p.components == 0 {
         return Checked::Refused(Refusal {

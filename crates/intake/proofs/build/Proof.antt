@@ -6,7 +6,7 @@ use lib.ListN.{length, drop}
 use denote.Ref.{now}
 use Rattle.iosa.specs.Reading.{entry}
 use Rattle.lines.specs.Lines.{lineOf, gotLine}
-use Rattle.lines.proofs.LineLaws.{valued-none}
+use Rattle.lines.proofs.LineLaws.{valued-stops}
 use Rattle.layout.specs.Image.{imageOf}
 use Rattle.survey.proofs.Turns.{read-line, read-on}
 use Rattle.intake.proofs.Built.{Building, filled-rest, building-first, has-line, no-fault, built, turn-fits, turn-taken}
@@ -46,8 +46,11 @@ returns : tie.Need-returns Inv-loop μ-loop
 returns c =
     let a = c .before .before .before .before .before .before .before .before .before .before .before .before .args in
     let l = c .before .before .before .before .loop in
-    let e = valued-none lineOf (entry (drop (l .at) (now (a .text)))) (sym (c .before .before .line-at .ensures) ∙ ap (gotLine (now (a .text))) (c .enum-told .given .1)) in
-    absurd (has-line (l .inv) (c .before .before .before .before .before .before .before .before .before .before .before .before .pre .1 .0) (c .before .before .before .before .before .before .before .before .before .before .before .before .pre .1 .1) (c .before .before .before .loop-test .taken) e)
+    let e = valued-stops lineOf (entry (drop (l .at) (now (a .text)))) (sym (c .before .before .line-at .ensures) ∙ ap (gotLine (now (a .text)))
+    (c .enum-told .given .1)) in
+    absurd (has-line (l .inv) (c .before .before .before .before .before .before .before .before .before .before .before .before .pre .1 .0)
+    (c .before .before .before .before .before .before .before .before .before .before .before .before .pre .1 .1) _
+    (c .before .before .before .loop-test .taken) e)
 
 step-requires : tie.Need-step-requires Inv-loop μ-loop
 step-requires c κs = search needs

@@ -6,7 +6,7 @@ use Rattle.iosa.specs.Text.{tab}
 use Rattle.iosa.specs.Reading.{theByte, moreNumbers}
 use Rattle.fields.specs.Fields.{gotNumber}
 use Rattle.fields.specs.Resets.{valued}
-use Rattle.request.specs.Kept.{with, withAll}
+use Rattle.request.specs.Kept.{with, withAll, heard}
 use Rattle.request.proofs.LineLaws.{parts-missing, parts-all}
 use borrow.Author.Needs.{needs}
 use Rattle.request.proofs.parts_field.Statement.{statement}
@@ -42,8 +42,10 @@ returns-2 c =
     let v = c .before .before .before .before .n .given .0 in
     let cs = drop (v .1 .0 .at) t in
     c .more-parts .ensures
-    ∙ ap (λ x. valued (withAll x) (moreNumbers (length cs) cs)) (c .before .with-part .ensures ∙ ap (λ x. with x (v .0)) (c .before .before .no-state2 .ensures))
-    ∙ sym (parts-all (theByte tab (drop (c .before .before .before .before .before .before .before .before .args .c .at) t)) (v .0) cs (sym (c .before .before .before .before .before .before .number-field .ensures) ∙ ap (gotNumber t) (c .before .before .before .before .n .given .1)))
+    ∙ ap (λ x. heard (valued (withAll x) (moreNumbers (length cs) cs))) (c .before .with-part .ensures ∙ ap (λ x. with x (v .0))
+    (c .before .before .no-state2 .ensures))
+    ∙ sym (ap heard (parts-all (theByte tab (drop (c .before .before .before .before .before .before .before .before .args .c .at) t)) (v .0) cs (sym
+    (c .before .before .before .before .before .before .number-field .ensures) ∙ ap (gotNumber t) (c .before .before .before .before .n .given .1))))
 
 pub parts-field-spec : {M : Type 1} → statement M
 parts-field-spec =
