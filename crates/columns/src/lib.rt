@@ -76,7 +76,7 @@ fn numbers_out(text: &[u8], at: usize, set: u64) -> Cursor
     let mut i = at;
     while i < text.len() {
         match fields::number(text, Cursor { at: i }) {
-            NumberScan::Is(n, next) => {
+            NumberScan::Is(next, n) => {
                 if !is_in(set, n) {
                     return Cursor { at: i };
                 }
@@ -89,7 +89,7 @@ fn numbers_out(text: &[u8], at: usize, set: u64) -> Cursor
                 }
                 i = end + 1;
             }
-            NumberScan::Missing(_) => {
+            NumberScan::Missing(_, _) => {
                 return Cursor { at: i };
             }
         }

@@ -40,5 +40,5 @@ valued f (stops cs) = stops cs
 valued f (is g) = got (f (g .value)) (g .rest)
 
 abbrev pub gotResets : List ℕ → ResetsScan → Scan Resets
-gotResets t (OfResets.Is s c) = got s (drop (c .at) t)
+gotResets t (OfResets.Is c s) = got s (drop (c .at) t)
 gotResets t (OfResets.Missing c) = stops (drop (c .at) t)

@@ -31,15 +31,15 @@ abbrev textAt : Scanned → List ℕ
 textAt c = let l = c .before .before .before .before .before in now (l .before .before .before .args .text)
 
 abbrev lineAt : Scanned → Line
-lineAt c = c .before .line .given .0 .0
+lineAt c = c .before .next .given .0 .1 .0
 
 abbrev nextAt : Scanned → ℕ
-nextAt c = c .before .line .given .0 .1 .0 .at
+nextAt c = c .before .next .given .0 .0 .at
 
 here : (c : Scanned) → Read (textAt c) (c .before .before .before .before .before .loop .at) (lineAt c) (nextAt c)
 here c =
     read-line (textAt c) (c .before .before .before .before .before .loop .at) (lineAt c) (nextAt c) (sym (c .before .before .before .line-at .ensures) ∙ ap
-    (gotLine (textAt c)) (c .before .line .given .1))
+    (gotLine (textAt c)) (c .before .next .given .1))
 
 at-start-requires : tie.Need-at-start-requires Inv-loop μ-loop
 at-start-requires c κs = search needs
@@ -52,8 +52,8 @@ loop-holds c =
 line-at-requires : tie.Need-line-at-requires Inv-loop μ-loop
 line-at-requires c κs = search needs
 
-enum-known-line : tie.Need-enum-known-line Inv-loop μ-loop
-enum-known-line c = search needs
+enum-known-next : tie.Need-enum-known-next Inv-loop μ-loop
+enum-known-next c = search needs
 
 step-requires : tie.Need-step-requires Inv-loop μ-loop
 step-requires c κs = search needs
@@ -150,7 +150,7 @@ check-lines-spec =
     at-start-requires
     loop-holds
     line-at-requires
-    enum-known-line
+    enum-known-next
     step-requires
     enum-known-number
     allowed-requires
