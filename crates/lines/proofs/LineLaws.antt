@@ -1,8 +1,10 @@
 -- A line's scan goes field by field.
 use mathlib.Core.Path.{_≡_, refl, sym, _∙_, ap}
 use mathlib.Core.Option.{Option}
-use mathlib.Core.List.{List, []}
+use mathlib.Core.List.{List, [], _∷_}
+use mathlib.Core.Bool.{Bool, true, false}
 use Prim.Native.Nat.{ℕ}
+use lib.Dec.{eqb}
 use Rattle.iosa.specs.Text.{lf, compWord, actWord, clkWord, rowWord}
 use Rattle.iosa.specs.Reading.{Scan, is, stops, got, then, shorter, exactly, theByte, number, guardOrDash, numbersOrDash, Entry, row-entry, field, ended, compEntry, actEntry, clkEntry, rowEntry, entry}
 use Rattle.iosa.proofs.Reading.Scans.{is-inj, stops-inj, no-is}
@@ -13,7 +15,7 @@ use Rattle.fields.specs.declared.Kind.the-variants as OfKind
 use Rattle.fields.specs.declared.Resets.{Resets}
 use Rattle.fields.specs.Fields.{guardOf, kindOf}
 use Rattle.fields.specs.Resets.{valued, summary}
-use Rattle.lines.specs.Lines.{guardIs, kindIs, lineOf, rowEnd}
+use Rattle.lines.specs.Lines.{guardIs, kindIs, lineOf, rowEnd, stopOf, noWord}
 use Rattle.lines.specs.declared.Line.{Line}
 use Rattle.lines.specs.declared.Line.the-variants.{Row}
 
@@ -37,6 +39,19 @@ valued-is f (stops cs) e = absurd (no-is refl e)
 valued-is f (is g) {y} {bs} e =
     let s = is-inj e in
     (g .value, ap (λ h. got (g .value) (h .rest)) s, ap (λ h. h .value) s)
+
+-- one byte stops where it began
+pub byte-stops : (b : ℕ) (bs : List ℕ) {cs : List ℕ} → theByte b bs ≡ stops cs → theByte b bs ≡ stops bs
+unfolding exactly
+byte-stops b [] e = refl
+byte-stops b (x ∷ xs) {cs} e = go (eqb b x) e
+  where
+    byte : Bool → Scan (Unit {0})
+    byte t = elim t as (λ _. Scan (Unit {0})) [ true ↦ got tt xs | false ↦ stops (x ∷ xs) ]
+
+    go : (t : Bool) → byte t ≡ stops cs → byte t ≡ stops (x ∷ xs)
+    go true h = absurd (no-is h refl)
+    go false h = refl
 
 -- ---- a line, field by field
 -- its end
@@ -127,8 +142,14 @@ module _ (bs : List ℕ) where
   unfolding entry
   entry-row a b c d = rw (a, b, c, d, entry)
 
+  pub no-word : {x y z v : List ℕ} → x ≡ stopOf (exactly compWord bs) → y ≡ stopOf (exactly actWord bs) → z ≡ stopOf (exactly clkWord bs)
+      → v ≡ stopOf (exactly rowWord bs)
+      → shorter x (shorter y (shorter z v)) ≡ noWord bs
+  unfolding noWord
+  no-word a b c d = rw (a, b, c, d, noWord)
+
   pub entry-none : {x y z v : List ℕ} → exactly compWord bs ≡ stops x → exactly actWord bs ≡ stops y → exactly clkWord bs ≡ stops z
       → exactly rowWord bs ≡ stops v
-      → entry bs ≡ stops (shorter x (shorter y (shorter z v)))
-  unfolding entry
-  entry-none a b c d = rw (a, b, c, d, entry)
+      → entry bs ≡ stops (noWord bs)
+  unfolding entry noWord
+  entry-none a b c d = rw (a, b, c, d, entry, noWord)

@@ -3,8 +3,8 @@ use mathlib.Core.Option.{Option, none, some}
 use mathlib.Core.List.{List}
 use Prim.Native.Nat.{ℕ}
 use lib.ListN.{drop}
-use Rattle.iosa.specs.Text.{lf, Kind as TheKind, in-kind, out-kind, uin-kind, uout-kind}
-use Rattle.iosa.specs.Reading.{Scan, stops, got, then, theByte, field, number, numbersOrDash, Entry, comp-entry, act-entry, clk-entry, row-entry}
+use Rattle.iosa.specs.Text.{lf, compWord, actWord, clkWord, rowWord, Kind as TheKind, in-kind, out-kind, uin-kind, uout-kind}
+use Rattle.iosa.specs.Reading.{Scan, is, stops, got, then, shorter, exactly, theByte, field, number, numbersOrDash, Entry, comp-entry, act-entry, clk-entry, row-entry}
 use Rattle.fields.specs.declared.Guard.{Guard}
 use Rattle.fields.specs.declared.Guard.the-variants as OfGuard
 use Rattle.fields.specs.declared.Kind.{Kind}
@@ -43,3 +43,13 @@ rowEnd s g a bs =
     then (field number cs) (λ t ds.
     then (theByte lf ds) (λ _ es.
     got (Row s g a r t) es)))
+
+-- the bytes behind a word, or those from where it stops
+abbrev pub stopOf : Scan (Unit {0}) → List ℕ
+stopOf (is g) = g .rest
+stopOf (stops cs) = cs
+
+-- where no first word stands: of the places where the four stop, the furthest on
+unfoldable pub noWord : List ℕ → List ℕ
+noWord bs =
+    shorter (stopOf (exactly compWord bs)) (shorter (stopOf (exactly actWord bs)) (shorter (stopOf (exactly clkWord bs)) (stopOf (exactly rowWord bs))))

@@ -2,10 +2,10 @@
 ghost use mathlib.Core.Path.{_≡_};
 ghost use lib.ListN.{drop};
 ghost use Rattle.iosa.specs.Text.{lf};
-ghost use Rattle.iosa.specs.Reading.{got, then, theByte, field, guardOrDash, kind as kindScan, numbersOrDash, compEntry, actEntry, clkEntry, rowEntry, entry};
+ghost use Rattle.iosa.specs.Reading.{got, then, theByte, field, guardOrDash, kind as kindScan, numbersOrDash, exactly, compEntry, actEntry, clkEntry, rowEntry, entry};
 ghost use Rattle.fields.specs.Fields.{gotGuard, gotKind};
 ghost use Rattle.fields.specs.Resets.{gotResets, valued, summary};
-ghost use Rattle.lines.specs.Lines.{lineOf, gotLine, rowEnd};
+ghost use Rattle.lines.specs.Lines.{lineOf, gotLine, rowEnd, stopOf, noWord};
 use fields::Cursor;
 use fields::Guard;
 use fields::GuardScan;
@@ -44,12 +44,13 @@ pub enum LineScan {
     Missing(Cursor),
 }
 
+// One byte can only stop at itself: a field or a line's end that lacks it stops where it began.
 fn guard_field(text: &[u8], c: Cursor) -> GuardScan
     ensures { λ r. ⌜ gotGuard (now (text .entry)) r ≡ field guardOrDash (drop (c .at) (now (text .entry))) ⌝ }
 {
     match fields::byte(text, c, Sign::TAB) {
         Step::Past(d) => fields::guard_of(text, d),
-        Step::Missing(e) => GuardScan::Missing(e),
+        Step::Missing(_) => GuardScan::Missing(c),
     }
 }
 
@@ -58,7 +59,7 @@ fn kind_field(text: &[u8], c: Cursor) -> KindScan
 {
     match fields::byte(text, c, Sign::TAB) {
         Step::Past(d) => fields::kind_of(text, d),
-        Step::Missing(e) => KindScan::Missing(e),
+        Step::Missing(_) => KindScan::Missing(c),
     }
 }
 
@@ -67,7 +68,7 @@ fn resets_field(text: &[u8], c: Cursor) -> ResetsScan
 {
     match fields::byte(text, c, Sign::TAB) {
         Step::Past(d) => fields::resets_of(text, d),
-        Step::Missing(e) => ResetsScan::Missing(e),
+        Step::Missing(_) => ResetsScan::Missing(c),
     }
 }
 
@@ -77,7 +78,7 @@ fn line_end(text: &[u8], c: Cursor, l: Line) -> LineScan
 {
     match fields::byte(text, c, Sign::LF) {
         Step::Past(d) => LineScan::Is(d, l),
-        Step::Missing(e) => LineScan::Missing(e),
+        Step::Missing(_) => LineScan::Missing(c),
     }
 }
 
@@ -155,24 +156,43 @@ fn row_line(text: &[u8], c: Cursor) -> LineScan
     }
 }
 
-// One line, with its LF: its first word tells what is behind it. Where it has none, the word that got furthest tells where it stops.
+// Where one word stops, or what is behind it.
+fn stop_of(text: &[u8], c: Cursor, w: &[u8]) -> Cursor
+    ensures { λ r. ⌜ drop (r .at) (now (text .entry)) ≡ stopOf (exactly (now (w .entry)) (drop (c .at) (now (text .entry)))) ⌝ }
+{
+    match fields::word(text, c, w) {
+        Step::Past(d) => d,
+        Step::Missing(e) => e,
+    }
+}
+
+// Where no first word stands, the one that got furthest tells where the line stops. The words are looked for again here, and not kept
+// while a line is read: good lines never come here.
+fn no_word(text: &[u8], c: Cursor) -> Cursor
+    ensures { λ r. ⌜ drop (r .at) (now (text .entry)) ≡ noWord (drop (c .at) (now (text .entry))) ⌝ }
+{
+    let co = stop_of(text, c, b"comp");
+    let ac = stop_of(text, c, b"act");
+    let cl = stop_of(text, c, b"clk");
+    let ro = stop_of(text, c, b"row");
+    fields::further(co, fields::further(ac, fields::further(cl, ro)))
+}
+
+// One line, with its LF: its first word tells what is behind it.
 pub fn line_at(text: &[u8], c: Cursor) -> LineScan
     ensures { λ r. ⌜ gotLine (now (text .entry)) r ≡ valued lineOf (entry (drop (c .at) (now (text .entry)))) ⌝ }
 {
-    match fields::word(text, c, b"comp") {
-        Step::Past(d) => comp_line(text, d),
-        Step::Missing(co) => match fields::word(text, c, b"act") {
-            Step::Past(d) => act_line(text, d),
-            Step::Missing(ac) => match fields::word(text, c, b"clk") {
-                Step::Past(d) => clk_line(text, d),
-                Step::Missing(cl) => match fields::word(text, c, b"row") {
-                    Step::Past(d) => row_line(text, d),
-                    Step::Missing(ro) => LineScan::Missing(fields::further(
-                        co,
-                        fields::further(ac, fields::further(cl, ro)),
-                    )),
-                },
-            },
-        },
+    if let Step::Past(d) = fields::word(text, c, b"comp") {
+        return comp_line(text, d);
     }
+    if let Step::Past(d) = fields::word(text, c, b"act") {
+        return act_line(text, d);
+    }
+    if let Step::Past(d) = fields::word(text, c, b"clk") {
+        return clk_line(text, d);
+    }
+    if let Step::Past(d) = fields::word(text, c, b"row") {
+        return row_line(text, d);
+    }
+    LineScan::Missing(no_word(text, c))
 }

@@ -1,10 +1,13 @@
 // The whole text is checked before anything is written: 1, then the lines in file order, then 8.
 ghost use mathlib.Core.Path.{_≡_};
 ghost use mathlib.Core.Option.{some};
-ghost use lib.ListN.{length};
+ghost use Prim.Native.Nat.{_≤_};
+ghost use lib.ListN.{length, drop};
 ghost use Rattle.answer.specs.Told.{saysChecked, doneOf};
-ghost use Rattle.iosa.specs.Reading.{linesFrom, atStart, readOf};
-ghost use Rattle.survey.specs.Places.{allowedOf, placeOf};
+ghost use Rattle.iosa.specs.Reading.{entry, linesFrom, atStart, readOf};
+ghost use Rattle.fields.specs.Resets.{valued};
+ghost use Rattle.lines.specs.Lines.{lineOf};
+ghost use Rattle.survey.specs.Places.{allowedOf, placeOf, columnIn};
 use answer::Checked;
 use answer::Model;
 use answer::Place;
@@ -48,6 +51,17 @@ fn place_of(n: usize, number: u8, column: usize) -> Place
     Place::Line(n)
 }
 
+// The column of a fault in the line that begins at a place. The line is read again here and not kept while it is judged: good lines never come here.
+fn fault_column(text: &[u8], at: usize, a: Allowed) -> usize
+    requires { ⌜ at ≤ length (now text) ⌝ }
+    ensures { λ r. ⌜ r ≡ columnIn (now (text .entry)) at a (valued lineOf (entry (drop at (now (text .entry))))) ⌝ }
+{
+    match lines::line_at(text, Cursor { at }) {
+        LineScan::Is(_, line) => columns::value_column(text, at, a, line),
+        LineScan::Missing(_) => 0,
+    }
+}
+
 fn check_lines(text: &[u8]) -> Checked
     ensures { λ r. ⌜ saysChecked r ≡ some (doneOf (linesFrom (length (now (text .entry))) 1 atStart (now (text .entry)))) ⌝ }
 {
@@ -59,7 +73,7 @@ fn check_lines(text: &[u8]) -> Checked
             LineScan::Is(next, line) => {
                 match judge::step(p, line) {
                     Judged::Fault(number) => {
-                        let column = columns::value_column(text, at, allowed(p, number), line);
+                        let column = fault_column(text, at, allowed(p, number));
                         let place = place_of(n, number, column);
                         return Checked::Refused(Refusal { number, place });
                     }

@@ -5,7 +5,7 @@ use Prim.Native.Nat.{ℕ}
 use lib.ListN.{drop}
 use denote.Ref.{now}
 use Rattle.iosa.specs.Text.{compWord, actWord, clkWord, rowWord}
-use Rattle.iosa.specs.Reading.{stops, shorter, exactly}
+use Rattle.iosa.specs.Reading.{stops, exactly}
 use Rattle.fields.specs.Fields.{past}
 use Rattle.fields.specs.Resets.{valued}
 use Rattle.lines.specs.Lines.{lineOf}
@@ -13,6 +13,35 @@ use Rattle.lines.proofs.LineLaws.{entry-comp, entry-act, entry-clk, ent
 use borrow.Author.Needs.{needs}
 use Rattle.lines.proofs.line_at.Statement.{statement}
 use Rattle.lines.proofs.line_at.Tie as tie
+
+-- ---- the words that are not there
+abbrev text : tie.After-enum-told → List ℕ
+text c = now (c .before .before .before .before .before .args .text)
+
+abbrev bytes : tie.After-enum-told → List ℕ
+bytes c = drop (c .before .before .before .before .before .args .c .at) (text c)
+
+abbrev one : tie.After-enum-told2 → tie.After-enum-told
+one c = c .before .before .before .before
+
+abbrev two : tie.After-enum-told3 → tie.After-enum-told2
+two c = c .before .before .before .before
+
+abbrev three : tie.After-enum-told4 → tie.After-enum-told3
+three c = c .before .before .before .before
+
+no-comp : (c : tie.After-enum-told) → exactly compWord (bytes c) ≡ stops (drop (c .enum-told .given .0 .0 .at) (text c))
+no-comp c = sym (c .before .before .word .ensures) ∙ ap (past (text c)) (c .enum-told .given .1)
+
+no-act : (c : tie.After-enum-told2) → exactly actWord (bytes (one c)) ≡ stops (drop (c .enum-told2 .given .0 .0 .at) (text (one c)))
+no-act c = sym (c .before .before .word2 .ensures) ∙ ap (past (text (one c))) (c .enum-told2 .given .1)
+
+no-clk : (c : tie.After-enum-told3) → exactly clkWord (bytes (one (two c))) ≡ stops (drop (c .enum-told3 .given .0 .0 .at) (text (one (two c))))
+no-clk c = sym (c .before .before .word3 .ensures) ∙ ap (past (text (one (two c)))) (c .enum-told3 .given .1)
+
+no-row : (c : tie.After-enum-told4)
+    → exactly rowWord (bytes (one (two (three c)))) ≡ stops (drop (c .enum-told4 .given .0 .0 .at) (text (one (two (three c)))))
+no-row c = sym (c .before .before .word4 .ensures) ∙ ap (past (text (one (two (three c))))) (c .enum-told4 .given .1)
 
 slice-aggregate-word : tie.Need-slice-aggregate-word
 slice-aggregate-word c = search needs
@@ -26,8 +55,16 @@ enum-known-d c = search needs
 comp-line-requires : tie.Need-comp-line-requires
 comp-line-requires c κs = search needs
 
-enum-known-co : tie.Need-enum-known-co
-enum-known-co c = search needs
+returns : tie.Need-returns
+returns c =
+    let w = c .before .before .before .before in
+    let a = w .before .before .before .args in
+    let t = now (a .text) in
+    let e = sym (w .word .ensures) ∙ ap (past t) (c .before .before .d .given .1) in
+    c .comp-line .ensures ∙ sym (ap (valued lineOf) (entry-comp (drop (a .c .at) t) e))
+
+enum-told : tie.Need-enum-told
+enum-told c = search needs
 
 slice-aggregate-word-2 : tie.Need-slice-aggregate-word-2
 slice-aggregate-word-2 c = search needs
@@ -41,8 +78,15 @@ enum-known-d-2 c = search needs
 act-line-requires : tie.Need-act-line-requires
 act-line-requires c κs = search needs
 
-enum-known-ac : tie.Need-enum-known-ac
-enum-known-ac c = search needs
+returns-2 : tie.Need-returns-2
+returns-2 c =
+    let w = c .before .before .before .before in
+    let q = w .before .before in
+    let e = sym (w .word2 .ensures) ∙ ap (past (text q)) (c .before .before .d2 .given .1) in
+    c .act-line .ensures ∙ sym (ap (valued lineOf) (entry-act (bytes q) (no-comp q) e))
+
+enum-told-2 : tie.Need-enum-told-2
+enum-told-2 c = search needs
 
 slice-aggregate-word-3 : tie.Need-slice-aggregate-word-3
 slice-aggregate-word-3 c = search needs
@@ -56,8 +100,16 @@ enum-known-d-3 c = search needs
 clk-line-requires : tie.Need-clk-line-requires
 clk-line-requires c κs = search needs
 
-enum-known-cl : tie.Need-enum-known-cl
-enum-known-cl c = search needs
+returns-3 : tie.Need-returns-3
+returns-3 c =
+    let w = c .before .before .before .before in
+    let p = w .before .before in
+    let q = one p in
+    let e = sym (w .word3 .ensures) ∙ ap (past (text q)) (c .before .before .d3 .given .1) in
+    c .clk-line .ensures ∙ sym (ap (valued lineOf) (entry-clk (bytes q) (no-comp q) (no-act p) e))
+
+enum-told-3 : tie.Need-enum-told-3
+enum-told-3 c = search needs
 
 slice-aggregate-word-4 : tie.Need-slice-aggregate-word-4
 slice-aggregate-word-4 c = search needs
@@ -71,85 +123,28 @@ enum-known-d-4 c = search needs
 row-line-requires : tie.Need-row-line-requires
 row-line-requires c κs = search needs
 
-enum-known-ro : tie.Need-enum-known-ro
-enum-known-ro c = search needs
-
-further-requires : tie.Need-further-requires
-further-requires c κs = search needs
-
-further-requires-2 : tie.Need-further-requires-2
-further-requires-2 c κs = search needs
-
-further-requires-3 : tie.Need-further-requires-3
-further-requires-3 c κs = search needs
-
--- ---- the words that are not there
-abbrev text : tie.After-known-told2 → List ℕ
-text c = now (c .before .before .before .before .before .before .args .text)
-
-abbrev bytes : tie.After-known-told2 → List ℕ
-bytes c = drop (c .before .before .before .before .before .before .args .c .at) (text c)
-
-abbrev two : tie.After-known-told4 → tie.After-known-told2
-two c = c .before .before .before .before .before
-
-abbrev three : tie.After-known-told6 → tie.After-known-told4
-three c = c .before .before .before .before .before
-
-abbrev four : tie.After-known-told8 → tie.After-known-told6
-four c = c .before .before .before .before .before
-
-no-comp : (c : tie.After-known-told2) → exactly compWord (bytes c) ≡ stops (drop (c .before .co .given .0 .0 .at) (text c))
-no-comp c = sym (c .before .before .before .word .ensures) ∙ ap (past (text c)) (c .before .co .given .1)
-
-no-act : (c : tie.After-known-told4) → exactly actWord (bytes (two c)) ≡ stops (drop (c .before .ac .given .0 .0 .at) (text (two c)))
-no-act c = sym (c .before .before .before .word2 .ensures) ∙ ap (past (text (two c))) (c .before .ac .given .1)
-
-no-clk : (c : tie.After-known-told6) → exactly clkWord (bytes (two (three c))) ≡ stops (drop (c .before .cl .given .0 .0 .at) (text (two (three c))))
-no-clk c = sym (c .before .before .before .word3 .ensures) ∙ ap (past (text (two (three c)))) (c .before .cl .given .1)
-
-no-row : (c : tie.After-known-told8)
-    → exactly rowWord (bytes (two (three (four c)))) ≡ stops (drop (c .before .ro .given .0 .0 .at) (text (two (three (four c)))))
-no-row c = sym (c .before .before .before .word4 .ensures) ∙ ap (past (text (two (three (four c))))) (c .before .ro .given .1)
-
-returns : tie.Need-returns
-returns c =
-    let d = c .before .before .before .before in
-    let a = d .before .before .before .args in
-    let t = now (a .text) in
-    c .comp-line .ensures ∙ sym (ap (valued lineOf) (entry-comp (drop (a .c .at) t) (sym (d .word .ensures) ∙ ap (past t)
-    (c .before .before .d .given .1))))
-
-returns-2 : tie.Need-returns-2
-returns-2 c =
-    let q = c .before .before .before .before .before .before in
-    c .act-line .ensures ∙ sym (ap (valued lineOf) (entry-act (bytes q) (no-comp q) (sym (c .before .before .before .before .word2 .ensures) ∙ ap (past
-    (text q)) (c .before .before .d2 .given .1))))
-
-returns-3 : tie.Need-returns-3
-returns-3 c =
-    let p = c .before .before .before .before .before .before in
-    let q = two p in
-    c .clk-line .ensures ∙ sym (ap (valued lineOf) (entry-clk (bytes q) (no-comp q) (no-act p) (sym (c .before .before .before .before .word3 .ensures) ∙ ap
-    (past (text q)) (c .before .before .d3 .given .1))))
-
 returns-4 : tie.Need-returns-4
 returns-4 c =
-    let o = c .before .before .before .before .before .before in
-    let p = three o in
-    let q = two p in
-    let e = sym (c .before .before .before .before .word4 .ensures) ∙ ap (past (text q)) (c .before .before .d4 .given .1) in
+    let w = c .before .before .before .before in
+    let o = w .before .before in
+    let p = two o in
+    let q = one p in
+    let e = sym (w .word4 .ensures) ∙ ap (past (text q)) (c .before .before .d4 .given .1) in
     c .row-line .ensures ∙ sym (ap (valued lineOf) (entry-row (bytes q) (no-comp q) (no-act p) (no-clk o) e))
+
+enum-told-4 : tie.Need-enum-told-4
+enum-told-4 c = search needs
+
+no-word-requires : tie.Need-no-word-requires
+no-word-requires c κs = search needs
 
 returns-5 : tie.Need-returns-5
 returns-5 c =
-    let n = c .before .before .before in
-    let o = four n in
-    let p = three o in
-    let q = two p in
-    let last = ap (shorter _) (c .before .before .further .ensures (text q)) in
-    let more = ap (shorter _) (c .before .further2 .ensures (text q) ∙ last) in
-    ap (λ l. stops l) (c .further3 .ensures (text q) ∙ more) ∙ sym (ap (valued lineOf) (entry-none (bytes q) (no-comp q) (no-act p) (no-clk o) (no-row n)))
+    let n = c .before in
+    let o = three n in
+    let p = two o in
+    let q = one p in
+    ap (λ l. stops l) (c .no-word .ensures) ∙ sym (ap (valued lineOf) (entry-none (bytes q) (no-comp q) (no-act p) (no-clk o) (no-row n)))
 
 pub line-at-spec : {M : Type 1} → statement M
 line-at-spec =
@@ -159,27 +154,25 @@ line-at-spec =
     word-requires
     enum-known-d
     comp-line-requires
-    enum-known-co
+    returns
+    enum-told
     slice-aggregate-word-2
     word-requires-2
     enum-known-d-2
     act-line-requires
-    enum-known-ac
+    returns-2
+    enum-told-2
     slice-aggregate-word-3
     word-requires-3
     enum-known-d-3
     clk-line-requires
-    enum-known-cl
+    returns-3
+    enum-told-3
     slice-aggregate-word-4
     word-requires-4
     enum-known-d-4
     row-line-requires
-    enum-known-ro
-    further-requires
-    further-requires-2
-    further-requires-3
-    returns
-    returns-2
-    returns-3
     returns-4
+    enum-told-4
+    no-word-requires
     returns-5)

@@ -1,9 +1,12 @@
 -- `lines::line_end` meets its contract.
 use mathlib.Core.Path.{sym, _∙_, ap}
+use lib.ListN.{drop}
 use denote.Ref.{now}
+use Rattle.iosa.specs.Text.{lf}
 use Rattle.iosa.specs.Reading.{got}
 use Rattle.fields.specs.Fields.{past}
 use Rattle.fields.proofs.ScanLaws.{then-stops, then-is}
+use Rattle.lines.proofs.LineLaws.{byte-stops}
 use borrow.Author.Needs.{needs}
 use Rattle.lines.proofs.line_end.Statement.{statement}
 use Rattle.lines.proofs.line_end.Tie as tie
@@ -14,8 +17,8 @@ byte-requires c κs = search needs
 enum-known-d : tie.Need-enum-known-d
 enum-known-d c = search needs
 
-enum-known-e : tie.Need-enum-known-e
-enum-known-e c = search needs
+enum-told : tie.Need-enum-told
+enum-told c = search needs
 
 returns : tie.Need-returns
 returns c =
@@ -25,9 +28,9 @@ returns c =
 
 returns-2 : tie.Need-returns-2
 returns-2 c =
-    let a = c .before .before .before .before .before .args in
+    let a = c .before .before .before .before .args in
     let t = now (a .text) in
-    sym (then-stops (λ _ cs. got (a .l) cs) (sym (c .before .before .before .byte .ensures) ∙ ap (past t) (c .before .e .given .1)))
+    sym (then-stops (λ _ cs. got (a .l) cs) (byte-stops lf (drop (a .c .at) t) (sym (c .before .before .byte .ensures) ∙ ap (past t) (c .enum-told .given .1))))
 
 pub line-end-spec : {M : Type 1} → statement M
-line-end-spec = tie.close (tie.spec byte-requires enum-known-d enum-known-e returns returns-2)
+line-end-spec = tie.close (tie.spec byte-requires enum-known-d enum-told returns returns-2)

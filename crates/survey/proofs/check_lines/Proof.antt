@@ -1,5 +1,5 @@
 -- `survey::check_lines` meets its contract. The loop's invariant: what the code keeps stands for what the definition keeps before this line.
-use mathlib.Core.Path.{sym, _∙_, ap}
+use mathlib.Core.Path.{_≡_, sym, _∙_, ap}
 use mathlib.Core.List.{List, [], _∷_}
 use Prim.Native.Nat.{ℕ}
 use native.Mathlib.Omega.{arith}
@@ -8,11 +8,13 @@ use lib.ListN.{length, drop, length-drop}
 use denote.Ref.{now}
 use Rattle.answer.specs.declared.Checked.the-variants.{Refused}
 use Rattle.answer.specs.Told.{tell, refused, saysChecked}
-use Rattle.iosa.specs.Reading.{Progress, current, entry, linesFrom, atStart}
+use Rattle.iosa.specs.Reading.{got, Progress, current, entry, linesFrom, atStart}
+use Rattle.fields.specs.Resets.{valued}
 use Rattle.lines.specs.Lines.{lineOf, gotLine}
 use Rattle.lines.specs.declared.Line.{Line}
 use Rattle.lines.proofs.LineLaws.{valued-stops}
 use Rattle.columns.specs.Columns.{valueColumn}
+use Rattle.survey.specs.Places.{columnIn}
 use Rattle.survey.proofs.Turns.{Stands, stands-first, Read, read-line, read-on, no-line, at-end, line-fault, line-column, line-taken, says-line, says-shape, says-none, says-fine}
 use Rattle.survey.proofs.check_lines.Statement.{statement}
 use Rattle.survey.proofs.check_lines.Tie as tie
@@ -36,10 +38,14 @@ lineAt c = c .before .next .given .0 .1 .0
 abbrev nextAt : Scanned → ℕ
 nextAt c = c .before .next .given .0 .0 .at
 
-here : (c : Scanned) → Read (textAt c) (c .before .before .before .before .before .loop .at) (lineAt c) (nextAt c)
-here c =
-    read-line (textAt c) (c .before .before .before .before .before .loop .at) (lineAt c) (nextAt c) (sym (c .before .before .before .line-at .ensures) ∙ ap
-    (gotLine (textAt c)) (c .before .next .given .1))
+abbrev placeAt : Scanned → ℕ
+placeAt c = c .before .before .before .before .before .loop .at
+
+scanned : (c : Scanned) → valued lineOf (entry (drop (placeAt c) (textAt c))) ≡ got (lineAt c) (drop (nextAt c) (textAt c))
+scanned c = sym (c .before .before .before .line-at .ensures) ∙ ap (gotLine (textAt c)) (c .before .next .given .1)
+
+here : (c : Scanned) → Read (textAt c) (placeAt c) (lineAt c) (nextAt c)
+here c = read-line (textAt c) (placeAt c) (lineAt c) (nextAt c) (scanned c)
 
 at-start-requires : tie.Need-at-start-requires Inv-loop μ-loop
 at-start-requires c κs = search needs
@@ -64,8 +70,8 @@ enum-known-number c = search needs
 allowed-requires : tie.Need-allowed-requires Inv-loop μ-loop
 allowed-requires c κs = search needs
 
-value-column-requires : tie.Need-value-column-requires Inv-loop μ-loop
-value-column-requires c κs = omega arith
+fault-column-requires : tie.Need-fault-column-requires Inv-loop μ-loop
+fault-column-requires c κs = omega arith
 
 place-of-requires : tie.Need-place-of-requires Inv-loop μ-loop
 place-of-requires c κs = search needs
@@ -79,8 +85,8 @@ returns c =
     let f = d .number .given .0 .0 in
     let e = sym (d .before .before .step .ensures) ∙ d .number .given .1 in
     let w = line-fault (l .inv .1) (lineAt k) (nextAt k) (here k) f e in
-    let v = c .before .value-column in
-    let col = v .ensures ∙ ap (λ a. valueColumn t (l .at) a (lineAt k)) (c .before .before .allowed .ensures) in
+    let v = c .before .fault-column in
+    let col = v .ensures ∙ ap (columnIn t (l .at) _) (scanned k) ∙ ap (λ a. valueColumn t (l .at) a (lineAt k)) (c .before .before .allowed .ensures) in
     let q = line-column (l .inv .1) (lineAt k) (nextAt k) (here k) f (v .result) e col in
     ap (λ p. saysChecked (Refused (record { number = f; place = p }))) (c .place-of .ensures)
     ∙ says-line (current (l .inv .0)) (here k .it) f (l .n) (v .result) (linesFrom (length t) 1 atStart t) (w .0) (w .1) (w .2) (q .0) (q .1)
@@ -154,7 +160,7 @@ check-lines-spec =
     step-requires
     enum-known-number
     allowed-requires
-    value-column-requires
+    fault-column-requires
     place-of-requires
     returns
     enum-known-q
