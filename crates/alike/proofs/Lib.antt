@@ -2,3 +2,4 @@ pub mod Lists
 pub mod Rows
 pub mod Moves
 pub mod Settling
+pub mod Confluence
