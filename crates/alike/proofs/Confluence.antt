@@ -49,10 +49,10 @@ module _ (c d : Comp) (wc : WellComp c) (wd : WellComp d) (oc : Conditions (auto
         let p′ = exact .rows s t (e .s′) (e .t′) 0 a R hs ht (e .s′-below) (e .t′-below) .0 (rw (e .target) at p) in
         let q′ = exact .rows s t (f .s′) (f .t′) 0 b Q hs ht (f .s′-below) (f .t′-below) .0 (rw (f .target) at q) in
         let v = k .meet p′ q′ in
-        let o = product-own A B (component-own c wc) (component-own d wd) .rows (v .1) .target in (
+        let o = product-own A B (component-own c wc) (component-own d wd) .rows {t = v .0} (v .1) .target in (
           pairOf d (v .0 .0) (v .0 .1),
-          leads-from (e .target) (exact .rows (e .s′) (e .t′) (v .0 .0) (v .0 .1) 0 b Q (e .s′-below) (e .t′-below) (o .0) (o .1) .1 (v .1)),
-          leads-from (f .target) (exact .rows (f .s′) (f .t′) (v .0 .0) (v .0 .1) 0 a R (f .s′-below) (f .t′-below) (o .0) (o .1) .1 (v .2)),
+          leads-from {z = pairOf d (v .0 .0) (v .0 .1)} (e .target) (exact .rows (e .s′) (e .t′) (v .0 .0) (v .0 .1) 0 b Q (e .s′-below) (e .t′-below) (o .0) (o .1) .1 (v .1)),
+          leads-from {z = pairOf d (v .0 .0) (v .0 .1)} (f .target) (exact .rows (f .s′) (f .t′) (v .0 .0) (v .0 .1) 0 a R (f .s′-below) (f .t′-below) (o .0) (o .1) .1 (v .2)),
         );
   }
 

@@ -3,3 +3,4 @@ pub mod Rows
 pub mod Moves
 pub mod Settling
 pub mod Confluence
+pub mod Associative
