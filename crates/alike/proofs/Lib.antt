@@ -4,3 +4,5 @@ pub mod Moves
 pub mod Settling
 pub mod Confluence
 pub mod Associative
+pub mod Models
+pub mod Whole
