@@ -6,3 +6,4 @@ pub mod Confluence
 pub mod Associative
 pub mod Models
 pub mod Whole
+pub mod Witness

@@ -1,20 +1,20 @@
 -- Models merged: either way to merge three neighbours gives one model; a composed state in range has its pairs in range; and what is known of a merged model.
 use mathlib.Core.Path.{_≡_, refl, sym, _∙_, ap, subst}
-use mathlib.Core.Option.{none}
+use mathlib.Core.Option.{Option, none}
 use mathlib.Core.List.{List, [], _∷_}
 use Prim.Native.Nat.{ℕ, zero, suc, _<_}
 use native.Mathlib.Omega.{arith}
 use lib.ListN.{length}
 use Rattle.laws.proofs.PairLaws.{pair-below}
-use Rattle.answer.specs.Told.{answered}
+use Rattle.answer.specs.Told.{Told, Answer, answered}
 use Rattle.iosa.specs.Model.{Comp, Model}
 use Rattle.iosa.specs.WellFormed.{WellFormed}
 use Rattle.iosa.specs.Automaton.{Conforming, Joinable}
 use Rattle.iosa.specs.Product.{Within}
 use Rattle.iosa.specs.Checks.{acceptOf}
 use Rattle.iosa.specs.Merge.{merged, mergedAt, mergeOf}
-use Rattle.iosa.specs.MergedAs.{is-merged}
-use Rattle.iosa.specs.MergedExactly.{MergedModel, pairedAt}
+use Rattle.iosa.specs.MergedAs.{Replaced, Small, MergedAnswer, is25, is26, is-merged}
+use Rattle.iosa.specs.MergedExactly.{MergedModel, MergeAnswer, small-enough, pairedAt}
 use Rattle.iosa.proofs.Acceptance.Accepted.{accepted-exactly}
 use Rattle.iosa.proofs.Merging.Models.{merge-exactly, merge-answered, merging-is-exact}
 use Rattle.iosa.proofs.Merging.Accepted.{merged-model-conforms}
@@ -39,6 +39,20 @@ pairs-within zero (c ∷ []) h (s ∷ ss) ok = absurd (omega arith)
 pairs-within zero (c ∷ d ∷ cs) h (s ∷ []) ok = absurd (ok .1)
 pairs-within zero (c ∷ d ∷ cs) h (s ∷ t ∷ ss) ok = (pair-below (c .states) (d .states) (ok .0) (ok .1 .0), ok .1 .1)
 pairs-within (suc i) (c ∷ cs) h (s ∷ ss) ok = (ok .0, pairs-within i cs (omega arith) ss (ok .1))
+
+-- what merging answers is merged into
+pub answered-into : (m : Model) (i : ℕ) (room : Option Told) (n : Model) → WellFormed m → mergeOf m i room ≡ answered n → MergedInto m i n
+answered-into m i room n w e =
+    let a = merge-answered m i room n w e in
+    go (merged-answers-exactly m i w (a .conforming, a .joinable) (answered n) .0
+    (subst (λ x. MergeAnswer m i (answered x)) (a .model) (small-enough (a .neighbour) (a .fits)))) refl
+  where
+    go : {x : Answer Model} → MergedAnswer m i x → x ≡ answered n → MergedInto m i n
+    go (is25 h) z = absurd (let y : _≡_ {A = ℕ} 0 1 = cc in omega arith)
+    go (is26 p h) z = absurd (let y : _≡_ {A = ℕ} 0 1 = cc in omega arith)
+    go (is-merged {n = x} p s) z =
+        let y : x ≡ n = cc in
+        record { replaced = subst (Replaced m i) y p; small = subst (λ v. Small v i) y s }
 
 -- ---- what is known of n, which m is merged into
 pub record Known (m : Model) (i : ℕ) (n : Model) : Type 0 where
