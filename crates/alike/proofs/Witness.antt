@@ -55,8 +55,27 @@ firstTwo = merged T₀ T₁ ∷ T₂ ∷ []
 abbrev lastTwo : Model
 lastTwo = T₀ ∷ merged T₁ T₂ ∷ []
 
--- none of the four calls is refused, and both ways end in one model, of 58 rows
+-- none of the four calls is refused, and both ways end in one model, of 48 rows
 pub T-is-merged : (mergeOf T 0 none ≡ answered firstTwo) × (mergeOf firstTwo 0 none ≡ answered (merged (merged T₀ T₁) T₂ ∷ []))
     × (mergeOf T 1 none ≡ answered lastTwo) × (mergeOf lastTwo 0 none ≡ answered (merged T₀ (merged T₁ T₂) ∷ []))
 unfolding reply T₀ T₁ T₂
 T-is-merged = (refl, refl, refl, refl)
+
+pub T-either-way : (merged (merged T₀ T₁) T₂ ≡ merged T₀ (merged T₁ T₂)) × (length (merged T₀ (merged T₁ T₂) .rows) ≡ 48)
+unfolding reply T₀ T₁ T₂
+T-either-way = (refl, refl)
+
+-- from 0,1,2, which is 1,2 where the first two are merged, and 0,7 where the last two are: two steps in each
+pub T-settles-alike : (settleOf T (0 ∷ 1 ∷ 2 ∷ []) 9 9 ≡ answered (ended 2 5 (0 ∷ 2 ∷ []) (1 ∷ 1 ∷ 4 ∷ [])))
+    × (settleOf firstTwo (1 ∷ 2 ∷ []) 9 9 ≡ answered (ended 2 5 (0 ∷ 2 ∷ []) (3 ∷ 4 ∷ [])))
+    × (settleOf lastTwo (0 ∷ 7 ∷ []) 9 9 ≡ answered (ended 2 5 (0 ∷ 2 ∷ []) (1 ∷ 9 ∷ [])))
+unfolding reply T₀ T₁ T₂
+T-settles-alike = (refl, refl, refl)
+
+-- what the theorems ask for is there
+T-well : WellFormed T
+unfolding reply T₀ T₁ T₂ wellFormed wellComp wellRow all allOf
+T-well = well-formed T refl
+
+pub T-is-merged-into : MergedInto T 0 firstTwo × MergedInto T 1 lastTwo
+T-is-merged-into = (answered-into T 0 none firstTwo T-well (T-is-merged .0), answered-into T 1 none lastTwo T-well (T-is-merged .2))
