@@ -1,19 +1,20 @@
 -- Merging is associative: (first, second), third and first, (second, third) are one component, row by row in order. Nothing is asked of the three.
 use mathlib.Core.Path.{_≡_, refl, sym, _∙_, ap, ap₂}
 use mathlib.Core.Bool.{Bool, true, false, cond, _&&_, _||_, not}
-use mathlib.Core.List.{List, [], _∷_, _++_, map}
+use mathlib.Core.List.{List, [], _∷_, _++_, map, map-map}
 use Prim.Native.Nat.{ℕ, zero, suc, _+_, _*_, _<_}
 use native.Mathlib.Nat.{add-assoc, add-mul, mul-assoc}
 use native.Mathlib.Omega.{arith}
+use lib.Bits.{or-comm}
 use Rattle.laws.specs.Sets.{has, _∪_, _∖_}
 use Rattle.laws.specs.Fold.{spread}
 use Rattle.laws.proofs.SetLaws.{has-or, has-without, has-ext, or-assoc}
-use Rattle.laws.proofs.TabLaws.{spread-same}
+use Rattle.laws.proofs.TabLaws.{spread-same, spread-pairs}
 use Rattle.answer.specs.Limits.{maxActions}
 use Rattle.iosa.specs.Model.{Row, Comp, acts}
 use Rattle.iosa.specs.Merge.{rowsBy, firstMoves, secondMoves, joinGuards, bothMove, eachWith, pairRows, productRows, merged}
 use Rattle.iosa.specs.MergedAs.{pairOf}
-use Rattle.alike.proofs.Lists.{by-pairs, every, map-twice, every-map-left, every-map-right, map-every, every-regroups}
+use Rattle.alike.proofs.Lists.{every, every-map-left, every-map-right, map-every, every-regroups}
 use Rattle.alike.proofs.Rows.{rows-of-pair, acts-of-merged}
 
 -- ---- sets: what is an input of one of three and an output of none
@@ -30,21 +31,12 @@ still-taken s t u v = has-ext ((s ∖ t ∪ u) ∖ (t ∪ v)) ((s ∪ u) ∖ (t 
     go true false u v = refl
     go false t u v = refl
 
-or-swap : (s t : ℕ) → s ∪ t ≡ t ∪ s
-or-swap s t = has-ext (s ∪ t) (t ∪ s) (λ x. has-or s t x ∙ go (has s x) (has t x) ∙ sym (has-or t s x))
-  where
-    go : (s t : Bool) → (s || t) ≡ (t || s)
-    go true true = refl
-    go true false = refl
-    go false true = refl
-    go false false = refl
-
 inputs-regroup : (i o j p k q : ℕ) → ((i ∪ j) ∖ (o ∪ p) ∪ k) ∖ ((o ∪ p) ∪ q) ≡ (i ∪ (j ∪ k) ∖ (p ∪ q)) ∖ (o ∪ (p ∪ q))
 inputs-regroup i o j p k q =
     still-taken (i ∪ j) (o ∪ p) k q
-    ∙ ap₂ _∖_ (or-assoc i j k ∙ or-swap i (j ∪ k)) (or-assoc o p q ∙ or-swap o (p ∪ q))
+    ∙ ap₂ _∖_ (or-assoc i j k ∙ or-comm i (j ∪ k)) (or-assoc o p q ∙ or-comm o (p ∪ q))
     ∙ sym (still-taken (j ∪ k) (p ∪ q) i o)
-    ∙ ap₂ _∖_ (or-swap ((j ∪ k) ∖ (p ∪ q)) i) (or-swap (p ∪ q) o)
+    ∙ ap₂ _∖_ (or-comm ((j ∪ k) ∖ (p ∪ q)) i) (or-comm (p ∪ q) o)
 
 -- ---- the numbers of pairs
 pub number-regroups : (n k s t u : ℕ) → (s * n + t) * k + u ≡ s * (n * k) + (t * k + u)
@@ -148,17 +140,17 @@ module _ (c d e : Comp) (s t u a : ℕ) (hs : s < c .states) (ht : t < d .states
       ∙ every-map-left (bothMove e x u) (firstMoves d s t) rs zs
       ∙ ap (λ f. every f rs zs) first-third
       ∙ sym (each-is-every de s y rs (map (secondMoves e t u) zs) ∙ every-map-right (bothMove de s y) (secondMoves e t u) rs zs)
-  cases true false false = map-twice (firstMoves e x u) (firstMoves d s t) rs ∙ ap (λ f. map f rs) first
+  cases true false false = map-map (firstMoves e x u) (firstMoves d s t) rs ∙ ap (λ f. map f rs) first
   cases false true true =
       each-is-every e x u (map (secondMoves d s t) qs) zs
       ∙ every-map-left (bothMove e x u) (secondMoves d s t) qs zs
       ∙ ap (λ f. every f qs zs) second-third
       ∙ sym (ap (map (secondMoves de s y)) (each-is-every e t u qs zs) ∙ map-every (secondMoves de s y) (bothMove e t u) qs zs)
   cases false true false =
-      map-twice (firstMoves e x u) (secondMoves d s t) qs
+      map-map (firstMoves e x u) (secondMoves d s t) qs
       ∙ ap (λ f. map f qs) second
-      ∙ sym (map-twice (secondMoves de s y) (firstMoves e t u) qs)
-  cases false false true = ap (λ f. map f zs) third ∙ sym (map-twice (secondMoves de s y) (secondMoves e t u) zs)
+      ∙ sym (map-map (secondMoves de s y) (firstMoves e t u) qs)
+  cases false false true = ap (λ f. map f zs) third ∙ sym (map-map (secondMoves de s y) (secondMoves e t u) zs)
   cases false false false = refl
 
   triple-rows : pairRows (merged c d) e (pairOf d s t) u a ≡ pairRows c (merged d e) s (pairOf e t u) a
@@ -180,7 +172,7 @@ module _ (c d e : Comp) where
   rows-regroup : productRows (merged c d) e ≡ productRows c (merged d e)
   unfolding productRows merged
   rows-regroup =
-      by-pairs (λ p. spread (onLeft p) 0 (e .states)) (c .states) (d .states)
+      spread-pairs (λ p. spread (onLeft p) 0 (e .states)) (c .states) (d .states)
       ∙ spread-same (λ s. spread (λ t. spread (onLeft (pairOf d s t)) 0 (e .states)) 0 (d .states)) (λ s. spread (onRight s) 0 (d .states * e .states)) 0 (c .states)
       (λ s p hs.
       spread-same (λ t. spread (onLeft (pairOf d s t)) 0 (e .states)) (λ t. spread (λ u. onRight s (pairOf e t u)) 0 (e .states)) 0 (d .states)
@@ -189,7 +181,7 @@ module _ (c d e : Comp) where
       (λ u r hu.
       spread-same (pairRows (merged c d) e (pairOf d s t) u) (pairRows c (merged d e) s (pairOf e t u)) 0 maxActions
       (λ a v ha. triple-rows c d e s t u a (omega arith) (omega arith) (omega arith) (omega arith))))
-      ∙ sym (by-pairs (onRight s) (d .states) (e .states)))
+      ∙ sym (spread-pairs (onRight s) (d .states) (e .states)))
 
   pub merged-regroups : merged (merged c d) e ≡ merged c (merged d e)
   unfolding merged

@@ -1,11 +1,9 @@
--- Lists of lists: of all but one empty, by two numbers or by one, and every member of one list with every one of another.
+-- Lists of lists, of which all but one are empty; and every member of one list with every one of another.
 use mathlib.Core.Path.{_≡_, refl, sym, _∙_, ap, ap₂}
-use mathlib.Core.Logic.{_⊎_, inl, inr}
-use mathlib.Core.List.{List, [], _∷_, _++_, map, append-assoc, append-nil}
-use Prim.Native.Nat.{ℕ, zero, suc, _+_, _*_, _≤_, _<_}
+use mathlib.Core.List.{List, [], _∷_, _++_, map, append-assoc, append-nil, map-map, map-append}
+use Prim.Native.Nat.{ℕ, zero, suc, _+_, _≤_, _<_}
 use native.Mathlib.Omega.{arith}
 use Rattle.laws.specs.Fold.{spread}
-use Rattle.laws.proofs.TabLaws.{spread-append, spread-same}
 use Rattle.laws.proofs.TestLaws.{apart-cases}
 
 module _ {A : Type 0} where
@@ -23,36 +21,10 @@ module _ {A : Type 0} where
       (spread-one f (suc k) n j (omega arith) (omega arith) (λ x a b z. h x (omega arith) (omega arith) z)))
       (λ l. absurd (omega arith))
 
-  spread-shift : (g : ℕ → List A) (d k n : ℕ) → spread g (d + k) n ≡ spread (λ j. g (d + j)) k n
-  spread-shift g d k zero = refl
-  spread-shift g d k (suc n) = let e : suc (d + k) ≡ d + suc k = omega arith in ap {B = List A} (λ l. g (d + k) ++ l) (ap (λ x. spread g x n) e ∙ spread-shift g d (suc k) n)
-
-  -- one walk over the numbers of pairs is two nested ones
-  from-pair : (g : ℕ → List A) (n s m : ℕ) → spread g (s * n) (m * n) ≡ spread (λ s. spread (λ t. g (s * n + t)) 0 n) s m
-  from-pair g n s zero = let e : 0 * n ≡ 0 = omega arith in rw e
-  from-pair g n s (suc m) =
-      let e : suc m * n ≡ n + m * n = omega arith in
-      let k : s * n + n ≡ suc s * n = omega arith in
-      let z : s * n ≡ s * n + 0 = omega arith in
-      ap (spread g (s * n)) e
-      ∙ spread-append g (s * n) n (m * n)
-      ∙ ap₂ _++_ (ap (λ x. spread g x n) z ∙ spread-shift g (s * n) 0 n) (ap (λ x. spread g x (m * n)) k ∙ from-pair g n (suc s) m)
-
-  pub by-pairs : (g : ℕ → List A) (m n : ℕ) → spread g 0 (m * n) ≡ spread (λ s. spread (λ t. g (s * n + t)) 0 n) 0 m
-  by-pairs g m n = let e : 0 ≡ 0 * n = omega arith in ap (λ k. spread g k (m * n)) e ∙ from-pair g n 0 m
-
 -- ---- every member of one list with every one of another
 unfoldable pub every : {A B C : Type 0} → (A → B → C) → List A → List B → List C
 every f [] ys = []
 every f (x ∷ xs) ys = map (f x) ys ++ every f xs ys
-
-pub map-twice : {A B C : Type 0} (g : B → C) (f : A → B) (xs : List A) → map g (map f xs) ≡ map (λ x. g (f x)) xs
-map-twice g f [] = refl
-map-twice g f (x ∷ xs) = ap (λ l. g (f x) ∷ l) (map-twice g f xs)
-
-map-append : {A B : Type 0} (f : A → B) (xs ys : List A) → map f (xs ++ ys) ≡ map f xs ++ map f ys
-map-append f [] ys = refl
-map-append f (x ∷ xs) ys = ap (λ l. f x ∷ l) (map-append f xs ys)
 
 module _ {A B C : Type 0} where
   pub every-map-left : {D : Type 0} (f : A → B → C) (g : D → A) (xs : List D) (ys : List B) → every f (map g xs) ys ≡ every (λ x. f (g x)) xs ys
@@ -63,12 +35,12 @@ module _ {A B C : Type 0} where
   pub every-map-right : {D : Type 0} (f : A → B → C) (g : D → B) (xs : List A) (ys : List D) → every f xs (map g ys) ≡ every (λ x y. f x (g y)) xs ys
   unfolding every
   every-map-right f g [] ys = refl
-  every-map-right f g (x ∷ xs) ys = ap₂ _++_ (map-twice (f x) g ys) (every-map-right f g xs ys)
+  every-map-right f g (x ∷ xs) ys = ap₂ _++_ (map-map (f x) g ys) (every-map-right f g xs ys)
 
   pub map-every : {D : Type 0} (h : C → D) (f : A → B → C) (xs : List A) (ys : List B) → map h (every f xs ys) ≡ every (λ x y. h (f x y)) xs ys
   unfolding every
   map-every h f [] ys = refl
-  map-every h f (x ∷ xs) ys = map-append h (map (f x) ys) (every f xs ys) ∙ ap₂ _++_ (map-twice h (f x) ys) (map-every h f xs ys)
+  map-every h f (x ∷ xs) ys = map-append h (map (f x) ys) (every f xs ys) ∙ ap₂ _++_ (map-map h (f x) ys) (map-every h f xs ys)
 
   pub every-append : (f : A → B → C) (xs zs : List A) (ys : List B) → every f (xs ++ zs) ys ≡ every f xs ys ++ every f zs ys
   unfolding every

@@ -12,24 +12,13 @@ use Rattle.laws.proofs.ListLaws.{map-in, spread-in}
 use Rattle.laws.proofs.PairLaws.{pair-parts}
 use Rattle.answer.specs.Limits.{maxActions}
 use Rattle.iosa.specs.Model.{Row, Comp, inputs, outputs, acts}
-use Rattle.iosa.specs.Checks.{leaves}
 use Rattle.iosa.specs.Merge.{rowsBy, firstMoves, secondMoves, bothMove, eachWith, pairRows, productRows, merged}
 use Rattle.iosa.specs.MergedAs.{pairOf}
 use Rattle.iosa.proofs.Acceptance.Rows.{leaves-true}
-use Rattle.iosa.proofs.Merging.Rows.{rows-by-in, each-with-in}
+use Rattle.iosa.proofs.Merging.Rows.{rows-by-in, by-append, each-with-in}
 use Rattle.alike.proofs.Lists.{spread-one}
 
 -- ---- the rows by which action a leaves x, of a list of rows
-by-append : (rs qs : List Row) (x a : ℕ) → rowsBy (rs ++ qs) x a ≡ rowsBy rs x a ++ rowsBy qs x a
-unfolding rowsBy
-by-append [] qs x a = refl
-by-append (r ∷ rs) qs x a = go (leaves r x a) (by-append rs qs x a)
-  where
-    go : (b : Bool) → rowsBy (rs ++ qs) x a ≡ rowsBy rs x a ++ rowsBy qs x a
-        → cond b (r ∷ rowsBy (rs ++ qs) x a) (rowsBy (rs ++ qs) x a) ≡ cond b (r ∷ rowsBy rs x a) (rowsBy rs x a) ++ rowsBy qs x a
-    go true e = ap (λ l. r ∷ l) e
-    go false e = e
-
 by-spread : (f : ℕ → List Row) (x a k n : ℕ) → rowsBy (spread f k n) x a ≡ spread (λ j. rowsBy (f j) x a) k n
 unfolding rowsBy
 by-spread f x a k zero = refl
