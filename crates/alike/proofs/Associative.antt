@@ -173,7 +173,8 @@ module _ (c d e : Comp) where
   unfolding productRows merged
   rows-regroup =
       spread-pairs (λ p. spread (onLeft p) 0 (e .states)) (c .states) (d .states)
-      ∙ spread-same (λ s. spread (λ t. spread (onLeft (pairOf d s t)) 0 (e .states)) 0 (d .states)) (λ s. spread (onRight s) 0 (d .states * e .states)) 0 (c .states)
+      ∙ spread-same (λ s. spread (λ t. spread (onLeft (pairOf d s t)) 0 (e .states)) 0 (d .states))
+      (λ s. spread (onRight s) 0 (d .states * e .states)) 0 (c .states)
       (λ s p hs.
       spread-same (λ t. spread (onLeft (pairOf d s t)) 0 (e .states)) (λ t. spread (λ u. onRight s (pairOf e t u)) 0 (e .states)) 0 (d .states)
       (λ t q ht.

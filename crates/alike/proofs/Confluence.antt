@@ -1,11 +1,9 @@
 -- 18 is kept: where two components are confluent in the states that they can reach, the merged one is in those that it can reach; and so of a model.
-use mathlib.Core.Path.{_≡_, refl, sym, _∙_, ap}
-use mathlib.Core.Logic.{_≢_}
+use mathlib.Core.Path.{_≡_}
 use mathlib.Core.Option.{Option, none}
 use Prim.Native.Nat.{ℕ, suc, _<_}
 use native.Mathlib.Omega.{arith}
 use lib.ListN.{length}
-use Rattle.laws.specs.Sets.{_∈_}
 use Rattle.laws.proofs.TestLaws.{apart-cases}
 use Rattle.answer.specs.Told.{Told, answered}
 use Rattle.iosa.specs.Model.{Comp, Model, compAt}
@@ -15,7 +13,7 @@ use Rattle.iosa.specs.Product.{_⊗_}
 use Rattle.iosa.specs.Checks.{confluentOf}
 use Rattle.iosa.specs.Merge.{merged, mergeOf}
 use Rattle.iosa.specs.MergedAs.{pairOf}
-use Rattle.iosa.specs.MergedExactly.{MergedModel, MergedExactly, ReachedPair}
+use Rattle.iosa.specs.MergedExactly.{MergedModel, MergedExactly}
 use Rattle.iosa.proofs.Acceptance.ConfluentExactly.{confluent-exactly, confluent-accepted}
 use Rattle.iosa.proofs.Settling.OwnNames.{component-own, product-own}
 use Rattle.iosa.proofs.Settling.ProductConditions.{conditions-constraints}
@@ -51,12 +49,15 @@ module _ (c d : Comp) (wc : WellComp c) (wd : WellComp d) (oc : Conditions (auto
         let v = k .meet p′ q′ in
         let o = product-own A B (component-own c wc) (component-own d wd) .rows {t = v .0} (v .1) .target in (
           pairOf d (v .0 .0) (v .0 .1),
-          leads-from {z = pairOf d (v .0 .0) (v .0 .1)} (e .target) (exact .rows (e .s′) (e .t′) (v .0 .0) (v .0 .1) 0 b Q (e .s′-below) (e .t′-below) (o .0) (o .1) .1 (v .1)),
-          leads-from {z = pairOf d (v .0 .0) (v .0 .1)} (f .target) (exact .rows (f .s′) (f .t′) (v .0 .0) (v .0 .1) 0 a R (f .s′-below) (f .t′-below) (o .0) (o .1) .1 (v .2)),
+          leads-from {z = pairOf d (v .0 .0) (v .0 .1)} (e .target)
+              (exact .rows (e .s′) (e .t′) (v .0 .0) (v .0 .1) 0 b Q (e .s′-below) (e .t′-below) (o .0) (o .1) .1 (v .1)),
+          leads-from {z = pairOf d (v .0 .0) (v .0 .1)} (f .target)
+              (exact .rows (f .s′) (f .t′) (v .0 .0) (v .0 .1) 0 a R (f .s′-below) (f .t′-below) (o .0) (o .1) .1 (v .2)),
         );
   }
 
-  pub merged-stays-confluent : Confluent (autoOf c) (ReachedIn c) → Confluent (autoOf d) (ReachedIn d) → Confluent (autoOf (merged c d)) (ReachedIn (merged c d))
+  pub merged-stays-confluent : Confluent (autoOf c) (ReachedIn c) → Confluent (autoOf d) (ReachedIn d)
+      → Confluent (autoOf (merged c d)) (ReachedIn (merged c d))
   merged-stays-confluent k l =
       let p = product-is-confluent A B (ReachedIn c) (ReachedIn d) (component-own c wc) (component-own d wd) j k l in
       record {
@@ -79,7 +80,8 @@ module _ (m : Model) (i : ℕ) (n : Model) (w : WellFormed m) (o : Conforming m)
         let below : i < length m = omega (arith, r .neighbour) in
         apart-cases k i
         (λ e. rw (e, r .here) (merged-stays-confluent (compAt m i) (compAt m (suc i)) (w .each i below) (w .each (suc i) (r .neighbour))
-        (o .each i below) (o .each (suc i) (r .neighbour)) (j .pair i (suc i) (omega arith) (r .neighbour)) (al .each i below) (al .each (suc i) (r .neighbour))))
+        (o .each i below) (o .each (suc i) (r .neighbour)) (j .pair i (suc i) (omega arith) (r .neighbour))
+        (al .each i below) (al .each (suc i) (r .neighbour))))
         (λ l. rw (r .before k l) (al .each k (omega (arith, below))))
         (λ l. rw (r .after k l) (al .each (suc k) (omega (arith, r .fewer))));
   }

@@ -59,4 +59,5 @@ unfolding every
 every-regroups f g h k e [] ys zs = refl
 every-regroups f g h k e (x ∷ xs) ys zs =
     every-append f (map (g x) ys) (every g xs ys) zs
-    ∙ ap₂ _++_ (every-map-left f (g x) ys zs ∙ ap (λ q. every (q x) ys zs) e ∙ sym (map-every (h x) k ys zs)) (every-regroups f g h k e xs ys zs)
+    ∙ ap₂ _++_ (every-map-left f (g x) ys zs ∙ ap (λ q. every (q x) ys zs) e ∙ sym (map-every (h x) k ys zs))
+    (every-regroups f g h k e xs ys zs)

@@ -7,11 +7,10 @@ use native.Mathlib.Omega.{arith}
 use lib.ListN.{length}
 use Rattle.laws.proofs.PairLaws.{pair-below}
 use Rattle.answer.specs.Told.{Told, Answer, answered}
-use Rattle.iosa.specs.Model.{Comp, Model}
+use Rattle.iosa.specs.Model.{Model}
 use Rattle.iosa.specs.WellFormed.{WellFormed}
 use Rattle.iosa.specs.Automaton.{Conforming, Joinable}
 use Rattle.iosa.specs.Product.{Within}
-use Rattle.iosa.specs.Checks.{acceptOf}
 use Rattle.iosa.specs.Merge.{merged, mergedAt, mergeOf}
 use Rattle.iosa.specs.MergedAs.{Replaced, Small, MergedAnswer, is25, is26, is-merged}
 use Rattle.iosa.specs.MergedExactly.{MergedModel, MergeAnswer, small-enough, pairedAt}
@@ -65,15 +64,16 @@ pub record Known (m : Model) (i : ℕ) (n : Model) : Type 0 where
 
 pub known : (m : Model) (i : ℕ) (n : Model) → WellFormed m → Conforming m → Joinable m → MergedInto m i n → Known m i n
 known m i n w o j r =
-    let e = merge-exactly m i (accepted-exactly m w .1 (o, j)) (answered n) .1 (merged-answers-exactly m i w (o, j) (answered n) .1 (is-merged (r .replaced) (r .small))) in
+    let e = merge-exactly m i (accepted-exactly m w .1 (o, j)) (answered n) .1
+    (merged-answers-exactly m i w (o, j) (answered n) .1 (is-merged (r .replaced) (r .small))) in
     let a = merge-answered m i none n w e in
     let x = merging-is-exact m i none n w e in
     let k = merged-model-conforms m i n w o j x in
     record { neighbour = a .neighbour; model = a .model; answers = e; exact = x; conforming = k .0; joinable = k .1 }
 
 -- m is merged into n at i and n into p at i, or m into k at i+1 and k into q at i
-pub either-way : (m : Model) (i : ℕ) (n p k q : Model) → WellFormed m → Conforming m → Joinable m → MergedInto m i n → MergedInto n i p → MergedInto m (suc i) k → MergedInto k i q
-    → p ≡ q
+pub either-way : (m : Model) (i : ℕ) (n p k q : Model) → WellFormed m → Conforming m → Joinable m → MergedInto m i n → MergedInto n i p
+    → MergedInto m (suc i) k → MergedInto k i q → p ≡ q
 either-way m i n p k q w o j a b d e =
     let x = known m i n w o j a in
     let y = known n i p (x .exact .well-formed) (x .conforming) (x .joinable) b in

@@ -2,24 +2,23 @@
 use mathlib.Core.Path.{_≡_, refl, sym, _∙_, ap, ap₂}
 use mathlib.Core.Bool.{Bool, true, false, cond, _||_}
 use mathlib.Core.Option.{Option, none, some}
-use mathlib.Core.List.{List, [], _∷_, _++_, map}
+use mathlib.Core.List.{List, [], _∷_, map}
 use Prim.Native.Nat.{ℕ, zero, suc, _+_, _<_}
 use native.Mathlib.Omega.{arith}
 use lib.ListN.{length, getD}
 use lib.Bits.{or-zero-r}
-use Rattle.laws.specs.Sets.{has, _∪_, _∈_}
+use Rattle.laws.specs.Sets.{has, _∪_}
 use Rattle.laws.specs.Search.{seek, when, mapSome}
 use Rattle.laws.proofs.SetLaws.{has-or, or-assoc}
 use Rattle.laws.proofs.SearchLaws.{seek-here, seek-next, seek-end}
 use Rattle.laws.proofs.RangeLaws.{seek-shift, seek-ext}
-use Rattle.answer.specs.Limits.{maxActions}
-use Rattle.iosa.specs.Model.{Row, Comp, Model, noRow, rowAt, acts}
+use Rattle.iosa.specs.Model.{Row, Comp, Model, noRow, acts}
 use Rattle.iosa.specs.WellFormed.{WellComp}
 use Rattle.iosa.specs.Product.{Within}
 use Rattle.iosa.specs.Stepped.{Gone}
 use Rattle.iosa.specs.Checks.{leaves, rowFor}
 use Rattle.iosa.specs.Step.{goneBy, move, together, moveAll, isUout, urgentStep}
-use Rattle.iosa.specs.Merge.{rowsBy, firstMoves, secondMoves, bothMove, eachWith, pairRows, merged, mergedAt}
+use Rattle.iosa.specs.Merge.{rowsBy, firstMoves, secondMoves, eachWith, pairRows, merged, mergedAt}
 use Rattle.iosa.specs.MergedAs.{pairOf}
 use Rattle.iosa.specs.MergedExactly.{pairedAt}
 use Rattle.iosa.proofs.Acceptance.Rows.{act-below}
@@ -48,7 +47,8 @@ first-of (r ∷ rs) s a = go (leaves r s a) refl (first-of rs s a)
         seek-next (leaving (r ∷ rs) s a) 0 (suc (length rs)) (omega arith) (ap (λ b. when b r) e)
         ∙ ap (seek (leaving (r ∷ rs) s a) 1) n
         ∙ seek-shift (leaving (r ∷ rs) s a) 1 0 (length rs)
-        ∙ seek-ext (λ j. leaving (r ∷ rs) s a (1 + j)) (leaving rs s a) 0 (length rs) (λ j p q. let n : 1 + j ≡ suc j = omega arith in ap (leaving (r ∷ rs) s a) n)
+        ∙ seek-ext (λ j. leaving (r ∷ rs) s a (1 + j)) (leaving rs s a) 0 (length rs)
+        (λ j p q. let n : 1 + j ≡ suc j = omega arith in ap (leaving (r ∷ rs) s a) n)
         ∙ ih
 
 row-for : (c : Comp) (s a : ℕ) → rowFor c s a ≡ headOf (rowsBy (c .rows) s a)

@@ -1,18 +1,17 @@
 -- The rows of a merged component that leave a pair by an action are those that the two have for it, in order.
 use mathlib.Core.Path.{_≡_, refl, sym, _∙_, ap, ap₂}
-use mathlib.Core.Logic.{⊎-elim}
 use mathlib.Core.Bool.{Bool, true, false, cond, _||_}
 use mathlib.Core.List.{List, [], _∷_, _++_, map, List·Memᴰ as In, List·Memᴰ·head as here, List·Memᴰ·tail as there, List·Memᴰ·not-nil as in-none}
-use Prim.Native.Nat.{ℕ, zero, suc, _+_, _≤_, _<_}
+use Prim.Native.Nat.{ℕ, zero, suc, _<_}
 use native.Mathlib.Omega.{arith}
-use Rattle.laws.specs.Sets.{has, _∪_, _∖_, _∈_}
+use Rattle.laws.specs.Sets.{has, _∪_, _∖_}
 use Rattle.laws.specs.Fold.{spread}
 use Rattle.laws.proofs.SetLaws.{has-or, or-regroup, without-or}
 use Rattle.laws.proofs.ListLaws.{map-in, spread-in}
 use Rattle.laws.proofs.PairLaws.{pair-parts}
 use Rattle.answer.specs.Limits.{maxActions}
 use Rattle.iosa.specs.Model.{Row, Comp, inputs, outputs, acts}
-use Rattle.iosa.specs.Merge.{rowsBy, firstMoves, secondMoves, bothMove, eachWith, pairRows, productRows, merged}
+use Rattle.iosa.specs.Merge.{rowsBy, firstMoves, secondMoves, eachWith, pairRows, productRows, merged}
 use Rattle.iosa.specs.MergedAs.{pairOf}
 use Rattle.iosa.proofs.Acceptance.Rows.{leaves-true}
 use Rattle.iosa.proofs.Merging.Rows.{rows-by-in, by-append, each-with-in}
@@ -55,7 +54,8 @@ module _ (c d : Comp) where
       both m = let p = each-with-in d s t (rowsBy (c .rows) s a) (rowsBy (d .rows) t a) m in rw (p .4) (refl, rows-by-in (c .rows) s a (p .2) .2)
 
       go : (b e : Bool)
-          → In x (cond b (cond e (eachWith d s t (rowsBy (c .rows) s a) (rowsBy (d .rows) t a)) (map (firstMoves d s t) (rowsBy (c .rows) s a))) (cond e (map (secondMoves d s t) (rowsBy (d .rows) t a)) []))
+          → In x (cond b (cond e (eachWith d s t (rowsBy (c .rows) s a) (rowsBy (d .rows) t a)) (map (firstMoves d s t) (rowsBy (c .rows) s a)))
+          (cond e (map (secondMoves d s t) (rowsBy (d .rows) t a)) []))
           → (x .from ≡ pairOf d s t) × (x .action ≡ a)
       go true true m = both m
       go true false m = first m

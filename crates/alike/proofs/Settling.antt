@@ -1,13 +1,11 @@
 -- Settling of the merged model from the pairs of s, by our rule and by a list, is settling of the model from s, with its end paired.
 use mathlib.Core.Path.{_≡_, refl, sym, _∙_, ap}
-use mathlib.Core.Bool.{Bool, true, false, not}
+use mathlib.Core.Bool.{true, false, not}
 use mathlib.Core.Option.{Option, none, some}
 use mathlib.Core.List.{List, [], _∷_}
-use Prim.Native.Nat.{ℕ, zero, suc, _≤_, _<_}
-use native.Mathlib.Omega.{arith}
+use Prim.Native.Nat.{ℕ, zero, suc, _<_}
 use lib.ListN.{length}
-use Rattle.laws.specs.Sets.{_∪_}
-use Rattle.laws.specs.Search.{seek, isSome, orElse, mapSome}
+use Rattle.laws.specs.Search.{isSome, orElse, mapSome}
 use Rattle.laws.proofs.RangeLaws.{seek-ext, map-seek, some-map}
 use Rattle.answer.specs.Limits.{maxActions}
 use Rattle.answer.specs.Told.{Told, tell, Answer, answered, refused}
@@ -24,7 +22,7 @@ use Rattle.iosa.specs.MergedExactly.{pairedAt}
 use Rattle.iosa.proofs.Settling.Each.{All}
 use Rattle.iosa.proofs.Settling.Descent.{Keeps}
 use Rattle.iosa.proofs.Settling.Rule.{lowest-some}
-use Rattle.alike.specs.Alike.{SameSettling, SameAnswer, both-settle, both-refuse}
+use Rattle.alike.specs.Alike.{SameAnswer, both-settle, both-refuse}
 use Rattle.alike.proofs.Moves.{goneInto, steps-of-pairs}
 
 -- ---- one system whose steps are another's, its states read through f
@@ -81,7 +79,8 @@ module _ (m : Model) (i : ℕ) (w : All WellComp m) (h : suc i < length m) (keep
   same : (s : List ℕ) → Within m s → (a : ℕ) → urgentStep (mergedAt m i) (f s) a ≡ mapSome (goneInto f) (urgentStep m s a)
   same = steps-of-pairs i m w h
 
-  pub merged-settles-alike : (n : ℕ) (s : List ℕ) → Within m s → settle (urgentStep (mergedAt m i)) n (pairedAt m i s) ≡ settlingInto (pairedAt m i) (settle (urgentStep m) n s)
+  pub merged-settles-alike : (n : ℕ) (s : List ℕ) → Within m s
+      → settle (urgentStep (mergedAt m i)) n (pairedAt m i s) ≡ settlingInto (pairedAt m i) (settle (urgentStep m) n s)
   merged-settles-alike = settle-into f (Within m) (urgentStep m) (urgentStep (mergedAt m i)) keeps same
 
   pub merged-stable-alike : (s : List ℕ) → Within m s → isStable (mergedAt m i) (pairedAt m i s) ≡ isStable m s
@@ -99,7 +98,8 @@ module _ (m : Model) (i : ℕ) (w : All WellComp m) (h : suc i < length m) (keep
   unfolding play
   merged-plays-alike k [] s ok = ap (λ b. answered (resting b (f s))) (merged-stable-alike s ok)
   merged-plays-alike k (a ∷ l) s ok =
-      ap (λ o. elim o as (λ _. Answer (Settling (List ℕ))) [ none ↦ refused (tell 23 (k ∷ [])) | some g ↦ afterListed g (play (mergedAt m i) (suc k) l (g .after)) ])
+      ap (λ o. elim o as (λ _. Answer (Settling (List ℕ)))
+      [ none ↦ refused (tell 23 (k ∷ [])) | some g ↦ afterListed g (play (mergedAt m i) (suc k) l (g .after)) ])
       (same s ok a)
       ∙ go (urgentStep m s a) (λ g e. merged-plays-alike (suc k) l (g .after) (keeps s a g ok e))
     where
@@ -107,7 +107,8 @@ module _ (m : Model) (i : ℕ) (w : All WellComp m) (h : suc i < length m) (keep
           → ((g : Gone (List ℕ)) → o ≡ some g → play (mergedAt m i) (suc k) l (f (g .after)) ≡ answerInto f (play m (suc k) l (g .after)))
           → (elim (mapSome (goneInto f) o) as (λ _. Answer (Settling (List ℕ)))
           [ none ↦ refused (tell 23 (k ∷ [])) | some g ↦ afterListed g (play (mergedAt m i) (suc k) l (g .after)) ])
-          ≡ answerInto f (elim o as (λ _. Answer (Settling (List ℕ))) [ none ↦ refused (tell 23 (k ∷ [])) | some g ↦ afterListed g (play m (suc k) l (g .after)) ])
+          ≡ answerInto f (elim o as (λ _. Answer (Settling (List ℕ)))
+          [ none ↦ refused (tell 23 (k ∷ [])) | some g ↦ afterListed g (play m (suc k) l (g .after)) ])
       go none ih = refl
       go (some g) ih = ap (afterListed (goneInto f g)) (ih g refl) ∙ listed-into g (play m (suc k) l (g .after))
 

@@ -1,11 +1,9 @@
 -- Merging does not matter, with nothing in it that computes: 18, series, stability, settling by rule and by list, and the way in which three are merged.
 use mathlib.Core.Path.{_≡_, refl, sym, _∙_, ap, subst}
 use mathlib.Core.Logic.{_↔_}
-use mathlib.Core.Bool.{true}
-use mathlib.Core.Option.{Option, none, some}
-use mathlib.Core.List.{List, [], _∷_}
-use Prim.Native.Nat.{ℕ, suc, _<_}
-use lib.ListN.{length}
+use mathlib.Core.Option.{none}
+use mathlib.Core.List.{List, _∷_}
+use Prim.Native.Nat.{ℕ, suc}
 use Rattle.laws.specs.Search.{mapSome}
 use Rattle.laws.proofs.SearchLaws.{map-some}
 use Rattle.answer.specs.Told.{Answer}
@@ -14,7 +12,6 @@ use Rattle.iosa.specs.WellFormed.{WellComp, WellFormed}
 use Rattle.iosa.specs.Automaton.{UrgentRow, Stable, Conforming, Joinable, AllConfluent}
 use Rattle.iosa.specs.Thesis.{AllDefinition41}
 use Rattle.iosa.specs.Product.{product, stateOf, Within, Reached, Series, over, next}
-use Rattle.iosa.specs.Stepped.{Gone}
 use Rattle.iosa.specs.Checks.{confluentOf}
 use Rattle.iosa.specs.Step.{urgentStep, isStable}
 use Rattle.iosa.specs.Settle.{beginFault, settleOf, settleListOf}
@@ -104,8 +101,8 @@ module _ (c : Comp) (cs : List Comp) (well : WellFormed (c ∷ cs)) (d : AllDefi
       record { last = n .last; within = n .within; state = n .state; series = next (p .row) (n .series) }
 
   -- a series of the merged system, from the pairs of s, is one of the system, from s
-  pub the-series-come-back : (s l : List ℕ) (R : ℕ) (y : product e es .State) → Within (c ∷ cs) s → Series (product e es) (stateOf e es (pairedAt (c ∷ cs) i s)) l R y
-      → SeriesBefore c cs i e es s l R y
+  pub the-series-come-back : (s l : List ℕ) (R : ℕ) (y : product e es .State) → Within (c ∷ cs) s
+      → Series (product e es) (stateOf e es (pairedAt (c ∷ cs) i s)) l R y → SeriesBefore c cs i e es s l R y
   the-series-come-back s l R y ok q = series-off q s ok refl
 
   -- stable before is stable after, and back

@@ -1,14 +1,14 @@
--- Merging does not matter, of the calls: on a table and on the one that `merge` wrote, `accept` and `confluent` pass, and `settle` and `settle_list` answer the same;
--- and three are merged either way into one image.
+-- Merging does not matter, of the calls: on a table and on the one that `merge` wrote, `accept` and `confluent` pass, and `settle` and `settle_list`
+-- answer the same; and three are merged either way into one image.
 use mathlib.Core.Path.{_≡_, refl, sym, _∙_, ap, subst}
 use mathlib.Core.Bool.{Bool}
 use mathlib.Core.Option.{Option, none, some}
-use mathlib.Core.List.{List, [], _∷_}
+use mathlib.Core.List.{List, _∷_}
 use Prim.Native.Nat.{ℕ, suc}
 use native.Mathlib.Omega.{arith}
 use lib.ListN.{length, take}
-use Rattle.answer.specs.Told.{Told, Answer, answered, refused, saysChecked, saysVerdict}
-use Rattle.answer.specs.State.{partsOf, withParts}
+use Rattle.answer.specs.Told.{Told, Answer, answered, refused, saysChecked}
+use Rattle.answer.specs.State.{partsOf}
 use Rattle.answer.specs.declared.State.{State}
 use Rattle.answer.specs.declared.Settled.{Settled}
 use Rattle.answer.specs.declared.Checked.the-variants.{Fine}
@@ -22,16 +22,14 @@ use Rattle.iosa.specs.Step.{unless}
 use Rattle.iosa.specs.Settle.{settleOf, settleListOf}
 use Rattle.iosa.specs.Orders.{Settling}
 use Rattle.iosa.specs.MergedExactly.{pairedAt}
-use Rattle.iosa.specs.Answers.{SettleAnswer, SettleListAnswer}
 use Rattle.iosa.proofs.Acceptance.Accepted.{accepted-exactly}
 use Rattle.iosa.proofs.Acceptance.ConfluentExactly.{confluent-accepted}
 use Rattle.iosa.proofs.Settling.Parts.{within-length}
 use Rattle.iosa.proofs.Settling.Called.{settle-answers-exactly, settle-list-answers-exactly, demand-3-of-the-call}
 use Rattle.iosa.proofs.Settling.Listed.{list-that-is-a-series}
-use Rattle.iosa.proofs.Thesis.Proposition41.{conforming-definition}
 use Rattle.iosa.proofs.Answers.Models.{settle-model-exactly, settle-list-model-exactly}
 use Rattle.layout.specs.Layout.{imageWords}
-use Rattle.layout.specs.Image.{modelOf, imageOf}
+use Rattle.layout.specs.Image.{imageOf}
 use Rattle.layout.specs.OnImage.{Holds}
 use Rattle.table.specs.OnTable.{onTable, checkOn}
 use Rattle.table.proofs.OnTableLaws.{on-image}
@@ -41,7 +39,7 @@ use Rattle.table.proofs.OnImageExactly.{holds-image, held-model}
 use Rattle.settling.specs.Gives.{SettleAnswers, traced}
 use Rattle.admit.specs.Admit.{Accepted, Confluently}
 use Rattle.merge.specs.Merging.{Merging}
-use Rattle.run.specs.Calls.{SettleCall, SettleListCall, settleOn, settleListOn, traceAfter}
+use Rattle.run.specs.Calls.{SettleCall, SettleListCall, traceAfter}
 use Rattle.run.specs.Demand3.{SettledFrom}
 use Rattle.alike.specs.Alike.{MergedInto, SameAnswer, both-settle, both-refuse}
 use Rattle.alike.proofs.Models.{known, either-way}
@@ -99,7 +97,9 @@ module _ (m : Model) (i : ℕ) (x y : State) (r q : Settled) where
     verdict = verdict-fixed (q .verdict) (r .verdict) (refused t) (v .0) (u .0);
     count = v .1 ∙ sym (u .1);
     resets = v .2 ∙ sym (u .2);
-    end = λ b p. let z : _≡_ {A = Option (Answer Bool)} (some (answered b)) (some (refused t)) = sym p ∙ u .0 in let o : _≡_ {A = ℕ} 0 1 = cc in absurd (omega arith);
+    end = λ b p.
+        let z : _≡_ {A = Option (Answer Bool)} (some (answered b)) (some (refused t)) = sym p ∙ u .0 in
+        let o : _≡_ {A = ℕ} 0 1 = cc in absurd (omega arith);
   }
 
 traces-alike : (m : Model) (i : ℕ) (old : List ℕ) {a b : Answer (Settling (List ℕ))} → SameAnswer m i a b → traceAfter b old ≡ traceAfter a old
@@ -122,6 +122,11 @@ module _ (c : Comp) (cs : List Comp) (well : WellFormed (c ∷ cs)) (x : State) 
       let k = accepted-exactly (c ∷ cs) well .0 (confluent-accepted (c ∷ cs) (p .0)) in
       in-range (d .state) (p .1 .0) (list-that-is-a-series c cs well (k .0) (k .1) (partsOf x) (p .1 .0) l d .0 (p .3) .range)
 
+-- where it answers, the state has as many numbers as the state that it began in
+abbrev Long : (Model → List ℕ → Answer (Settling (List ℕ))) → Type 0
+Long f = (c : Comp) (cs : List Comp) → WellFormed (c ∷ cs) → (z : State) (d : Settling (List ℕ)) → f (c ∷ cs) (partsOf z) ≡ answered d
+    → length (d .state) ≡ z .count
+
 -- ---- "settling from a composed state that both accept": of the table from x, and of the one that `merge` wrote from y, which has the pairs of x
 module _ (t : List ℕ) (i : ℕ) (was into : List ℕ) (g : Merging t i was Fine into) (x y : State) (before : SettledFrom t x) (after : SettledFrom into y)
     (pairs : partsOf y ≡ pairedAt (before .first ∷ before .others) i (partsOf x)) where
@@ -138,8 +143,7 @@ module _ (t : List ℕ) (i : ℕ) (was into : List ℕ) (g : Merging t i was Fin
   paired = subst (Reached n) pairs (after .reached)
 
   -- a call that answers of a table what f answers of the model that it holds
-  module _ (f : Model → List ℕ → Answer (Settling (List ℕ)))
-      (long : (c : Comp) (cs : List Comp) → WellFormed (c ∷ cs) → (z : State) (d : Settling (List ℕ)) → f (c ∷ cs) (partsOf z) ≡ answered d → length (d .state) ≡ z .count)
+  module _ (f : Model → List ℕ → Answer (Settling (List ℕ))) (long : Long f)
       (stays : SameAnswer (before .first ∷ before .others) i (f (before .first ∷ before .others) (partsOf x))
       (f (after .first ∷ after .others) (pairedAt (before .first ∷ before .others) i (partsOf x)))) where
     on-first : onTable t (λ z. f z (partsOf x)) ≡ f (before .first ∷ before .others) (partsOf x)
@@ -163,22 +167,26 @@ module _ (t : List ℕ) (i : ℕ) (was into : List ℕ) (g : Merging t i was Fin
       → SameSettled (before .first ∷ before .others) i r q × (late ≡ new)
   settle-is-alike budget old new late r q p v =
       let f : Model → List ℕ → Answer (Settling (List ℕ)) = λ z s. settleOf z s budget (length old) in
-      let long : (c : Comp) (cs : List Comp) → WellFormed (c ∷ cs) → (z : State) (d : Settling (List ℕ)) → f (c ∷ cs) (partsOf z) ≡ answered d → length (d .state) ≡ z .count =
-      λ c cs w z d e. settled-length c cs w z budget (length old) d e in
-      let stays = the-settling-stays (before .first) (before .others) (before .holds .well) (before .definition) (before .joinable) i (after .first) (after .others)
-      into-n (before .confluent) (partsOf x) (before .reached) paired budget (length old) (f m (partsOf x)) (f n (pairedAt m i (partsOf x)))
-      (settle-model-exactly (before .first) (before .others) (before .holds .well) (partsOf x) budget (length old) (f m (partsOf x)) .0 refl)
-      (settle-model-exactly (after .first) (after .others) (after .holds .well) (pairedAt m i (partsOf x)) budget (length old) (f n (pairedAt m i (partsOf x))) .0 refl) in
+      let long : Long f = λ c cs w z d e. settled-length c cs w z budget (length old) d e in
+      let s = partsOf x in
+      let u = pairedAt m i s in
+      let stays = the-settling-stays (before .first) (before .others) (before .holds .well) (before .definition) (before .joinable) i (after .first)
+      (after .others) into-n (before .confluent) s (before .reached) paired budget (length old) (f m s) (f n u)
+      (settle-model-exactly (before .first) (before .others) (before .holds .well) s budget (length old) (f m s) .0 refl)
+      (settle-model-exactly (after .first) (after .others) (after .holds .well) u budget (length old) (f n u) .0 refl) in
       (tables-alike f long stays r q (p .answer) (v .answer), v .trace ∙ traces-alike m i old (same-on f long stays) ∙ sym (p .trace))
 
   -- by list: the same verdict, count and resets, or 23 at the same index
-  pub settle-list-is-alike : (l : List ℕ) (r q : Settled) → SettleListCall t x l r → SettleListCall into y l q → SameSettled (before .first ∷ before .others) i r q
+  pub settle-list-is-alike : (l : List ℕ) (r q : Settled) → SettleListCall t x l r → SettleListCall into y l q
+      → SameSettled (before .first ∷ before .others) i r q
   settle-list-is-alike l r q p v =
       let f : Model → List ℕ → Answer (Settling (List ℕ)) = λ z s. settleListOf z s l in
-      let stays = the-listing-stays (before .first) (before .others) (before .holds .well) (before .definition) (before .joinable) i (after .first) (after .others)
-      into-n (before .confluent) (partsOf x) (before .reached) paired l (f m (partsOf x)) (f n (pairedAt m i (partsOf x)))
-      (settle-list-model-exactly (before .first) (before .others) (before .holds .well) (partsOf x) l (f m (partsOf x)) .0 refl)
-      (settle-list-model-exactly (after .first) (after .others) (after .holds .well) (pairedAt m i (partsOf x)) l (f n (pairedAt m i (partsOf x))) .0 refl) in
+      let s = partsOf x in
+      let u = pairedAt m i s in
+      let stays = the-listing-stays (before .first) (before .others) (before .holds .well) (before .definition) (before .joinable) i (after .first)
+      (after .others) into-n (before .confluent) s (before .reached) paired l (f m s) (f n u)
+      (settle-list-model-exactly (before .first) (before .others) (before .holds .well) s l (f m s) .0 refl)
+      (settle-list-model-exactly (after .first) (after .others) (after .holds .well) u l (f n u) .0 refl) in
       tables-alike f (λ c cs w z d e. listed-length c cs w z l d e) stays r q (p .answer) (v .answer)
 
 -- ---- "Merging (first, second), third and first, (second, third)": t is merged at i to n and n at i to p, or t at i+1 to k and k at i to q

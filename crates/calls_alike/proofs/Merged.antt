@@ -1,16 +1,14 @@
 -- Where the contract of `merge` says fine, the table holds a model, the second table holds the model that it is merged into, and neither holds another.
-use mathlib.Core.Path.{_≡_, refl, sym, _∙_, ap, subst}
-use mathlib.Core.Option.{Option, some, Option·some-inj}
-use mathlib.Core.List.{List, [], _∷_, _++_}
+use mathlib.Core.Path.{_≡_, sym, _∙_, ap}
+use mathlib.Core.Option.{some}
+use mathlib.Core.List.{List, _∷_}
 use Prim.Native.Nat.{ℕ}
 use native.Mathlib.Omega.{arith}
-use lib.ListN.{length, take, drop}
+use lib.ListN.{take, drop}
 use lib.Seq.{take-at}
-use Rattle.answer.specs.Told.{Told, Answer, answered, refused, saysChecked, doneOf}
-use Rattle.answer.specs.declared.Checked.{Checked}
+use Rattle.answer.specs.Told.{Told, Answer, refused, saysChecked, doneOf}
 use Rattle.answer.specs.declared.Checked.the-variants.{Fine}
-use Rattle.iosa.specs.Model.{Comp, Model}
-use Rattle.iosa.specs.WellFormed.{WellFormed}
+use Rattle.iosa.specs.Model.{Model}
 use Rattle.iosa.specs.Automaton.{Conforming, Joinable}
 use Rattle.iosa.specs.InOrder.{refuses, passes}
 use Rattle.iosa.specs.Answers.{MergeCallAnswer}
@@ -18,7 +16,6 @@ use Rattle.iosa.specs.MergedAs.{is25, is26, is-merged}
 use Rattle.iosa.proofs.Thesis.Proposition41.{conforming-definition}
 use Rattle.layout.specs.Layout.{imageWords}
 use Rattle.layout.specs.Image.{imageOf}
-use Rattle.layout.specs.Lent.{tableAfter}
 use Rattle.layout.specs.OnImage.{Holds, OnImage, is20, of-model, FillsTable, bytesOf, imageBytes}
 use Rattle.layout.proofs.ReadBack.{length-of-image}
 use Rattle.table.proofs.OnImageExactly.{held-model}
