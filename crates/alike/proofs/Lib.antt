@@ -6,4 +6,5 @@ pub mod Confluence
 pub mod Associative
 pub mod Models
 pub mod Whole
+pub mod Fixes
 pub mod Witness

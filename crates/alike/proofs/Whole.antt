@@ -26,6 +26,7 @@ use Rattle.iosa.proofs.Settling.Called.{begin-faultless}
 use Rattle.iosa.proofs.Settling.Descent.{Keeps}
 use Rattle.iosa.proofs.Settling.ProductOfMany.{wells}
 use Rattle.iosa.proofs.Settling.Steps.{step-is-a-row, row-is-a-step, steps-keep-the-range, stable-exactly}
+use Rattle.iosa.proofs.Merging.SameRuns.{merging-keeps-the-series}
 use Rattle.iosa.proofs.Reaching.Keeps.{reached-within}
 use Rattle.iosa.proofs.Reaching.Refused19.{reach-faultless}
 use Rattle.iosa.proofs.Thesis.Proposition41.{conforming-definition}
@@ -100,10 +101,16 @@ module _ (c : Comp) (cs : List Comp) (well : WellFormed (c ∷ cs)) (d : AllDefi
       let n = series-off rest (p .after) (p .within) (p .state) in
       record { last = n .last; within = n .within; state = n .state; series = next (p .row) (n .series) }
 
-  -- a series of the merged system, from the pairs of s, is one of the system, from s
-  pub the-series-come-back : (s l : List ℕ) (R : ℕ) (y : product e es .State) → Within (c ∷ cs) s
-      → Series (product e es) (stateOf e es (pairedAt (c ∷ cs) i s)) l R y → SeriesBefore c cs i e es s l R y
-  the-series-come-back s l R y ok q = series-off q s ok refl
+  series-again : (s l : List ℕ) (R : ℕ) (y : product e es .State) → Within (c ∷ cs) s → SeriesBefore c cs i e es s l R y
+      → Series (product e es) (stateOf e es (pairedAt (c ∷ cs) i s)) l R y
+  series-again s l R y ok b =
+      subst (Series (product e es) (stateOf e es (pairedAt m i s)) l R) (sym (b .state))
+      (merging-keeps-the-series c cs i none e es well (k .answers) s (b .last) l R ok (b .within) (b .series))
+
+  -- a series of the merged system, from the pairs of s, is one of the system, from s, and back
+  pub the-series-stay-both-ways : (s l : List ℕ) (R : ℕ) (y : product e es .State) → Within (c ∷ cs) s
+      → Series (product e es) (stateOf e es (pairedAt (c ∷ cs) i s)) l R y ↔ SeriesBefore c cs i e es s l R y
+  the-series-stay-both-ways s l R y ok = (λ q. series-off q s ok refl, series-again s l R y ok)
 
   -- stable before is stable after, and back
   pub the-stable-stay : (s : List ℕ) → Within (c ∷ cs) s → Stable (product c cs) (stateOf c cs s) ↔ Stable (product e es) (stateOf e es (pairedAt (c ∷ cs) i s))

@@ -7,7 +7,7 @@ use mathlib.Core.List.{List, _∷_}
 use Prim.Native.Nat.{ℕ, suc}
 use native.Mathlib.Omega.{arith}
 use lib.ListN.{length, take}
-use Rattle.answer.specs.Told.{Told, Answer, answered, refused, saysChecked}
+use Rattle.answer.specs.Told.{Told, Answer, answered, refused, saysChecked, saysVerdict}
 use Rattle.answer.specs.State.{partsOf}
 use Rattle.answer.specs.declared.State.{State}
 use Rattle.answer.specs.declared.Settled.{Settled}
@@ -204,3 +204,9 @@ merged-either-way t i was₁ n was₂ p was₃ k was₄ q a b d e =
     (held-into t (suc i) was₃ k d m (z .after) (x .holds) (z .holds-again))
     (held-into k i was₄ q e (z .after) (v .after) (z .holds-again) (v .holds-again)) in
     y .holds-again .front ∙ ap imageOf one ∙ sym (v .holds-again .front)
+
+-- ---- of one answer there is one that is the same merged: verdict, steps, resets and the numbers of its state
+pub one-settled-again : (m : Model) (i : ℕ) (r q p : Settled) → SameSettled m i r q → SameSettled m i r p
+    → (q .verdict ≡ p .verdict) × (q .steps ≡ p .steps) × (q .resets ≡ p .resets)
+    × ((b : Bool) → saysVerdict (r .verdict) ≡ some (answered b) → partsOf (q .state) ≡ partsOf (p .state))
+one-settled-again m i r q p u v = (u .verdict ∙ sym (v .verdict), u .count ∙ sym (v .count), u .resets ∙ sym (v .resets), λ b e. u .end b e ∙ sym (v .end b e))
