@@ -42,19 +42,15 @@ module _ {A B C : Type 0} where
   map-every h f [] ys = refl
   map-every h f (x ∷ xs) ys = map-append h (map (f x) ys) (every f xs ys) ∙ ap₂ _++_ (map-map h (f x) ys) (map-every h f xs ys)
 
-  pub every-append : (f : A → B → C) (xs zs : List A) (ys : List B) → every f (xs ++ zs) ys ≡ every f xs ys ++ every f zs ys
+  every-append : (f : A → B → C) (xs zs : List A) (ys : List B) → every f (xs ++ zs) ys ≡ every f xs ys ++ every f zs ys
   unfolding every
   every-append f [] zs ys = refl
   every-append f (x ∷ xs) zs ys = ap (λ l. map (f x) ys ++ l) (every-append f xs zs ys) ∙ sym (append-assoc (map (f x) ys) (every f xs ys) (every f zs ys))
 
-  pub every-none : (f : A → B → C) (xs : List A) → every f xs [] ≡ []
-  unfolding every
-  every-none f [] = refl
-  every-none f (x ∷ xs) = every-none f xs
-
 -- of three lists: the first two first, or the last two
 pub every-regroups : {A B C D E F : Type 0} (f : D → C → F) (g : A → B → D) (h : A → E → F) (k : B → C → E)
-    → _≡_ {A = A → B → C → F} (λ x y z. f (g x y) z) (λ x y z. h x (k y z)) → (xs : List A) (ys : List B) (zs : List C) → every f (every g xs ys) zs ≡ every h xs (every k ys zs)
+    → _≡_ {A = A → B → C → F} (λ x y z. f (g x y) z) (λ x y z. h x (k y z)) → (xs : List A) (ys : List B) (zs : List C)
+    → every f (every g xs ys) zs ≡ every h xs (every k ys zs)
 unfolding every
 every-regroups f g h k e [] ys zs = refl
 every-regroups f g h k e (x ∷ xs) ys zs =

@@ -51,7 +51,9 @@ spread-same f g k (suc n) h = ap₂ _++_ (h k (omega arith) (omega arith)) (spre
 module _ {A : Type 0} (f : ℕ → List A) where
   spread-shift : (d k n : ℕ) → spread f (d + k) n ≡ spread (λ j. f (d + j)) k n
   spread-shift d k zero = refl
-  spread-shift d k (suc n) = let e : suc (d + k) ≡ d + suc k = omega arith in ap {B = List A} (λ l. f (d + k) ++ l) (ap (λ x. spread f x n) e ∙ spread-shift d (suc k) n)
+  spread-shift d k (suc n) =
+      let e : suc (d + k) ≡ d + suc k = omega arith in
+      ap {B = List A} (λ l. f (d + k) ++ l) (ap (λ x. spread f x n) e ∙ spread-shift d (suc k) n)
 
   pairs-from : (n s m : ℕ) → spread f (s * n) (m * n) ≡ spread (λ s. spread (λ t. f (s * n + t)) 0 n) s m
   pairs-from n s zero = let e : 0 * n ≡ 0 = omega arith in rw e
