@@ -31,7 +31,7 @@ pub data Shape : Type 0 where
   nowhere whole line row bytes index clock component cell clash shared-action shared-clock spot : Shape
   deriving Discrete as same-shape
 
--- the shape of place of each number, from 0; which is none; 2, 4 and 5 "carry line and column" since request 2
+-- the shape of place of each number, from 0, which is none; 2, 4 and 5 "carry line and column" since request 2
 abbrev pub shapes : List Shape
 shapes =
     nowhere ∷ whole ∷ spot ∷ line ∷ spot ∷ spot ∷ line ∷ line ∷ whole ∷ whole ∷ row ∷ row ∷ cell ∷ cell ∷ component ∷ shared-action ∷ shared-clock

@@ -6,7 +6,7 @@ use native.Mathlib.Nat.{le-refl}
 use native.Mathlib.Omega.{arith}
 use lib.ListN.{length, getD, drop, length-drop}
 use Rattle.iosa.specs.Text.{comma}
-use Rattle.iosa.specs.Reading.{Got, Scan, stops, got, number, moreNumbers}
+use Rattle.iosa.specs.Reading.{Scan, stops, got, number, moreNumbers}
 use Rattle.fields.specs.declared.Cursor.{Cursor}
 use Rattle.fields.specs.declared.NumberScan.{NumberScan}
 use Rattle.fields.specs.declared.NumberScan.the-variants as OfNumber
@@ -38,10 +38,10 @@ module _ {A : Type 0} (with : A → ℕ → A) (all : A → List ℕ → A) (not
 
       -- ---- behind a comma
       module _ (e : getD t at 0 ≡ comma) (r : NumberScan) (scan : gotNumber t r ≡ number (drop (at + 1) t)) where
-        pub gathered-missing : (m : Cursor) → r ≡ OfNumber.Missing m → stops (drop (m .at) t) ≡ kept all t s₀ at₀
-        gathered-missing m is = sym (numbers-missing with all nothing one t s at (g .turns) h e (g .enough) (sym scan ∙ ap (gotNumber t) is)) ∙ g .same
+        pub gathered-missing : (m : Cursor) (n : ℕ) → r ≡ OfNumber.Missing m n → stops (drop (m .at) t) ≡ kept all t s₀ at₀
+        gathered-missing m n is = sym (numbers-missing with all nothing one t s at (g .turns) h e (g .enough) (sym scan ∙ ap (gotNumber t) is)) ∙ g .same
 
-        module _ (n : ℕ) (next : Cursor) (is : r ≡ OfNumber.Is n next) where
+        module _ (n : ℕ) (next : Cursor) (is : r ≡ OfNumber.Is next n) where
           read : number (drop (at + 1) t) ≡ got n (drop (next .at) t)
           read = sym scan ∙ ap (gotNumber t) is
 

@@ -23,15 +23,15 @@ past t (OfStep.Past c) = got tt (drop (c .at) t)
 past t (OfStep.Missing c) = stops (drop (c .at) t)
 
 abbrev pub gotNumber : List ℕ → NumberScan → Scan ℕ
-gotNumber t (OfNumber.Is n c) = got n (drop (c .at) t)
-gotNumber t (OfNumber.Missing c) = stops (drop (c .at) t)
+gotNumber t (OfNumber.Is c n) = got n (drop (c .at) t)
+gotNumber t (OfNumber.Missing c n) = stops (drop (c .at) t)
 
 abbrev pub guardOf : Guard → Option ℕ
 guardOf OfGuard.Dash = none
 guardOf (OfGuard.Clock x) = some x
 
 abbrev pub gotGuard : List ℕ → GuardScan → Scan (Option ℕ)
-gotGuard t (OfGuardScan.Is g c) = got (guardOf g) (drop (c .at) t)
+gotGuard t (OfGuardScan.Is c g) = got (guardOf g) (drop (c .at) t)
 gotGuard t (OfGuardScan.Missing c) = stops (drop (c .at) t)
 
 abbrev pub kindOf : Kind → TheKind
@@ -41,5 +41,5 @@ kindOf OfKind.Uin = uin-kind
 kindOf OfKind.Uout = uout-kind
 
 abbrev pub gotKind : List ℕ → KindScan → Scan TheKind
-gotKind t (OfKindScan.Is k c) = got (kindOf k) (drop (c .at) t)
+gotKind t (OfKindScan.Is c k) = got (kindOf k) (drop (c .at) t)
 gotKind t (OfKindScan.Missing c) = stops (drop (c .at) t)

@@ -1,5 +1,5 @@
 -- What reading needs of the numbers of a resets field ("`-`, or clocks strictly ascending, joined by commas"), gathered from left to right.
-use mathlib.Core.Bool.{Bool, true, false, _&&_, cond}
+use mathlib.Core.Bool.{true, false, _&&_, cond}
 use mathlib.Core.List.{List, [], _∷_}
 use Prim.Native.Nat.{ℕ}
 use lib.ListN.{drop}
@@ -40,5 +40,5 @@ valued f (stops cs) = stops cs
 valued f (is g) = got (f (g .value)) (g .rest)
 
 abbrev pub gotResets : List ℕ → ResetsScan → Scan Resets
-gotResets t (OfResets.Is s c) = got s (drop (c .at) t)
+gotResets t (OfResets.Is c s) = got s (drop (c .at) t)
 gotResets t (OfResets.Missing c) = stops (drop (c .at) t)

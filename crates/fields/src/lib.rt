@@ -38,9 +38,10 @@ pub enum Step {
     Missing(Cursor),
 }
 
+// Where there is no number it is 0: with both cases alike in memory the compiler keeps them in registers, and a good text is read no slower for the cursor.
 pub enum NumberScan {
-    Is(u64, Cursor),
-    Missing(Cursor),
+    Is(Cursor, u64),
+    Missing(Cursor, u64),
 }
 
 // "guard (a clock or `-`)".
@@ -50,7 +51,7 @@ pub enum Guard {
 }
 
 pub enum GuardScan {
-    Is(Guard, Cursor),
+    Is(Cursor, Guard),
     Missing(Cursor),
 }
 
@@ -63,7 +64,7 @@ pub enum Kind {
 }
 
 pub enum KindScan {
-    Is(Kind, Cursor),
+    Is(Cursor, Kind),
     Missing(Cursor),
 }
 
@@ -76,7 +77,7 @@ pub struct Resets {
 }
 
 pub enum ResetsScan {
-    Is(Resets, Cursor),
+    Is(Cursor, Resets),
     Missing(Cursor),
 }
 
@@ -126,17 +127,17 @@ fn more_digits(text: &[u8], first: u64, c: Cursor) -> NumberScan
     let mut k = 1;
     while k < DIGITS {
         if text.len() <= at {
-            return NumberScan::Is(n, Cursor { at });
+            return NumberScan::Is(Cursor { at }, n);
         }
         let b = text[at];
         if !is_digit(b) {
-            return NumberScan::Is(n, Cursor { at });
+            return NumberScan::Is(Cursor { at }, n);
         }
         n = n * 10 + (b - Sign::ZERO) as u64;
         at += 1;
         k += 1;
     }
-    NumberScan::Is(n, Cursor { at })
+    NumberScan::Is(Cursor { at }, n)
 }
 
 pub fn number(text: &[u8], c: Cursor) -> NumberScan
@@ -144,14 +145,14 @@ pub fn number(text: &[u8], c: Cursor) -> NumberScan
 {
     let at = c.at;
     if text.len() <= at {
-        return NumberScan::Missing(c);
+        return NumberScan::Missing(c, 0);
     }
     let b = text[at];
     if !is_digit(b) {
-        return NumberScan::Missing(c);
+        return NumberScan::Missing(c, 0);
     }
     if b == Sign::ZERO {
-        return NumberScan::Is(0, Cursor { at: at + 1 });
+        return NumberScan::Is(Cursor { at: at + 1 }, 0);
     }
     more_digits(text, (b - Sign::ZERO) as u64, Cursor { at: at + 1 })
 }
@@ -162,7 +163,7 @@ pub fn number_field(text: &[u8], c: Cursor) -> NumberScan
 {
     match byte(text, c, Sign::TAB) {
         Step::Past(d) => number(text, d),
-        Step::Missing(e) => NumberScan::Missing(e),
+        Step::Missing(e) => NumberScan::Missing(e, 0),
     }
 }
 
@@ -170,11 +171,11 @@ pub fn guard_of(text: &[u8], c: Cursor) -> GuardScan
     ensures { λ r. ⌜ gotGuard (now (text .entry)) r ≡ guardOrDash (drop (c .at) (now (text .entry))) ⌝ }
 {
     if let Step::Past(d) = byte(text, c, Sign::DASH) {
-        return GuardScan::Is(Guard::Dash, d);
+        return GuardScan::Is(d, Guard::Dash);
     }
     match number(text, c) {
-        NumberScan::Is(n, d) => GuardScan::Is(Guard::Clock(n), d),
-        NumberScan::Missing(e) => GuardScan::Missing(e),
+        NumberScan::Is(end, n) => GuardScan::Is(end, Guard::Clock(n)),
+        NumberScan::Missing(e, _) => GuardScan::Missing(e),
     }
 }
 
@@ -190,13 +191,13 @@ pub fn kind_of(text: &[u8], c: Cursor) -> KindScan
     ensures { λ r. ⌜ gotKind (now (text .entry)) r ≡ kindScan (drop (c .at) (now (text .entry))) ⌝ }
 {
     match word(text, c, b"in") {
-        Step::Past(d) => KindScan::Is(Kind::In, d),
+        Step::Past(d) => KindScan::Is(d, Kind::In),
         Step::Missing(i) => match word(text, c, b"out") {
-            Step::Past(d) => KindScan::Is(Kind::Out, d),
+            Step::Past(d) => KindScan::Is(d, Kind::Out),
             Step::Missing(o) => match word(text, c, b"uin") {
-                Step::Past(d) => KindScan::Is(Kind::Uin, d),
+                Step::Past(d) => KindScan::Is(d, Kind::Uin),
                 Step::Missing(ui) => match word(text, c, b"uout") {
-                    Step::Past(d) => KindScan::Is(Kind::Uout, d),
+                    Step::Past(d) => KindScan::Is(d, Kind::Uout),
                     Step::Missing(uo) => KindScan::Missing(further(i, further(o, further(ui, uo)))),
                 },
             },
@@ -255,20 +256,20 @@ fn more_resets(text: &[u8], s: Resets, c: Cursor) -> ResetsScan
     let mut at = c.at;
     while at < text.len() {
         if text[at] != Sign::COMMA {
-            return ResetsScan::Is(sum, Cursor { at });
+            return ResetsScan::Is(Cursor { at }, sum);
         }
         match number(text, Cursor { at: at + 1 }) {
-            NumberScan::Is(n, next) => {
+            NumberScan::Is(next, n) => {
                 let more = with_reset(sum, n);
                 sum = more;
                 at = next.at;
             }
-            NumberScan::Missing(e) => {
+            NumberScan::Missing(e, _) => {
                 return ResetsScan::Missing(e);
             }
         }
     }
-    ResetsScan::Is(sum, Cursor { at })
+    ResetsScan::Is(Cursor { at }, sum)
 }
 
 pub fn resets_of(text: &[u8], c: Cursor) -> ResetsScan
@@ -276,17 +277,17 @@ pub fn resets_of(text: &[u8], c: Cursor) -> ResetsScan
 {
     if let Step::Past(d) = byte(text, c, Sign::DASH) {
         return ResetsScan::Is(
+            d,
             Resets {
                 clocks: true,
                 ascend: true,
                 last: 0,
                 set: 0,
             },
-            d,
         );
     }
     match number(text, c) {
-        NumberScan::Is(n, d) => more_resets(text, first_reset(n), d),
-        NumberScan::Missing(e) => ResetsScan::Missing(e),
+        NumberScan::Is(end, n) => more_resets(text, first_reset(n), end),
+        NumberScan::Missing(e, _) => ResetsScan::Missing(e),
     }
 }

@@ -33,7 +33,7 @@ lineOf (clk-entry x b) = Clk x b
 lineOf (row-entry s g a r t) = Row s (guardIs g) a (summary r) t
 
 abbrev pub gotLine : List ℕ → LineScan → Scan Line
-gotLine t (OfScan.Is l c) = got l (drop (c .at) t)
+gotLine t (OfScan.Is c l) = got l (drop (c .at) t)
 gotLine t (OfScan.Missing c) = stops (drop (c .at) t)
 
 -- a row behind its action: resets, target, LF

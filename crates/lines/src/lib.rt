@@ -40,7 +40,7 @@ pub enum Line {
 }
 
 pub enum LineScan {
-    Is(Line, Cursor),
+    Is(Cursor, Line),
     Missing(Cursor),
 }
 
@@ -76,7 +76,7 @@ fn line_end(text: &[u8], c: Cursor, l: Line) -> LineScan
     ensures { λ r. ⌜ gotLine (now (text .entry)) r ≡ then (theByte lf (drop (c .at) (now (text .entry)))) (λ _ cs. got l cs) ⌝ }
 {
     match fields::byte(text, c, Sign::LF) {
-        Step::Past(d) => LineScan::Is(l, d),
+        Step::Past(d) => LineScan::Is(d, l),
         Step::Missing(e) => LineScan::Missing(e),
     }
 }
@@ -85,11 +85,11 @@ fn comp_line(text: &[u8], c: Cursor) -> LineScan
     ensures { λ r. ⌜ gotLine (now (text .entry)) r ≡ valued lineOf (compEntry (drop (c .at) (now (text .entry)))) ⌝ }
 {
     match fields::number_field(text, c) {
-        NumberScan::Is(states, c1) => match fields::number_field(text, c1) {
-            NumberScan::Is(start, c2) => line_end(text, c2, Line::Comp { states, start }),
-            NumberScan::Missing(no_start) => LineScan::Missing(no_start),
+        NumberScan::Is(c1, states) => match fields::number_field(text, c1) {
+            NumberScan::Is(c2, start) => line_end(text, c2, Line::Comp { states, start }),
+            NumberScan::Missing(no_start, _) => LineScan::Missing(no_start),
         },
-        NumberScan::Missing(no_states) => LineScan::Missing(no_states),
+        NumberScan::Missing(no_states, _) => LineScan::Missing(no_states),
     }
 }
 
@@ -97,11 +97,11 @@ fn act_line(text: &[u8], c: Cursor) -> LineScan
     ensures { λ r. ⌜ gotLine (now (text .entry)) r ≡ valued lineOf (actEntry (drop (c .at) (now (text .entry)))) ⌝ }
 {
     match fields::number_field(text, c) {
-        NumberScan::Is(action, c1) => match kind_field(text, c1) {
-            KindScan::Is(kind, c2) => line_end(text, c2, Line::Act { action, kind }),
+        NumberScan::Is(c1, action) => match kind_field(text, c1) {
+            KindScan::Is(c2, kind) => line_end(text, c2, Line::Act { action, kind }),
             KindScan::Missing(no_kind) => LineScan::Missing(no_kind),
         },
-        NumberScan::Missing(no_action) => LineScan::Missing(no_action),
+        NumberScan::Missing(no_action, _) => LineScan::Missing(no_action),
     }
 }
 
@@ -109,11 +109,11 @@ fn clk_line(text: &[u8], c: Cursor) -> LineScan
     ensures { λ r. ⌜ gotLine (now (text .entry)) r ≡ valued lineOf (clkEntry (drop (c .at) (now (text .entry)))) ⌝ }
 {
     match fields::number_field(text, c) {
-        NumberScan::Is(clock, c1) => match fields::number_field(text, c1) {
-            NumberScan::Is(set, c2) => line_end(text, c2, Line::Clk { clock, set }),
-            NumberScan::Missing(no_set) => LineScan::Missing(no_set),
+        NumberScan::Is(c1, clock) => match fields::number_field(text, c1) {
+            NumberScan::Is(c2, set) => line_end(text, c2, Line::Clk { clock, set }),
+            NumberScan::Missing(no_set, _) => LineScan::Missing(no_set),
         },
-        NumberScan::Missing(no_clock) => LineScan::Missing(no_clock),
+        NumberScan::Missing(no_clock, _) => LineScan::Missing(no_clock),
     }
 }
 
@@ -122,8 +122,8 @@ fn row_end(text: &[u8], c: Cursor, from: u64, guard: Guard, action: u64) -> Line
     ensures { λ r. ⌜ gotLine (now (text .entry)) r ≡ rowEnd from guard action (drop (c .at) (now (text .entry))) ⌝ }
 {
     match resets_field(text, c) {
-        ResetsScan::Is(resets, c4) => match fields::number_field(text, c4) {
-            NumberScan::Is(target, c5) => line_end(
+        ResetsScan::Is(c4, resets) => match fields::number_field(text, c4) {
+            NumberScan::Is(c5, target) => line_end(
                 text,
                 c5,
                 Line::Row {
@@ -134,7 +134,7 @@ fn row_end(text: &[u8], c: Cursor, from: u64, guard: Guard, action: u64) -> Line
                     target,
                 },
             ),
-            NumberScan::Missing(no_target) => LineScan::Missing(no_target),
+            NumberScan::Missing(no_target, _) => LineScan::Missing(no_target),
         },
         ResetsScan::Missing(no_resets) => LineScan::Missing(no_resets),
     }
@@ -144,14 +144,14 @@ fn row_line(text: &[u8], c: Cursor) -> LineScan
     ensures { λ r. ⌜ gotLine (now (text .entry)) r ≡ valued lineOf (rowEntry (drop (c .at) (now (text .entry)))) ⌝ }
 {
     match fields::number_field(text, c) {
-        NumberScan::Is(from, c1) => match guard_field(text, c1) {
-            GuardScan::Is(guard, c2) => match fields::number_field(text, c2) {
-                NumberScan::Is(action, c3) => row_end(text, c3, from, guard, action),
-                NumberScan::Missing(no_action) => LineScan::Missing(no_action),
+        NumberScan::Is(c1, from) => match guard_field(text, c1) {
+            GuardScan::Is(c2, guard) => match fields::number_field(text, c2) {
+                NumberScan::Is(c3, action) => row_end(text, c3, from, guard, action),
+                NumberScan::Missing(no_action, _) => LineScan::Missing(no_action),
             },
             GuardScan::Missing(no_guard) => LineScan::Missing(no_guard),
         },
-        NumberScan::Missing(no_from) => LineScan::Missing(no_from),
+        NumberScan::Missing(no_from, _) => LineScan::Missing(no_from),
     }
 }
 

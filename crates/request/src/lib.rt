@@ -74,7 +74,7 @@ fn more_parts(text: &[u8], x: State, c: Cursor) -> PartsScan
                 at,
             };
         }
-        let NumberScan::Is(n, next) = fields::number(text, Cursor { at: at + 1 }) else {
+        let NumberScan::Is(next, n) = fields::number(text, Cursor { at: at + 1 }) else {
             return PartsScan {
                 found: false,
                 state: cur,
@@ -96,7 +96,7 @@ fn more_parts(text: &[u8], x: State, c: Cursor) -> PartsScan
 fn parts_field(text: &[u8], c: Cursor) -> PartsScan
     ensures { λ r. ⌜ gotParts (now (text .entry)) r ≡ heard (valued held (field numbers (drop (c .at) (now (text .entry))))) ⌝ }
 {
-    let NumberScan::Is(n, d) = fields::number_field(text, c) else {
+    let NumberScan::Is(d, n) = fields::number_field(text, c) else {
         return PartsScan {
             found: false,
             state: answer::no_state(),
@@ -127,7 +127,7 @@ fn request_line(text: &[u8]) -> Asked
     if !p.found {
         return not_asked();
     }
-    let NumberScan::Is(budget, c2) = fields::number_field(text, Cursor { at: p.at }) else {
+    let NumberScan::Is(c2, budget) = fields::number_field(text, Cursor { at: p.at }) else {
         return not_asked();
     };
     let Step::Past(c3) = fields::byte(text, c2, Sign::LF) else {

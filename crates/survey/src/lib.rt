@@ -56,7 +56,7 @@ fn check_lines(text: &[u8]) -> Checked
     let mut n = 1;
     while at < text.len() {
         match lines::line_at(text, Cursor { at }) {
-            LineScan::Is(line, next) => {
+            LineScan::Is(next, line) => {
                 match judge::step(p, line) {
                     Judged::Fault(number) => {
                         let column = columns::value_column(text, at, allowed(p, number), line);

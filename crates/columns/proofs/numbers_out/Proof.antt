@@ -1,14 +1,12 @@
 -- `columns::numbers_out` meets its contract. The loop's invariant: the search from here on finds what the search from the start finds.
-use mathlib.Core.Path.{_≡_, sym, _∙_, ap}
-use mathlib.Core.Bool.{true}
-use Prim.Native.Nat.{ℕ, _-_}
+use mathlib.Core.Path.{sym, _∙_, ap}
+use Prim.Native.Nat.{_-_}
 use native.Mathlib.Omega.{arith}
 use borrow.Author.Tests.{not-true, not-false}
-use lib.ListN.{length, drop}
+use lib.ListN.{length}
 use denote.Ref.{now}
-use Rattle.iosa.specs.Reading.{got, number}
+use Rattle.iosa.specs.Reading.{number}
 use Rattle.fields.specs.Fields.{gotNumber}
-use Rattle.columns.specs.Columns.{memberOf}
 use Rattle.columns.proofs.OutLaws.{Looking, looking-first, out-end, out-stops, out-here, out-last, out-behind, out-more, out-less}
 use borrow.Author.Needs.{needs}
 use Rattle.columns.proofs.numbers_out.Statement.{statement}
@@ -26,8 +24,8 @@ loop-holds c = let a = c .before .args in looking-first (a .set) (now (a .text))
 number-requires : tie.Need-number-requires Inv-loop μ-loop
 number-requires c κs = search needs
 
-enum-known-n : tie.Need-enum-known-n Inv-loop μ-loop
-enum-known-n c = search needs
+enum-known-next : tie.Need-enum-known-next Inv-loop μ-loop
+enum-known-next c = search needs
 
 is-in-requires : tie.Need-is-in-requires Inv-loop μ-loop
 is-in-requires c κs = search needs
@@ -38,9 +36,9 @@ returns c =
     let l = q .before .before .before .before .loop in
     let a = q .before .before .before .before .before .before .args in
     let t = now (a .text) in
-    let v = q .n .given .0 in
-    let read = sym (q .before .before .number .ensures) ∙ ap (gotNumber t) (q .n .given .1) in
-    out-here (a .set) t (a .at) (l .i) (l .inv) (v .0) (v .1 .0 .at) read (sym (c .before .is-in .ensures) ∙ not-true (c .before .is-in .result)
+    let v = q .next .given .0 in
+    let read = sym (q .before .before .number .ensures) ∙ ap (gotNumber t) (q .next .given .1) in
+    out-here (a .set) t (a .at) (l .i) (l .inv) (v .1 .0) (v .0 .at) read (sym (c .before .is-in .ensures) ∙ not-true (c .before .is-in .result)
     (c .if1 .taken))
 
 returns-2 : tie.Need-returns-2 Inv-loop μ-loop
@@ -49,10 +47,10 @@ returns-2 c =
     let l = q .before .before .before .before .loop in
     let a = q .before .before .before .before .before .before .args in
     let t = now (a .text) in
-    let v = q .n .given .0 in
-    let read = sym (q .before .before .number .ensures) ∙ ap (gotNumber t) (q .n .given .1) in
+    let v = q .next .given .0 in
+    let read = sym (q .before .before .number .ensures) ∙ ap (gotNumber t) (q .next .given .1) in
     let p = c .before .before .is-in in
-    out-last (a .set) t (a .at) (l .i) (l .inv) (v .0) (v .1 .0 .at) read (sym (p .ensures) ∙ not-false (p .result) (c .before .if1 .left)) (c .if2 .taken)
+    out-last (a .set) t (a .at) (l .i) (l .inv) (v .1 .0) (v .0 .at) read (sym (p .ensures) ∙ not-false (p .result) (c .before .if1 .left)) (c .if2 .taken)
 
 shared-slice-read-if3 : tie.Need-shared-slice-read-if3 Inv-loop μ-loop
 shared-slice-read-if3 c = omega arith
@@ -66,11 +64,11 @@ returns-3 c =
     let l = q .before .before .before .before .loop in
     let a = q .before .before .before .before .before .before .args in
     let t = now (a .text) in
-    let v = q .n .given .0 in
-    let read = sym (q .before .before .number .ensures) ∙ ap (gotNumber t) (q .n .given .1) in
+    let v = q .next .given .0 in
+    let read = sym (q .before .before .number .ensures) ∙ ap (gotNumber t) (q .next .given .1) in
     let p = c .before .before .before .before .is-in in
     let in-it = sym (p .ensures) ∙ not-false (p .result) (c .before .before .before .if1 .left) in
-    out-behind (a .set) t (a .at) (l .i) (l .inv) (v .0) (v .1 .0 .at) read in-it (omega arith) (c .if3 .taken)
+    out-behind (a .set) t (a .at) (l .i) (l .inv) (v .1 .0) (v .0 .at) read in-it (omega arith) (c .if3 .taken)
 
 add-i : tie.Need-add-i Inv-loop μ-loop
 add-i c = omega arith
@@ -81,11 +79,11 @@ loop-less c =
     let l = q .before .before .before .before .loop in
     let a = q .before .before .before .before .before .before .args in
     let t = now (a .text) in
-    let v = q .n .given .0 in
-    let read = sym (q .before .before .number .ensures) ∙ ap (gotNumber t) (q .n .given .1) in
+    let v = q .next .given .0 in
+    let read = sym (q .before .before .number .ensures) ∙ ap (gotNumber t) (q .next .given .1) in
     let p = c .before .before .before .before .is-in in
     let in-it = sym (p .ensures) ∙ not-false (p .result) (c .before .before .before .if1 .left) in
-    out-less (a .set) t (a .at) (l .i) (l .inv) (v .0) (v .1 .0 .at) read in-it (omega arith)
+    out-less (a .set) t (a .at) (l .i) (l .inv) (v .1 .0) (v .0 .at) read in-it (omega arith)
 
 loop-again : tie.Need-loop-again Inv-loop μ-loop
 loop-again c =
@@ -93,11 +91,11 @@ loop-again c =
     let l = q .before .before .before .before .loop in
     let a = q .before .before .before .before .before .before .args in
     let t = now (a .text) in
-    let v = q .n .given .0 in
-    let read = sym (q .before .before .number .ensures) ∙ ap (gotNumber t) (q .n .given .1) in
+    let v = q .next .given .0 in
+    let read = sym (q .before .before .number .ensures) ∙ ap (gotNumber t) (q .next .given .1) in
     let p = c .before .before .before .before .is-in in
     let in-it = sym (p .ensures) ∙ not-false (p .result) (c .before .before .before .if1 .left) in
-    out-more (a .set) t (a .at) (l .i) (l .inv) (v .0) (v .1 .0 .at) read in-it (omega arith) (c .if3 .left)
+    out-more (a .set) t (a .at) (l .i) (l .inv) (v .1 .0) (v .0 .at) read in-it (omega arith) (c .if3 .left)
 
 enum-told : tie.Need-enum-told Inv-loop μ-loop
 enum-told c = search needs
@@ -123,7 +121,7 @@ numbers-out-spec =
     μ-loop
     loop-holds
     number-requires
-    enum-known-n
+    enum-known-next
     is-in-requires
     returns
     returns-2

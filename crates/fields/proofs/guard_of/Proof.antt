@@ -1,5 +1,5 @@
 -- `fields::guard_of` meets its contract.
-use mathlib.Core.Path.{_≡_, sym, _∙_, ap}
+use mathlib.Core.Path.{sym, _∙_, ap}
 use mathlib.Core.Option.{some}
 use lib.ListN.{drop}
 use denote.Ref.{now}
@@ -28,8 +28,8 @@ enum-told c = search needs
 number-requires : tie.Need-number-requires
 number-requires c κs = search needs
 
-enum-known-n : tie.Need-enum-known-n
-enum-known-n c = search needs
+enum-known-end : tie.Need-enum-known-end
+enum-known-end c = search needs
 
 enum-known-e : tie.Need-enum-known-e
 enum-known-e c = search needs
@@ -38,7 +38,7 @@ returns-2 : tie.Need-returns-2
 returns-2 c =
     let a = c .before .before .before .before .before .before .before .before .args in
     let t = now (a .text) in
-    let n = sym (c .before .before .before .number .ensures) ∙ ap (gotNumber t) (c .before .n .given .1) in
+    let n = sym (c .before .before .before .number .ensures) ∙ ap (gotNumber t) (c .before .end .given .1) in
     let q = c .before .before .before .before in
     let e = guard-clock (drop (a .c .at) t) (sym (q .before .before .byte .ensures) ∙ ap (past t) (q .enum-told .given .1)) in
     sym (e ∙ then-is (λ x cs. got (some x) cs) n)
@@ -61,7 +61,7 @@ guard-of-spec =
     returns
     enum-told
     number-requires
-    enum-known-n
+    enum-known-end
     enum-known-e
     returns-2
     returns-3)

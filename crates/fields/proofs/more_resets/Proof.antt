@@ -30,8 +30,8 @@ add-t10 c = omega arith
 number-requires : tie.Need-number-requires Inv-loop μ-loop
 number-requires c κs = search needs
 
-enum-known-n : tie.Need-enum-known-n Inv-loop μ-loop
-enum-known-n c = search needs
+enum-known-next : tie.Need-enum-known-next Inv-loop μ-loop
+enum-known-next c = search needs
 
 with-reset-requires : tie.Need-with-reset-requires Inv-loop μ-loop
 with-reset-requires c κs = search needs
@@ -40,13 +40,13 @@ loop-less : tie.Need-loop-less Inv-loop μ-loop
 loop-less c =
     let b = c .before .before .before .before .before in
     gathered-less with withAll nothing-more one-more _ _ _ _ _ (b .before .before .before .loop .inv) (b .before .before .loop-test .taken) (b .if1 .left) _
-    (c .before .before .before .before .number .ensures) _ _ (c .before .before .n .given .1)
+    (c .before .before .before .before .number .ensures) _ _ (c .before .before .next .given .1)
 
 loop-again : tie.Need-loop-again Inv-loop μ-loop
 loop-again c =
     let b = c .before .before .before .before .before in
     gathered-more with withAll nothing-more one-more _ _ _ _ _ (b .before .before .before .loop .inv) (b .before .before .loop-test .taken) (b .if1 .left) _
-    (c .before .before .before .before .number .ensures) _ _ (c .before .before .n .given .1) _ (c .with-reset .ensures)
+    (c .before .before .before .before .number .ensures) _ _ (c .before .before .next .given .1) _ (c .with-reset .ensures)
 
 enum-known-e : tie.Need-enum-known-e Inv-loop μ-loop
 enum-known-e c = search needs
@@ -55,7 +55,7 @@ returns-2 : tie.Need-returns-2 Inv-loop μ-loop
 returns-2 c =
     let b = c .before .before .before .before in
     gathered-missing with withAll nothing-more one-more _ _ _ _ _ (b .before .before .before .loop .inv) (b .before .before .loop-test .taken) (b .if1 .left) _
-    (c .before .before .before .number .ensures) _ (c .before .e .given .1)
+    (c .before .before .before .number .ensures) _ _ (c .before .e .given .1)
 
 returns-3 : tie.Need-returns-3 Inv-loop μ-loop
 returns-3 c = gathered-end with withAll nothing-more one-more _ _ _ _ _ (c .before .loop .inv) (c .loop-test .left)
@@ -71,7 +71,7 @@ more-resets-spec =
     returns
     add-t10
     number-requires
-    enum-known-n
+    enum-known-next
     with-reset-requires
     loop-less
     loop-again

@@ -1,5 +1,5 @@
 -- `lines::act_line` meets its contract.
-use mathlib.Core.Path.{_≡_, refl, sym, _∙_, ap}
+use mathlib.Core.Path.{sym, _∙_, ap}
 use lib.ListN.{drop}
 use denote.Ref.{now}
 use Rattle.iosa.specs.Reading.{kind, act-entry, actEntry}
@@ -13,14 +13,14 @@ use Rattle.lines.proofs.act_line.Tie as tie
 number-field-requires : tie.Need-number-field-requires
 number-field-requires c κs = search needs
 
-enum-known-action : tie.Need-enum-known-action
-enum-known-action c = search needs
+enum-known-c1 : tie.Need-enum-known-c1
+enum-known-c1 c = search needs
 
 kind-field-requires : tie.Need-kind-field-requires
 kind-field-requires c κs = search needs
 
-enum-known-kind : tie.Need-enum-known-kind
-enum-known-kind c = search needs
+enum-known-c2 : tie.Need-enum-known-c2
+enum-known-c2 c = search needs
 
 line-end-requires : tie.Need-line-end-requires
 line-end-requires c κs = search needs
@@ -37,10 +37,10 @@ returns c =
     let q = c .before .before .before .before .before in
     let a = q .before .before .before .before .before .args in
     let t = now (a .text) in
-    let e0 = sym (q .before .before .before .number-field .ensures) ∙ ap (gotNumber t) (q .before .action .given .1) in
-    let e1 = sym (c .before .before .before .before .kind-field .ensures) ∙ ap (gotKind t) (c .before .before .kind .given .1) in
-    c .line-end .ensures ∙ two-are kind act-entry (drop (a .c .at) t) e0 e1 (ap (λ k. Act (q .before .action .given .0 .0) k) (kind-back
-    (c .before .before .kind .given .0 .0)))
+    let e0 = sym (q .before .before .before .number-field .ensures) ∙ ap (gotNumber t) (q .before .c1 .given .1) in
+    let e1 = sym (c .before .before .before .before .kind-field .ensures) ∙ ap (gotKind t) (c .before .before .c2 .given .1) in
+    c .line-end .ensures ∙ two-are kind act-entry (drop (a .c .at) t) e0 e1 (ap (λ k. Act (q .before .c1 .given .0 .1 .0) k) (kind-back
+    (c .before .before .c2 .given .0 .1 .0)))
 
 returns-2 : tie.Need-returns-2
 unfolding actEntry
@@ -48,7 +48,7 @@ returns-2 c =
     let q = c .before .before .before .before in
     let a = q .before .before .before .before .before .args in
     let t = now (a .text) in
-    let e0 = sym (q .before .before .before .number-field .ensures) ∙ ap (gotNumber t) (q .before .action .given .1) in
+    let e0 = sym (q .before .before .before .number-field .ensures) ∙ ap (gotNumber t) (q .before .c1 .given .1) in
     two-no-2 kind act-entry (drop (a .c .at) t) e0 (sym (c .before .before .before .kind-field .ensures) ∙ ap (gotKind t) (c .before .no-kind .given .1))
 
 returns-3 : tie.Need-returns-3
@@ -63,9 +63,9 @@ act-line-spec =
     tie.close
     (tie.spec
     number-field-requires
-    enum-known-action
+    enum-known-c1
     kind-field-requires
-    enum-known-kind
+    enum-known-c2
     line-end-requires
     enum-known-no-kind
     enum-known-no-action

@@ -1,5 +1,5 @@
 -- `lines::clk_line` meets its contract.
-use mathlib.Core.Path.{_≡_, refl, sym, _∙_, ap}
+use mathlib.Core.Path.{refl, sym, _∙_, ap}
 use lib.ListN.{drop}
 use denote.Ref.{now}
 use Rattle.iosa.specs.Reading.{number, clk-entry, clkEntry}
@@ -12,14 +12,14 @@ use Rattle.lines.proofs.clk_line.Tie as tie
 number-field-requires : tie.Need-number-field-requires
 number-field-requires c κs = search needs
 
-enum-known-clock : tie.Need-enum-known-clock
-enum-known-clock c = search needs
+enum-known-c1 : tie.Need-enum-known-c1
+enum-known-c1 c = search needs
 
 number-field-requires-2 : tie.Need-number-field-requires-2
 number-field-requires-2 c κs = search needs
 
-enum-known-set : tie.Need-enum-known-set
-enum-known-set c = search needs
+enum-known-c2 : tie.Need-enum-known-c2
+enum-known-c2 c = search needs
 
 line-end-requires : tie.Need-line-end-requires
 line-end-requires c κs = search needs
@@ -36,8 +36,8 @@ returns c =
     let q = c .before .before .before .before .before in
     let a = q .before .before .before .before .before .args in
     let t = now (a .text) in
-    let e0 = sym (q .before .before .before .number-field .ensures) ∙ ap (gotNumber t) (q .before .clock .given .1) in
-    let e1 = sym (c .before .before .before .before .number-field2 .ensures) ∙ ap (gotNumber t) (c .before .before .set .given .1) in
+    let e0 = sym (q .before .before .before .number-field .ensures) ∙ ap (gotNumber t) (q .before .c1 .given .1) in
+    let e1 = sym (c .before .before .before .before .number-field2 .ensures) ∙ ap (gotNumber t) (c .before .before .c2 .given .1) in
     c .line-end .ensures ∙ two-are number clk-entry (drop (a .c .at) t) e0 e1 refl
 
 returns-2 : tie.Need-returns-2
@@ -46,7 +46,7 @@ returns-2 c =
     let q = c .before .before .before .before in
     let a = q .before .before .before .before .before .args in
     let t = now (a .text) in
-    let e0 = sym (q .before .before .before .number-field .ensures) ∙ ap (gotNumber t) (q .before .clock .given .1) in
+    let e0 = sym (q .before .before .before .number-field .ensures) ∙ ap (gotNumber t) (q .before .c1 .given .1) in
     two-no-2 number clk-entry (drop (a .c .at) t) e0 (sym (c .before .before .before .number-field2 .ensures) ∙ ap (gotNumber t) (c .before .no-set .given .1))
 
 returns-3 : tie.Need-returns-3
@@ -61,9 +61,9 @@ clk-line-spec =
     tie.close
     (tie.spec
     number-field-requires
-    enum-known-clock
+    enum-known-c1
     number-field-requires-2
-    enum-known-set
+    enum-known-c2
     line-end-requires
     enum-known-no-set
     enum-known-no-clock

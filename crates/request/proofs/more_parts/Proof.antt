@@ -33,8 +33,8 @@ add-t9 c = omega arith
 number-requires : tie.Need-number-requires Inv-loop μ-loop
 number-requires c κs = search needs
 
-enum-known-n : tie.Need-enum-known-n Inv-loop μ-loop
-enum-known-n c = search needs
+enum-known-next : tie.Need-enum-known-next Inv-loop μ-loop
+enum-known-next c = search needs
 
 enum-told : tie.Need-enum-told Inv-loop μ-loop
 enum-told c = search needs
@@ -44,7 +44,7 @@ returns-2 c =
     let b = c .before .before .before in
     ap heard
     (gathered-missing with withAll nothing-more one-more _ _ _ _ _ (b .before .before .before .loop .inv) (b .before .before .loop-test .taken) (b .if1 .left) _
-    (c .before .before .number .ensures) _ (c .enum-told .given .1))
+    (c .before .before .number .ensures) _ _ (c .enum-told .given .1))
 
 with-part-requires : tie.Need-with-part-requires Inv-loop μ-loop
 with-part-requires c κs = search needs
@@ -52,12 +52,12 @@ with-part-requires c κs = search needs
 loop-less : tie.Need-loop-less Inv-loop μ-loop
 loop-less c =
     let b = c .before .before .before .before .before in
-    gathered-less with withAll nothing-more one-more _ _ _ _ _ (b .before .before .before .loop .inv) (b .before .before .loop-test .taken) (b .if1 .left) _ (c .before .before .before .before .number .ensures) _ _ (c .before .before .n .given .1)
+    gathered-less with withAll nothing-more one-more _ _ _ _ _ (b .before .before .before .loop .inv) (b .before .before .loop-test .taken) (b .if1 .left) _ (c .before .before .before .before .number .ensures) _ _ (c .before .before .next .given .1)
 
 loop-again : tie.Need-loop-again Inv-loop μ-loop
 loop-again c =
     let b = c .before .before .before .before .before in
-    gathered-more with withAll nothing-more one-more _ _ _ _ _ (b .before .before .before .loop .inv) (b .before .before .loop-test .taken) (b .if1 .left) _ (c .before .before .before .before .number .ensures) _ _ (c .before .before .n .given .1) _ (c .with-part .ensures)
+    gathered-more with withAll nothing-more one-more _ _ _ _ _ (b .before .before .before .loop .inv) (b .before .before .loop-test .taken) (b .if1 .left) _ (c .before .before .before .before .number .ensures) _ _ (c .before .before .next .given .1) _ (c .with-part .ensures)
 
 returns-3 : tie.Need-returns-3 Inv-loop μ-loop
 returns-3 c = ap heard (gathered-end with withAll nothing-more one-more _ _ _ _ _ (c .before .loop .inv) (c .loop-test .left))
@@ -73,7 +73,7 @@ more-parts-spec =
     returns
     add-t9
     number-requires
-    enum-known-n
+    enum-known-next
     enum-told
     returns-2
     with-part-requires

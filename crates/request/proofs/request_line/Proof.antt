@@ -51,8 +51,8 @@ returns-2 c =
 number-field-requires : tie.Need-number-field-requires
 number-field-requires c κs = search needs
 
-enum-known-budget : tie.Need-enum-known-budget
-enum-known-budget c = search needs
+enum-known-c2 : tie.Need-enum-known-c2
+enum-known-c2 c = search needs
 
 enum-told-2 : tie.Need-enum-told-2
 enum-told-2 c = search needs
@@ -89,7 +89,7 @@ returns-4 c =
     let p = c .before .before .before .before .before .before .before .before .before .before .parts-field in
     let r = valued-is held (field numbers _) (heard-is _ _ _ (sym (p .ensures) ∙ found-parts t (p .result) (not-false (p .result .found)
     (c .before .before .before .before .before .before .before .before .if1 .left)))) in
-    let e2 = sym (c .before .before .before .before .before .before .before .number-field .ensures) ∙ ap (gotNumber t) (c .before .before .before .before .before .budget .given .1) in
+    let e2 = sym (c .before .before .before .before .before .before .before .number-field .ensures) ∙ ap (gotNumber t) (c .before .before .before .before .before .c2 .given .1) in
     ap (asked t) (c .not-asked4 .ensures) ∙ sym (ap (λ o. heard (valued keep o)) (line-no-4 t e0 (r .1) e2 (sym (c .before .before .before .byte .ensures) ∙ ap
     (past t) (c .before .enum-told3 .given .1))))
 
@@ -100,10 +100,10 @@ returns-5 c =
     let p = c .before .before .before .before .before .before .before .before .before .before .before .parts-field in
     let r = valued-is held (field numbers _) (heard-is _ _ _ (sym (p .ensures) ∙ found-parts t (p .result) (not-false (p .result .found)
     (c .before .before .before .before .before .before .before .before .before .if1 .left)))) in
-    let e2 = sym (c .before .before .before .before .before .before .before .before .number-field .ensures) ∙ ap (gotNumber t) (c .before .before .before .before .before .before .budget .given .1) in
+    let e2 = sym (c .before .before .before .before .before .before .before .before .number-field .ensures) ∙ ap (gotNumber t) (c .before .before .before .before .before .before .c2 .given .1) in
     let e3 = sym (c .before .before .before .before .byte .ensures) ∙ ap (past t) (c .before .before .c3 .given .1) in
     sym (ap (λ o. heard (valued keep o)) (line-is t e0 (r .1) e2 e3) ∙ ap (λ x. there {A = Kept}
-    (record { state = x; budget = c .before .before .before .before .before .before .budget .given .0 .0 }) (drop
+    (record { state = x; budget = c .before .before .before .before .before .before .c2 .given .0 .1 .0 }) (drop
     (c .before .before .c3 .given .0 .0 .at) t)) (r .2))
 
 pub request-line-spec : {M : Type 1} → statement M
@@ -120,7 +120,7 @@ request-line-spec =
     not-asked-requires-2
     returns-2
     number-field-requires
-    enum-known-budget
+    enum-known-c2
     enum-told-2
     not-asked-requires-3
     returns-3

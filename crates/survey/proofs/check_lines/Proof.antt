@@ -1,7 +1,7 @@
 -- `survey::check_lines` meets its contract. The loop's invariant: what the code keeps stands for what the definition keeps before this line.
-use mathlib.Core.Path.{_≡_, sym, _∙_, ap}
+use mathlib.Core.Path.{sym, _∙_, ap}
 use mathlib.Core.List.{List, [], _∷_}
-use Prim.Native.Nat.{ℕ, _+_, _≤_}
+use Prim.Native.Nat.{ℕ}
 use native.Mathlib.Omega.{arith}
 use borrow.Author.Needs.{needs}
 use lib.ListN.{length, drop, length-drop}
@@ -9,7 +9,6 @@ use denote.Ref.{now}
 use Rattle.answer.specs.declared.Checked.the-variants.{Refused}
 use Rattle.answer.specs.Told.{tell, refused, saysChecked}
 use Rattle.iosa.specs.Reading.{Progress, current, entry, linesFrom, atStart}
-use Rattle.fields.specs.Resets.{valued}
 use Rattle.lines.specs.Lines.{lineOf, gotLine}
 use Rattle.lines.specs.declared.Line.{Line}
 use Rattle.lines.proofs.LineLaws.{valued-stops}
@@ -32,15 +31,15 @@ abbrev textAt : Scanned → List ℕ
 textAt c = let l = c .before .before .before .before .before in now (l .before .before .before .args .text)
 
 abbrev lineAt : Scanned → Line
-lineAt c = c .before .line .given .0 .0
+lineAt c = c .before .next .given .0 .1 .0
 
 abbrev nextAt : Scanned → ℕ
-nextAt c = c .before .line .given .0 .1 .0 .at
+nextAt c = c .before .next .given .0 .0 .at
 
 here : (c : Scanned) → Read (textAt c) (c .before .before .before .before .before .loop .at) (lineAt c) (nextAt c)
 here c =
     read-line (textAt c) (c .before .before .before .before .before .loop .at) (lineAt c) (nextAt c) (sym (c .before .before .before .line-at .ensures) ∙ ap
-    (gotLine (textAt c)) (c .before .line .given .1))
+    (gotLine (textAt c)) (c .before .next .given .1))
 
 at-start-requires : tie.Need-at-start-requires Inv-loop μ-loop
 at-start-requires c κs = search needs
@@ -53,8 +52,8 @@ loop-holds c =
 line-at-requires : tie.Need-line-at-requires Inv-loop μ-loop
 line-at-requires c κs = search needs
 
-enum-known-line : tie.Need-enum-known-line Inv-loop μ-loop
-enum-known-line c = search needs
+enum-known-next : tie.Need-enum-known-next Inv-loop μ-loop
+enum-known-next c = search needs
 
 step-requires : tie.Need-step-requires Inv-loop μ-loop
 step-requires c κs = search needs
@@ -151,7 +150,7 @@ check-lines-spec =
     at-start-requires
     loop-holds
     line-at-requires
-    enum-known-line
+    enum-known-next
     step-requires
     enum-known-number
     allowed-requires
