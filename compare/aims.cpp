@@ -64,8 +64,10 @@ std::string text_for(Random& random, unsigned number) {
     case 1: return too_long(random, text);
     case 7: return too_many(random, text);
     case 8: return "";
-    default: return within(number, 2, 6) ? second::damaged_text(random, text) : text;
+    default: break;
   }
+  if (!within(number, 2, 6)) return text;
+  return random.chance(30) ? drawing::misfit_text(random, text) : second::damaged_text(random, text);
 }
 
 Bytes state_for(Random& random, unsigned number, const Drawn& drawn) {

@@ -71,6 +71,34 @@ second::Model model(Random& random) {
   return second::generate(random, second::families[random.chance(90) ? random.below(5) : random.below(9)], of_size);
 }
 
+std::string misfit_text(Random& random, std::string text) {
+  static const std::vector<std::string> numbers = {"0", "1", "2", "3", "5", "12", "31", "62", "63", "64", "65", "127", "128", "129", "99999"};
+  static const std::vector<std::string> misshapen = {"", "-", "00", "007", "100000", "1x", "+1", "--", "0-"};
+  if (text.empty()) return text;
+  const std::size_t some = random.below(text.size());
+  const std::size_t comma = random.chance(70) ? text.find(',', some) : std::string::npos;
+  const std::size_t at = comma == std::string::npos ? some : comma;
+  const std::size_t before = at == 0 ? std::string::npos : text.rfind('\n', at - 1);
+  std::size_t from = before == std::string::npos ? 0 : before + 1;
+  std::size_t end = text.find('\n', from);
+  if (end == std::string::npos) end = text.size();
+  const unsigned percent = random.pick(std::vector<unsigned>{5, 20, 60});
+  std::string line;
+  // The first word stays; behind it each value between tabs and commas may go.
+  for (bool first = true; from <= end; first = false) {
+    const std::size_t to = std::min(end, text.find_first_of("\t,", from));
+    const bool exchanged = random.chance(percent);
+    const std::string& number = random.pick(numbers);
+    const std::string& odd = random.pick(misshapen);
+    const bool in_shape = random.chance(90);
+    line += first || !exchanged ? text.substr(from, to - from) : in_shape ? number : odd;
+    if (to < end) line += text[to];
+    from = to + 1;
+  }
+  const std::size_t begin = before == std::string::npos ? 0 : before + 1;
+  return text.replace(begin, end - begin, line);
+}
+
 Table lengthened(Random& random, Table table) {
   if (random.chance(60)) return table;
   const unsigned more = random.between(1, 9);

@@ -27,6 +27,10 @@ second::Size size(Random& random);
 // Of any family, or faulty.
 second::Model model(Random& random);
 
+// A text with some values of one line exchanged, so that one line has several faults and the first of them has to be told: numbers out of range,
+// not declared, not ascending, or of wrong shape. Mostly in a row with a list of resets.
+std::string misfit_text(Random& random, std::string text);
+
 // The same table, at times with words of noise behind it: they are neither read nor changed.
 Table lengthened(Random& random, Table table);
 

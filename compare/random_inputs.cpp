@@ -34,6 +34,7 @@ void try_texts(Random& random, const std::string& text) {
     damaged = second::damaged_text(random, damaged);
     try_text(drawing::bytes_of(damaged), drawing::odd_room(random));
   }
+  try_text(drawing::bytes_of(drawing::misfit_text(random, text)), drawing::odd_room(random));
 }
 
 // Every call that takes a table, on one that need not be the model's.

@@ -18,7 +18,7 @@
  * first. Whoever loops over them asks `confluent` once, and begins at the start or where settling led to.
  *
  * Stack, in bytes, the deepest seen of each call (`make -C compare stack` measures it, and holds these numbers to it):
- *   recognise 240, check_text 560, read 704, write 400, start 496, component 1568, compatible 656, accept 1872, confluent 2128, merge 2048,
+ *   recognise 240, check_text 768, read 1312, write 400, start 496, component 1568, compatible 656, accept 1872, confluent 2128, merge 2048,
  *   repair 368, step 2224, advance 2288, step_by 2016, settle 2736, settle_list 2688, timed_step 2048, report 70672 (it keeps a table of its own).
  *
  * A model is a text (docs/MODEL.md), without the request line that the program `settle` reads in front of it. A table is what
@@ -66,10 +66,10 @@ enum floodneedle_kind {
 /* Refusal numbers. docs/REFUSALS.md has for each its place, what to do about it, and an input that earns it. */
 enum floodneedle_refusal {
   FLOODNEEDLE_TEXT_TOO_LONG = 1,         /* over FLOODNEEDLE_TEXT bytes */
-  FLOODNEEDLE_LINE_MISSHAPEN = 2,        /* a line is not of the shape of its kind, or the last has no LF */
+  FLOODNEEDLE_LINE_MISSHAPEN = 2,        /* a line is not of the shape of its kind, or the last has no LF; line, column */
   FLOODNEEDLE_LINE_OUT_OF_TURN = 3,      /* a line before the first comp, or act, clk, row not in this order */
-  FLOODNEEDLE_NUMBER_OUT_OF_RANGE = 4,   /* a number in a line is outside its range */
-  FLOODNEEDLE_NOT_DECLARED = 5,          /* a row names an action or a clock that its component did not declare */
+  FLOODNEEDLE_NUMBER_OUT_OF_RANGE = 4,   /* a number in a line is outside its range; line, column */
+  FLOODNEEDLE_NOT_DECLARED = 5,          /* a row names an action or a clock that its component did not declare; line, column */
   FLOODNEEDLE_NOT_ASCENDING = 6,         /* lines of one kind, or clocks of a resets field, do not ascend */
   FLOODNEEDLE_TOO_MANY = 7,              /* a component or a row too many */
   FLOODNEEDLE_NO_COMPONENT = 8,          /* the text is empty */
@@ -127,7 +127,10 @@ uint64_t floodneedle_version(void);
 /* Whether the table's front is the image of a model. It is not exactly where any other call on it refuses with 20. */
 bool floodneedle_recognise(const uint64_t *table, size_t table_words);
 
-/* Done exactly where the bytes are the text of a model; else 1, or 2 to 7 at the first faulty line, or 8. */
+/* Done exactly where the bytes are the text of a model; else 1, or 2 to 7 at the first faulty line, or 8.
+ * 2, 4 and 5 have two values, line and column, both from 1 and columns in bytes: for 2 the first byte that no well-shaped
+ * line could have there, one past the end where the text ends within a line; for 4 and 5 the first byte of the first value
+ * at fault. 3, 6 and 7 have the line alone. */
 void floodneedle_check_text(const uint8_t *text, size_t text_bytes, struct floodneedle_answer *answer);
 
 /* Reads the text into the table: done exactly where the bytes are the text of a model, and then the table's front is the image of that

@@ -41,7 +41,7 @@ void longest_report() {
 void behind_the_request() {
   const Text request = tabbed("from 128 4097\n");
   for (const cases::TextCase& entry : cases::text_cases)
-    if (entry.number > 0) expect_report(request + tabbed(entry.text), printed(second::refuse(entry.number, {entry.place})));
+    if (entry.number > 0) expect_report(request + tabbed(entry.text), printed(refusal_of(entry)));
   for (const cases::ModelCase& entry : cases::model_cases)
     expect_report(request + tabbed(entry.text), printed(entry.refusal ? entry.refusal : second::refuse(21, {0})));
   expect_report(request + repeated(tabbed("comp 1 0\n"), 33), "refused\t7\t33\n");
@@ -68,7 +68,7 @@ void stated_requests() {
   const Text request = tabbed("from 9,9 9999\n");
   expect_report(tabbed("from 9,9\n") + Text(32769, 'x'), "refused\t9\t0\n");
   expect_report(request + Text(32769, 'x'), "refused\t1\t0\n");
-  expect_report(request + Text(32768, 'x'), "refused\t2\t1\n");
+  expect_report(request + Text(32768, 'x'), "refused\t2\t1,1\n");
   expect_report(request + m, "refused\t21\t0\n");
   behind_the_request();
 

@@ -28,7 +28,7 @@ void STATES() {
   loan.bytes = bytes_of(tabbed("comp " + std::to_string(states) + " " + std::to_string(states - 1) + "\n"));
   expect("as many states as there may be", calls::check_text, loan, done());
   loan.bytes = bytes_of(tabbed("comp " + std::to_string(states + 1) + " 0\n"));
-  expect("a state more", calls::check_text, loan, refused(4, {1}));
+  expect("a state more", calls::check_text, loan, refused(4, {1, 6}));
 }
 
 // Rows that differ by their clock and their target alone: 63 clocks, 17 states.

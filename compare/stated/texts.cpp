@@ -1,4 +1,4 @@
-// Reading and writing: texts at every fault and limit, every byte of M's text, and buffers that just fit.
+// Reading and writing: texts at every fault and limit, 2, 4 and 5 by line and column, every byte of M's text, and buffers that just fit.
 #include "stated.hpp"
 #include "text_cases.hpp"
 #include "text_writing.hpp"
@@ -44,16 +44,38 @@ void image_of_m() {
   expect("M's image", calls::read, loan, done(), left);
 }
 
-// Every value at every byte of M's text: no answer is stated but that the two agree, refused or not.
+// No answer is stated but that the two agree, refused or not, and where.
+void agree(const Text& text, const std::string& where) {
+  compare(Input::stated, calls::check_text, lent_text(text, 0), where);
+  compare(Input::stated, calls::read, lent_text(text, table_words), where);
+}
+
+// Every value at every byte of M's text, each byte left out, and the text cut off before each.
 void every_byte() {
-  for (std::size_t at = 0; at < m.size(); ++at)
+  for (std::size_t at = 0; at < m.size(); ++at) {
+    const std::string byte = "byte " + std::to_string(at);
     for (unsigned value = 0; value < 256; ++value) {
       Text text = m;
       text[at] = static_cast<char>(value);
-      const std::string where = "byte " + std::to_string(at) + " as " + std::to_string(value);
-      compare(Input::stated, calls::check_text, lent_text(text, 0), where);
-      compare(Input::stated, calls::read, lent_text(text, table_words), where);
+      agree(text, byte + " as " + std::to_string(value));
     }
+    agree(m.substr(0, at) + m.substr(at + 1), byte + " left out");
+    agree(m.substr(0, at), "cut off before " + byte);
+  }
+}
+
+// A line with numbers of every width and a list of resets, alone and behind what it names: every value put in before each byte, in place of it, or
+// in place of all from there on.
+void every_byte_of_a_row() {
+  const Text head = tabbed("comp 111 10\nact 3 uout\nact 10 in\nclk 0 1\nclk 5 0\nclk 12 1\n"), row = tabbed("row 110 5 10 0,5,12 109\n");
+  for (const Text& before : {Text(), head})
+    for (std::size_t at = 0; at <= row.size(); ++at)
+      for (unsigned value = 0; value < 256; ++value) {
+        const Text front = before + row.substr(0, at) + static_cast<char>(value);
+        const std::string where = "the row's byte " + std::to_string(at) + " as " + std::to_string(value);
+        for (const Text& text : {front + row.substr(at), front + row.substr(std::min(at + 1, row.size())), front})
+          compare(Input::stated, calls::check_text, lent_text(text, 0), where);
+      }
 }
 
 void written() {
@@ -85,10 +107,11 @@ void written() {
 }  // namespace
 
 void stated_texts() {
-  const auto expected = [](const cases::TextCase& entry) { return entry.number == 0 ? done() : refused(entry.number, {entry.place}); };
+  const auto expected = [](const cases::TextCase& entry) { return said(second::Answer{refusal_of(entry)}); };
   for (const cases::TextCase& entry : cases::text_cases) expect_read(tabbed(entry.text), expected(entry));
   for (const cases::TextCase& entry : cases::built_text_cases()) expect_read(entry.text, expected(entry));
   image_of_m();
   every_byte();
+  every_byte_of_a_row();
   written();
 }

@@ -1,75 +1,78 @@
 #include "line_shape.hpp"
 
-#include "number.hpp"
-
 namespace second {
 namespace {
 
-using Fields = std::vector<std::string_view>;
-
-std::optional<Kind> kind_in(std::string_view field) {
-  if (field == "in") return Kind::in;
-  if (field == "out") return Kind::out;
-  if (field == "uin") return Kind::uin;
-  if (field == "uout") return Kind::uout;
-  return std::nullopt;
+bool scan_kind(Scan& scan, Kind& kind) {
+  if (!scan.byte('\t')) return false;
+  const auto which = scan.word({"in", "out", "uin", "uout"});
+  if (!which) return false;
+  constexpr Kind kinds[] = {Kind::in, Kind::out, Kind::uin, Kind::uout};
+  kind = kinds[*which];
+  return true;
 }
 
-std::optional<Line> comp_shape(const Fields& fields) {
-  if (fields.size() != 3) return std::nullopt;
-  const auto states = number_in(fields[1]);
-  const auto start = number_in(fields[2]);
-  if (!states || !start) return std::nullopt;
-  return CompLine{*states, *start};
+bool scan_comp(Scan& scan, CompLine& line) {
+  return scan_number(scan, line.states) && scan_number(scan, line.start) && scan.byte('\n');
 }
 
-std::optional<Line> act_shape(const Fields& fields) {
-  if (fields.size() != 3) return std::nullopt;
-  const auto action = number_in(fields[1]);
-  const auto kind = kind_in(fields[2]);
-  if (!action || !kind) return std::nullopt;
-  return ActLine{*action, *kind};
+bool scan_act(Scan& scan, ActLine& line) {
+  return scan_number(scan, line.action) && scan_kind(scan, line.kind) && scan.byte('\n');
 }
 
-std::optional<Line> clk_shape(const Fields& fields) {
-  if (fields.size() != 3) return std::nullopt;
-  const auto clock = number_in(fields[1]);
-  const auto set = number_in(fields[2]);
-  if (!clock || !set) return std::nullopt;
-  return ClkLine{*clock, *set};
+bool scan_clk(Scan& scan, ClkLine& line) {
+  return scan_number(scan, line.clock) && scan_number(scan, line.set) && scan.byte('\n');
 }
 
-std::optional<Line> row_shape(const Fields& fields) {
-  if (fields.size() != 6) return std::nullopt;
-  RowLine row;
-  const auto from = number_in(fields[1]);
-  if (fields[2] != "-") {
-    row.guard = number_in(fields[2]);
-    if (!row.guard) return std::nullopt;
-  }
-  const auto action = number_in(fields[3]);
-  if (fields[4] != "-") {
-    auto resets = numbers_in(fields[4]);
-    if (!resets) return std::nullopt;
-    row.resets = std::move(*resets);
-  }
-  const auto target = number_in(fields[5]);
-  if (!from || !action || !target) return std::nullopt;
-  row.from = *from;
-  row.action = *action;
-  row.target = *target;
-  return row;
+bool scan_row(Scan& scan, RowLine& line) {
+  return scan_number(scan, line.from) && scan_guard(scan, line.guard) && scan_number(scan, line.action) &&
+         scan_resets(scan, line.resets) && scan_number(scan, line.target) && scan.byte('\n');
+}
+
+template <class Shape>
+std::optional<Line> shaped(Scan& scan, bool (*fields)(Scan&, Shape&)) {
+  Shape line{};
+  if (!fields(scan, line)) return std::nullopt;
+  return line;
 }
 
 }  // namespace
 
-std::optional<Line> shape_of(std::string_view line) {
-  const Fields fields = parted(line, '\t');
-  if (fields[0] == "comp") return comp_shape(fields);
-  if (fields[0] == "act") return act_shape(fields);
-  if (fields[0] == "clk") return clk_shape(fields);
-  if (fields[0] == "row") return row_shape(fields);
-  return std::nullopt;
+bool scan_number(Scan& scan, Number& number) {
+  if (!scan.byte('\t')) return false;
+  const auto read = scan.number();
+  if (!read) return false;
+  number = *read;
+  return true;
+}
+
+bool scan_guard(Scan& scan, std::optional<Number>& guard) {
+  if (!scan.byte('\t')) return false;
+  if (scan.byte('-')) return true;
+  guard = scan.number();
+  return guard.has_value();
+}
+
+bool scan_resets(Scan& scan, std::vector<Number>& resets) {
+  if (!scan.byte('\t')) return false;
+  if (scan.byte('-')) return true;
+  do {
+    const auto clock = scan.number();
+    if (!clock) return false;
+    resets.push_back(*clock);
+  } while (scan.byte(','));
+  return true;
+}
+
+std::optional<Line> shape_of(Scan& scan) {
+  const auto kind = scan.word({"comp", "act", "clk", "row"});
+  if (!kind) return std::nullopt;
+  switch (*kind) {
+    case 0: return shaped(scan, scan_comp);
+    case 1: return shaped(scan, scan_act);
+    case 2: return shaped(scan, scan_clk);
+    default: return shaped(scan, scan_row);
+  }
 }
 
 }  // namespace second

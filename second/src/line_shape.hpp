@@ -8,30 +8,39 @@
 #include <vector>
 
 #include "model.hpp"
+#include "scan.hpp"
 
 namespace second {
 
 struct CompLine {
-  std::uint32_t states, start;
+  Number states, start;
 };
 struct ActLine {
-  std::uint32_t action;
+  Number action;
   Kind kind;
 };
 struct ClkLine {
-  std::uint32_t clock, set;
+  Number clock, set;
 };
 struct RowLine {
-  std::uint32_t from;
-  std::optional<std::uint32_t> guard;
-  std::uint32_t action;
-  std::vector<std::uint32_t> resets;  // as they stand, ascending or not
-  std::uint32_t target;
+  Number from;
+  std::optional<Number> guard;
+  Number action;
+  std::vector<Number> resets;  // as they stand, ascending or not
+  Number target;
 };
 
 using Line = std::variant<CompLine, ActLine, ClkLine, RowLine>;
 
-// `line` is without its LF.
-std::optional<Line> shape_of(std::string_view line);
+// Reads one line with its LF. Nothing where it is of wrong shape; the scan then stands at the first
+// byte that no well-shaped line could have there.
+std::optional<Line> shape_of(Scan& scan);
+
+// A guard and resets, as every form of the text has them; each behind its tab.
+bool scan_guard(Scan& scan, std::optional<Number>& guard);
+bool scan_resets(Scan& scan, std::vector<Number>& resets);
+
+// A number behind its tab.
+bool scan_number(Scan& scan, Number& number);
 
 }  // namespace second

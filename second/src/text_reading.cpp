@@ -1,7 +1,5 @@
 #include "text_reading.hpp"
 
-#include <algorithm>
-
 #include "line_shape.hpp"
 
 namespace second {
@@ -10,62 +8,77 @@ namespace {
 // Kinds of line in the turn they take: "first its `act` lines, then `clk`, then `row`".
 enum class Turn { nothing, comp, act, clk, row };
 
-// Each `take` answers the number of the refusal, 0 for none, trying 3 to 7 in that order.
+// A refusal of the line, 3 to 7, with the column of the value at fault for 4 and 5.
+struct Fault {
+  unsigned number = 0;
+  std::uint64_t column = 0;
+};
+
+// Each `take` tries 3 to 7 in that order.
 class TextReader {
  public:
   Model model;
 
-  unsigned take(const CompLine& line) {
-    if (line.states < 1 || line.states > max_states) return 4;
-    if (line.start >= line.states) return 4;
-    if (model.components.size() == max_components) return 7;
+  Fault take(const CompLine& line) {
+    if (line.states.value < 1 || line.states.value > max_states) return {4, line.states.column};
+    if (line.start.value >= line.states.value) return {4, line.start.column};
+    if (model.components.size() == max_components) return {7};
     turn = Turn::comp;
     Component component;
-    component.states = line.states;
-    component.start = line.start;
+    component.states = line.states.value;
+    component.start = line.start.value;
     model.components.push_back(component);
-    return 0;
+    return {};
   }
 
-  unsigned take(const ActLine& line) {
-    if (out_of_turn(Turn::act)) return 3;
-    if (line.action >= members) return 4;
-    if (turn == Turn::act && line.action <= last_number) return 6;
+  Fault take(const ActLine& line) {
+    if (out_of_turn(Turn::act)) return {3};
+    if (line.action.value >= members) return {4, line.action.column};
+    if (turn == Turn::act && line.action.value <= last_number) return {6};
     turn = Turn::act;
-    last_number = line.action;
-    last().kind[line.action] = line.kind;
-    return 0;
+    last_number = line.action.value;
+    last().kind[line.action.value] = line.kind;
+    return {};
   }
 
-  unsigned take(const ClkLine& line) {
-    if (out_of_turn(Turn::clk)) return 3;
-    if (line.clock >= members || line.set > 1) return 4;
-    if (turn == Turn::clk && line.clock <= last_number) return 6;
+  Fault take(const ClkLine& line) {
+    if (out_of_turn(Turn::clk)) return {3};
+    if (line.clock.value >= members) return {4, line.clock.column};
+    if (line.set.value > 1) return {4, line.set.column};
+    if (turn == Turn::clk && line.clock.value <= last_number) return {6};
     turn = Turn::clk;
-    last_number = line.clock;
-    last().clocks |= only(line.clock);
-    if (line.set == 1) last().started |= only(line.clock);
-    return 0;
+    last_number = line.clock.value;
+    last().clocks |= only(line.clock.value);
+    if (line.set.value == 1) last().started |= only(line.clock.value);
+    return {};
   }
 
-  unsigned take(const RowLine& line) {
-    if (out_of_turn(Turn::row)) return 3;
-    if (out_of_range(line)) return 4;
-    if (lacking(line)) return 5;
+  Fault take(const RowLine& line) {
+    if (out_of_turn(Turn::row)) return {3};
+    const unsigned states = last().states;
+    const Component& own = last();
+    if (const auto column = first_at_fault(line, [&](unsigned state) { return state < states; },
+                                           [](unsigned clock) { return clock < members; },
+                                           [](unsigned action) { return action < members; }))
+      return {4, column};
+    if (const auto column = first_at_fault(line, [](unsigned) { return true; },
+                                           [&](unsigned clock) { return has(own.clocks, clock); },
+                                           [&](unsigned action) { return own.kind[action] != Kind::absent; }))
+      return {5, column};
     for (std::size_t r = 1; r < line.resets.size(); ++r)
-      if (line.resets[r] <= line.resets[r - 1]) return 6;
+      if (line.resets[r].value <= line.resets[r - 1].value) return {6};
     Row row;
-    row.from = line.from;
-    row.guard = line.guard ? static_cast<int>(*line.guard) : no_clock;
-    row.action = line.action;
-    for (std::uint32_t clock : line.resets) row.resets |= only(clock);
-    row.target = line.target;
-    if (!last().rows.empty() && !(last().rows.back() < row)) return 6;
-    if (rows == max_rows) return 7;
+    row.from = line.from.value;
+    row.guard = line.guard ? static_cast<int>(line.guard->value) : no_clock;
+    row.action = line.action.value;
+    for (const Number& clock : line.resets) row.resets |= only(clock.value);
+    row.target = line.target.value;
+    if (!last().rows.empty() && !(last().rows.back() < row)) return {6};
+    if (rows == max_rows) return {7};
     turn = Turn::row;
     ++rows;
     last().rows.push_back(row);
-    return 0;
+    return {};
   }
 
  private:
@@ -77,21 +90,23 @@ class TextReader {
 
   bool out_of_turn(Turn line) const { return turn == Turn::nothing || turn > line; }
 
-  bool out_of_range(const RowLine& line) {
-    if (line.from >= last().states || line.target >= last().states) return true;
-    if (line.action >= members) return true;
-    if (line.guard && *line.guard >= members) return true;
-    return std::any_of(line.resets.begin(), line.resets.end(),
-                       [](std::uint32_t clock) { return clock >= members; });
-  }
-
-  bool lacking(const RowLine& line) {
-    if (last().kind[line.action] == Kind::absent) return true;
-    if (line.guard && !has(last().clocks, *line.guard)) return true;
-    return std::any_of(line.resets.begin(), line.resets.end(),
-                       [&](std::uint32_t clock) { return !has(last().clocks, clock); });
+  // The column of the first value, from left to right, that isn't good; 0 where all are.
+  template <class State, class Clock, class Action>
+  static std::uint64_t first_at_fault(const RowLine& line, State state, Clock clock, Action action) {
+    if (!state(line.from.value)) return line.from.column;
+    if (line.guard && !clock(line.guard->value)) return line.guard->column;
+    if (!action(line.action.value)) return line.action.column;
+    for (const Number& reset : line.resets)
+      if (!clock(reset.value)) return reset.column;
+    return state(line.target.value) ? 0 : line.target.column;
   }
 };
+
+// 2, 4 and 5 carry line and column; the others the line alone.
+Refusal refuse_line(unsigned number, std::uint64_t line, std::uint64_t column) {
+  if (number == 2 || number == 4 || number == 5) return refuse(number, {line, column});
+  return refuse(number, {line});
+}
 
 }  // namespace
 
@@ -99,14 +114,13 @@ Reading model_of_text(std::string_view text) {
   if (text.size() > max_text) return {refuse(1, {0}), {}};
   TextReader reader;
   for (std::uint64_t number = 1; !text.empty(); ++number) {
-    const std::size_t end = text.find('\n');
-    // "last line without LF" is that line's 2, so lines before it are judged first.
-    if (end == std::string_view::npos) return {refuse(2, {number}), {}};
-    const auto line = shape_of(text.substr(0, end));
-    if (!line) return {refuse(2, {number}), {}};
-    const unsigned refused = std::visit([&](const auto& shaped) { return reader.take(shaped); }, *line);
-    if (refused != 0) return {refuse(refused, {number}), {}};
-    text.remove_prefix(end + 1);
+    Scan scan(text);
+    // A missing LF is that line's 2, so lines before it are judged first.
+    const auto line = shape_of(scan);
+    if (!line) return {refuse_line(2, number, scan.column()), {}};
+    const Fault fault = std::visit([&](const auto& shaped) { return reader.take(shaped); }, *line);
+    if (fault.number != 0) return {refuse_line(fault.number, number, fault.column), {}};
+    text.remove_prefix(scan.column() - 1);
   }
   if (reader.model.components.empty()) return {refuse(8, {0}), {}};
   return {Refusal{}, std::move(reader.model)};

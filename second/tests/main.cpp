@@ -26,6 +26,7 @@ int main(int count, char** arguments) {
   timed("component alone", test_component_alone);
   timed("starts", test_starts);
   timed("text refusals", test_text_refusals);
+  timed("columns by force", test_columns_by_force);
   timed("model refusals", test_model_refusals);
   timed("call refusals", test_call_refusals);
   timed("request refusals", test_request_refusals);

@@ -59,9 +59,10 @@ void test_request_refusals() {
   // 1 counts the text alone, lines are counted from the model's first (DECISIONS, The program).
   const Text request = tabbed("from 9,9 9999\n");
   check(lend_report(request + Text(32769, 'x')) == "refused\t1\t0\n", "1");
-  check(lend_report(request + Text(32768, 'x')) == "refused\t2\t1\n", "2 at 1");
+  check(lend_report(request + Text(32768, 'x')) == "refused\t2\t1,1\n", "2 at 1, 1");
   check(lend_report(request + Text(100000, 'x')) == "refused\t1\t0\n", "1, far over");
   check(lend_report(request + tabbed("comp 1 0\nact 0 in\nact 0 in\n")) == "refused\t6\t3\n", "6 at 3");
+  check(lend_report(request + tabbed("comp 1 0\nact 0 in\nrow 0 - 9 - 0\n")) == "refused\t5\t3,9\n", "5 at 3, 9");
   check(lend_report(request + m_with("row 2 - 1 - 2\n", "")) == "refused\t12\t1,2,1\n", "12 before 21");
   check(lend_report(request + m_with("row 1 - 2 - 2", "row 1 - 2 - 0")) == "refused\t18\t1,1,1,2\n", "18 before 21");
   check(lend_report(request + m) == "refused\t21\t0\n", "21 before 22");

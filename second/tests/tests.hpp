@@ -8,6 +8,7 @@ void test_program(const std::string& program, const std::string& examples, const
 void test_component_alone();
 void test_starts();
 void test_text_refusals();
+void test_columns_by_force();
 void test_model_refusals();
 void test_call_refusals();
 void test_request_refusals();

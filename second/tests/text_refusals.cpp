@@ -7,14 +7,13 @@
 
 namespace {
 
-void check_case(const Text& text, std::uint64_t number, std::uint64_t place) {
+void check_case(const Text& text, const second::Refusal& expected) {
   Table into(second::image_words, 0x5555);
-  const second::Refusal expected = number == 0 ? second::Refusal{} : second::refuse(number, {place});
   const second::Refusal answered = lend_read(text, into).refusal;
   check(answered == expected, shown(answered) + " for the text\n" + text.substr(0, 300));
   // "In reading it comes last" (DECISIONS, Refusals).
   Table shorter(second::image_words - 1, 0x5555);
-  const second::Refusal short_of = number == 0 ? second::refuse(24, {67848}) : expected;
+  const second::Refusal short_of = expected ? expected : second::refuse(24, {67848});
   check(lend_read(text, shorter).refusal == short_of, "a short table, for the text\n" + text.substr(0, 300));
 }
 
@@ -28,7 +27,7 @@ void test_overlong() {
 }  // namespace
 
 void test_text_refusals() {
-  for (const cases::TextCase& entry : cases::text_cases) check_case(tabbed(entry.text), entry.number, entry.place);
-  for (const cases::TextCase& entry : cases::built_text_cases()) check_case(entry.text, entry.number, entry.place);
+  for (const cases::TextCase& entry : cases::text_cases) check_case(tabbed(entry.text), refusal_of(entry));
+  for (const cases::TextCase& entry : cases::built_text_cases()) check_case(entry.text, refusal_of(entry));
   test_overlong();
 }

@@ -5,7 +5,7 @@ use mathlib.Core.Bool.{Bool, true, false}
 use Prim.Native.Nat.{ℕ}
 use lib.ListN.{getD}
 use Rattle.answer.specs.declared.Place.{Place}
-use Rattle.answer.specs.declared.Place.the-variants.{Whole, Line, Row, Bytes, Index, Clock, Component, Cell, Clash, SharedAction, SharedClock}
+use Rattle.answer.specs.declared.Place.the-variants.{Whole, Line, Row, Bytes, Index, Clock, Component, Cell, Clash, SharedAction, SharedClock, Spot}
 use Rattle.answer.specs.declared.Refusal.{Refusal}
 use Rattle.answer.specs.declared.Checked.{Checked}
 use Rattle.answer.specs.declared.Checked.the-variants as OfChecked
@@ -28,13 +28,13 @@ tell n p = record { number = n; place = p }
 
 -- the shapes of place in the table's last column
 pub data Shape : Type 0 where
-  nowhere whole line row bytes index clock component cell clash shared-action shared-clock : Shape
+  nowhere whole line row bytes index clock component cell clash shared-action shared-clock spot : Shape
   deriving Discrete as same-shape
 
--- the shape of place of each number, from 0, which is none
+-- the shape of place of each number, from 0, which is none; 2, 4 and 5 "carry line and column" since request 2
 abbrev pub shapes : List Shape
 shapes =
-    nowhere ∷ whole ∷ line ∷ line ∷ line ∷ line ∷ line ∷ line ∷ whole ∷ whole ∷ row ∷ row ∷ cell ∷ cell ∷ component ∷ shared-action ∷ shared-clock
+    nowhere ∷ whole ∷ spot ∷ line ∷ spot ∷ spot ∷ line ∷ line ∷ whole ∷ whole ∷ row ∷ row ∷ cell ∷ cell ∷ component ∷ shared-action ∷ shared-clock
     ∷ shared-action ∷ clash ∷ component ∷ whole ∷ whole ∷ whole ∷ index ∷ bytes ∷ whole ∷ whole ∷ whole ∷ whole ∷ clock ∷ clock ∷ []
 
 abbrev pub shapeOf : ℕ → Shape
@@ -53,6 +53,7 @@ shapeAt (Cell i s a) = cell
 shapeAt (Clash i s a b) = clash
 shapeAt (SharedAction a i j) = shared-action
 shapeAt (SharedClock x i j) = shared-clock
+shapeAt (Spot n k) = spot
 
 abbrev pub valuesAt : Place → List ℕ
 valuesAt Whole = 0 ∷ []
@@ -66,6 +67,7 @@ valuesAt (Cell i s a) = i ∷ s ∷ a ∷ []
 valuesAt (Clash i s a b) = i ∷ s ∷ a ∷ b ∷ []
 valuesAt (SharedAction a i j) = a ∷ i ∷ j ∷ []
 valuesAt (SharedClock x i j) = x ∷ i ∷ j ∷ []
+valuesAt (Spot n k) = n ∷ k ∷ []
 
 -- number and values of a refusal, and nothing where the place's shape is not that number's
 unfoldable pub told : Refusal → Option Told

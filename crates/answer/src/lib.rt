@@ -48,7 +48,7 @@ pub struct Limits {
     pub ticks: i64,
 }
 
-// Where a refusal points: a case for each shape of place in paper 01's table.
+// Where a refusal points: a case for each shape of place in paper 01's table, and line and column, bytes from 1, since request 2.
 pub enum Place {
     Whole,
     Line(usize),
@@ -77,6 +77,10 @@ pub enum Place {
         clock: u64,
         first: usize,
         second: usize,
+    },
+    Spot {
+        line: usize,
+        column: usize,
     },
 }
 

@@ -1,13 +1,12 @@
 -- The loops over further numbers, each behind a comma: what is kept so far, with the numbers from here on, is what is kept of all.
 use mathlib.Core.Path.{_≡_, refl, sym, _∙_, ap}
-use mathlib.Core.Option.{Option, none, some}
 use mathlib.Core.List.{List, [], _∷_}
 use Prim.Native.Nat.{ℕ, _+_, _-_, _≤_, _<_}
 use native.Mathlib.Nat.{le-refl}
 use native.Mathlib.Omega.{arith}
 use lib.ListN.{length, getD, drop, length-drop}
 use Rattle.iosa.specs.Text.{comma}
-use Rattle.iosa.specs.Reading.{Got, got, number, moreNumbers}
+use Rattle.iosa.specs.Reading.{Scan, stops, got, number, moreNumbers}
 use Rattle.fields.specs.declared.Cursor.{Cursor}
 use Rattle.fields.specs.declared.NumberScan.{NumberScan}
 use Rattle.fields.specs.declared.NumberScan.the-variants as OfNumber
@@ -16,7 +15,7 @@ use Rattle.fields.specs.Resets.{valued}
 use Rattle.fields.proofs.NumberLaws.{number-shortens, numbers-end, numbers-other, numbers-missing, numbers-more}
 
 -- what is kept of all the numbers from a place on
-abbrev pub kept : {A : Type 0} → (A → List ℕ → A) → List ℕ → A → ℕ → Option (Got A)
+abbrev pub kept : {A : Type 0} → (A → List ℕ → A) → List ℕ → A → ℕ → Scan A
 kept all t s at = valued (all s) (moreNumbers (length (drop at t)) (drop at t))
 
 pub record Gathered {A : Type 0} (all : A → List ℕ → A) (t : List ℕ) (s₀ : A) (at₀ : ℕ) (s : A) (at : ℕ) : Type 0 where
@@ -39,10 +38,10 @@ module _ {A : Type 0} (with : A → ℕ → A) (all : A → List ℕ → A) (not
 
       -- ---- behind a comma
       module _ (e : getD t at 0 ≡ comma) (r : NumberScan) (scan : gotNumber t r ≡ number (drop (at + 1) t)) where
-        pub gathered-missing : r ≡ OfNumber.Missing → none ≡ kept all t s₀ at₀
-        gathered-missing is = sym (numbers-missing with all nothing one t s at (g .turns) h e (g .enough) (sym scan ∙ ap (gotNumber t) is)) ∙ g .same
+        pub gathered-missing : (m : Cursor) (n : ℕ) → r ≡ OfNumber.Missing m n → stops (drop (m .at) t) ≡ kept all t s₀ at₀
+        gathered-missing m n is = sym (numbers-missing with all nothing one t s at (g .turns) h e (g .enough) (sym scan ∙ ap (gotNumber t) is)) ∙ g .same
 
-        module _ (n : ℕ) (next : Cursor) (is : r ≡ OfNumber.Is n next) where
+        module _ (n : ℕ) (next : Cursor) (is : r ≡ OfNumber.Is next n) where
           read : number (drop (at + 1) t) ≡ got n (drop (next .at) t)
           read = sym scan ∙ ap (gotNumber t) is
 

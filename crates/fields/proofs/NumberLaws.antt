@@ -1,6 +1,5 @@
 -- Numbers behind commas, gathered from left to right into any kind of value.
-use mathlib.Core.Path.{_≡_, refl, sym, _∙_, ap}
-use mathlib.Core.Option.{Option, none, some}
+use mathlib.Core.Path.{_≡_, refl, ap}
 use mathlib.Core.List.{List, [], _∷_}
 use mathlib.Core.Bool.{Bool, true, false}
 use Prim.Native.Nat.{ℕ, zero, suc, _+_, _*_, _-_, _≤_, _<_}
@@ -10,7 +9,7 @@ use lib.Dec.{eqb}
 use borrow.Author.Tests.{eq-eqb, ne-eqb}
 use Rattle.iosa.specs.Text.{comma, byte0}
 use Rattle.answer.specs.Limits.{maxDigits}
-use Rattle.iosa.specs.Reading.{Got, got, then, isDigit, moreDigits, number, moreNumbers, numbers}
+use Rattle.iosa.specs.Reading.{Got, Scan, is, stops, got, then, isDigit, moreDigits, number, moreNumbers, numbers}
 use Rattle.fields.specs.Resets.{valued}
 use Rattle.fields.proofs.ScanLaws.{front}
 
@@ -26,16 +25,16 @@ more-shortens (suc k) n (b ∷ bs) = go (isDigit b) (more-shortens k (n * 10 + (
     go true h = omega arith
     go false h = omega arith
 
-pub number-shortens : (bs : List ℕ) (g : Got ℕ) → number bs ≡ some g → length (g .rest) < length bs
+pub number-shortens : (bs : List ℕ) (g : Got ℕ) → number bs ≡ is g → length (g .rest) < length bs
 unfolding number
 number-shortens [] g e = let z : _≡_ {A = ℕ} 0 1 = cc in absurd (omega arith)
 number-shortens (b ∷ bs) g e = go (isDigit b) (eqb b byte0) e
   where
     go : (d z : Bool)
-        → _≡_ {A = Option (Got ℕ)} (elim d as (λ _. Option (Got ℕ)) [
-          | true ↦ elim z as (λ _. Option (Got ℕ)) [ true ↦ got 0 bs | false ↦ some (moreDigits (maxDigits - 1) (b - byte0) bs) ]
-          | false ↦ none
-        ]) (some g)
+        → _≡_ {A = Scan ℕ} (elim d as (λ _. Scan ℕ) [
+          | true ↦ elim z as (λ _. Scan ℕ) [ true ↦ got 0 bs | false ↦ is (moreDigits (maxDigits - 1) (b - byte0) bs) ]
+          | false ↦ stops (b ∷ bs)
+        ]) (is g)
         → length (g .rest) < length (b ∷ bs)
     go true true e = let q : bs ≡ g .rest = cc in omega (arith, ap length q)
     go true false e =
@@ -61,9 +60,9 @@ more-comma k b bs e = rw (eq-eqb b comma e, moreNumbers)
 
 -- all gathers what with adds one by one
 module _ {A : Type 0} (with : A → ℕ → A) (all : A → List ℕ → A) (nothing : (s : A) → all s [] ≡ s) (one : (s : A) (n : ℕ) (ns : List ℕ) → all s (n ∷ ns) ≡ all (with s n) ns) where
-  behind : (s : A) (n : ℕ) (o : Option (Got (List ℕ))) → valued (all s) (then o (λ ns ds. got (n ∷ ns) ds)) ≡ valued (all (with s n)) o
-  behind s n none = refl
-  behind s n (some g) = ap (λ x. got x (g .rest)) (one s n (g .value))
+  behind : (s : A) (n : ℕ) (o : Scan (List ℕ)) → valued (all s) (then o (λ ns ds. got (n ∷ ns) ds)) ≡ valued (all (with s n)) o
+  behind s n (stops cs) = refl
+  behind s n (is g) = ap (λ x. got x (g .rest)) (one s n (g .value))
 
   module _ (t : List ℕ) (s : A) (at k : ℕ) where
     pub numbers-end : length t ≤ at → valued (all s) (moreNumbers k (drop at t)) ≡ got s (drop at t)
@@ -72,11 +71,11 @@ module _ {A : Type 0} (with : A → ℕ → A) (all : A → List ℕ → A) (not
     pub numbers-other : at < length t → (getD t at 0 ≡ comma → ⊥) → valued (all s) (moreNumbers k (drop at t)) ≡ got s (drop at t)
     numbers-other h e = rw (front t at h, more-other k (getD t at 0) (drop (at + 1) t) e, nothing s)
 
-    pub numbers-missing : at < length t → getD t at 0 ≡ comma → length (drop at t) ≤ k → number (drop (at + 1) t) ≡ none
-        → valued (all s) (moreNumbers k (drop at t)) ≡ none
-    numbers-missing h e l n = go k (omega (arith, length-drop at t))
+    pub numbers-missing : at < length t → getD t at 0 ≡ comma → length (drop at t) ≤ k → {cs : List ℕ} → number (drop (at + 1) t) ≡ stops cs
+        → valued (all s) (moreNumbers k (drop at t)) ≡ stops cs
+    numbers-missing h e l {cs} n = go k (omega (arith, length-drop at t))
       where
-        go : (k : ℕ) → 0 < k → valued (all s) (moreNumbers k (drop at t)) ≡ none
+        go : (k : ℕ) → 0 < k → valued (all s) (moreNumbers k (drop at t)) ≡ stops cs
         go zero z = absurd (omega arith)
         go (suc j) z = rw (front t at h, more-comma j (getD t at 0) (drop (at + 1) t) e, n)
 
@@ -98,6 +97,6 @@ module _ {A : Type 0} (with : A → ℕ → A) (all : A → List ℕ → A) (not
   unfolding numbers
   numbers-all s bs cs n e = rw (e, numbers) (behind s n (moreNumbers (length cs) cs))
 
-pub no-number : (bs : List ℕ) → number bs ≡ none → numbers bs ≡ none
+pub no-number : (bs cs : List ℕ) → number bs ≡ stops cs → numbers bs ≡ stops cs
 unfolding numbers
-no-number bs e = rw (e, numbers)
+no-number bs cs e = rw (e, numbers)

@@ -1,10 +1,9 @@
 -- The numbers of a resets field, gathered from left to right.
 use mathlib.Core.Path.{_≡_, refl, ap}
-use mathlib.Core.Option.{Option, none, some}
 use mathlib.Core.List.{List, [], _∷_}
 use Prim.Native.Nat.{ℕ}
 use lib.ListN.{length}
-use Rattle.iosa.specs.Reading.{Got, got, then, number, moreNumbers, numbers}
+use Rattle.iosa.specs.Reading.{Scan, is, stops, got, then, number, moreNumbers, numbers}
 use Rattle.fields.specs.declared.Resets.{Resets}
 use Rattle.fields.specs.Resets.{none-yet, first, with, withAll, summary, valued}
 
@@ -21,10 +20,10 @@ pub first-number : (bs cs : List ℕ) (n : ℕ) → number bs ≡ got n cs → v
 unfolding numbers summary withAll
 first-number bs cs n e = rw (e, numbers) (go (moreNumbers (length cs) cs))
   where
-    go : (o : Option (Got (List ℕ))) → valued summary (then o (λ ns ds. got (n ∷ ns) ds)) ≡ valued (withAll (first n)) o
-    go none = refl
-    go (some g) = refl
+    go : (o : Scan (List ℕ)) → valued summary (then o (λ ns ds. got (n ∷ ns) ds)) ≡ valued (withAll (first n)) o
+    go (stops cs) = refl
+    go (is g) = refl
 
-pub no-resets : (o : Option (Got (List ℕ))) (cs : List ℕ) → o ≡ got [] cs → valued summary o ≡ got none-yet cs
+pub no-resets : (o : Scan (List ℕ)) (cs : List ℕ) → o ≡ got [] cs → valued summary o ≡ got none-yet cs
 unfolding summary
 no-resets o cs e = ap (valued summary) e

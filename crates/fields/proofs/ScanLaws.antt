@@ -1,20 +1,19 @@
 -- A scan at a cursor goes by the byte there: the bytes from a cursor on are that byte and the bytes from the next cursor on.
 use mathlib.Core.Path.{_≡_, refl, sym, _∙_, ap}
-use mathlib.Core.Option.{Option, none, some}
 use mathlib.Core.List.{List, [], _∷_}
-use mathlib.Core.Bool.{Bool, true, false}
+use mathlib.Core.Bool.{true, false}
 use Prim.Native.Nat.{ℕ, zero, suc, _+_, _*_, _-_, _^_, _≤_, _<_}
 use native.Mathlib.Numerals.{add-one}
 use native.Mathlib.Nat.{pow-le-pow-right}
 use native.Mathlib.Omega.{arith}
 use lib.ListN.{length, getD, drop, drop-of-length-le}
 use lib.Seq.{drop-cons}
-use lib.Dec.{eqb, leb, ltb}
+use lib.Dec.{leb, ltb}
 use borrow.Author.Tests.{eq-eqb, ne-eqb, leb-true, ltb-true}
 use Rattle.laws.proofs.TestLaws.{and-true}
 use Rattle.iosa.specs.Text.{byte0}
 use Rattle.answer.specs.Limits.{maxDigits}
-use Rattle.iosa.specs.Reading.{Got, got, then, exactly, theByte, isDigit, moreDigits, number}
+use Rattle.iosa.specs.Reading.{Scan, is, stops, got, then, exactly, theByte, isDigit, moreDigits, number}
 
 pub front : (t : List ℕ) (at : ℕ) → at < length t → drop at t ≡ getD t at 0 ∷ drop (at + 1) t
 front t at h = rw (add-one) (drop-cons t at 0 h)
@@ -23,7 +22,7 @@ pub exactly-nil : (bs : List ℕ) → exactly [] bs ≡ got tt bs
 unfolding exactly
 exactly-nil bs = refl
 
-pub exactly-end : (w : ℕ) (ws : List ℕ) → exactly (w ∷ ws) [] ≡ none
+pub exactly-end : (w : ℕ) (ws : List ℕ) → exactly (w ∷ ws) [] ≡ stops []
 unfolding exactly
 exactly-end w ws = refl
 
@@ -31,17 +30,17 @@ pub exactly-go : (w b : ℕ) (ws bs : List ℕ) → w ≡ b → exactly (w ∷ w
 unfolding exactly
 exactly-go w b ws bs e = rw (eq-eqb w b e, exactly)
 
-pub exactly-stop : (w b : ℕ) (ws bs : List ℕ) → (w ≡ b → ⊥) → exactly (w ∷ ws) (b ∷ bs) ≡ none
+pub exactly-stop : (w b : ℕ) (ws bs : List ℕ) → (w ≡ b → ⊥) → exactly (w ∷ ws) (b ∷ bs) ≡ stops (b ∷ bs)
 unfolding exactly
 exactly-stop w b ws bs e = rw (ne-eqb w b e, exactly)
 
 pub byte-here : (t : List ℕ) (at b : ℕ) → at < length t → getD t at 0 ≡ b → theByte b (drop at t) ≡ got tt (drop (at + 1) t)
 byte-here t at b h e = rw (front t at h) (exactly-go b (getD t at 0) [] (drop (at + 1) t) (sym e) ∙ exactly-nil (drop (at + 1) t))
 
-pub byte-other : (t : List ℕ) (at b : ℕ) → at < length t → (getD t at 0 ≡ b → ⊥) → theByte b (drop at t) ≡ none
+pub byte-other : (t : List ℕ) (at b : ℕ) → at < length t → (getD t at 0 ≡ b → ⊥) → theByte b (drop at t) ≡ stops (drop at t)
 byte-other t at b h e = rw (front t at h) (exactly-stop b (getD t at 0) [] (drop (at + 1) t) (λ q. e (sym q)))
 
-pub byte-end : (t : List ℕ) (at b : ℕ) → length t ≤ at → theByte b (drop at t) ≡ none
+pub byte-end : (t : List ℕ) (at b : ℕ) → length t ≤ at → theByte b (drop at t) ≡ stops (drop at t)
 byte-end t at b h = rw (drop-of-length-le t h) (exactly-end b [])
 
 -- ---- a word, byte by byte
@@ -49,10 +48,10 @@ module _ (w t : List ℕ) (i at : ℕ) where
   pub word-done : length w ≤ i → exactly (drop i w) (drop at t) ≡ got tt (drop at t)
   word-done h = rw (drop-of-length-le w h) (exactly-nil (drop at t))
 
-  pub word-short : i < length w → length t ≤ at → exactly (drop i w) (drop at t) ≡ none
+  pub word-short : i < length w → length t ≤ at → exactly (drop i w) (drop at t) ≡ stops (drop at t)
   word-short h k = rw (front w i h, drop-of-length-le t k) (exactly-end (getD w i 0) (drop (i + 1) w))
 
-  pub word-other : i < length w → at < length t → (getD w i 0 ≡ getD t at 0 → ⊥) → exactly (drop i w) (drop at t) ≡ none
+  pub word-other : i < length w → at < length t → (getD w i 0 ≡ getD t at 0 → ⊥) → exactly (drop i w) (drop at t) ≡ stops (drop at t)
   word-other h k e = rw (front w i h, front t at k) (exactly-stop (getD w i 0) (getD t at 0) (drop (i + 1) w) (drop (at + 1) t) e)
 
   pub word-on : i < length w → at < length t → getD w i 0 ≡ getD t at 0 → exactly (drop i w) (drop at t) ≡ exactly (drop (i + 1) w) (drop (at + 1) t)
@@ -99,7 +98,7 @@ pub digits-few : (k n : ℕ) → k ≤ 4 → n < 10 ^ k → n < 10000
 digits-few k n h l = let p : 10 ^ k ≤ 10 ^ 4 = pow-le-pow-right (omega arith) h in omega arith
 
 -- ---- a number
-number-none : (b : ℕ) (bs : List ℕ) → isDigit b ≡ false → number (b ∷ bs) ≡ none
+number-none : (b : ℕ) (bs : List ℕ) → isDigit b ≡ false → number (b ∷ bs) ≡ stops (b ∷ bs)
 unfolding number
 number-none b bs e = rw (e, number)
 
@@ -107,31 +106,31 @@ number-zero : (b : ℕ) (bs : List ℕ) → isDigit b ≡ true → b ≡ byte0 �
 unfolding number
 number-zero b bs e z = rw (e, eq-eqb b byte0 z, number)
 
-number-more : (b : ℕ) (bs : List ℕ) → isDigit b ≡ true → (b ≡ byte0 → ⊥) → number (b ∷ bs) ≡ some (moreDigits (maxDigits - 1) (b - byte0) bs)
+number-more : (b : ℕ) (bs : List ℕ) → isDigit b ≡ true → (b ≡ byte0 → ⊥) → number (b ∷ bs) ≡ is (moreDigits (maxDigits - 1) (b - byte0) bs)
 unfolding number
 number-more b bs e z = rw (e, ne-eqb b byte0 z, number)
 
-number-nil : number [] ≡ none
+number-nil : number [] ≡ stops []
 unfolding number
 number-nil = refl
 
 module _ (t : List ℕ) (at : ℕ) where
-  pub number-end : length t ≤ at → number (drop at t) ≡ none
+  pub number-end : length t ≤ at → number (drop at t) ≡ stops (drop at t)
   number-end h = rw (drop-of-length-le t h) number-nil
 
-  pub number-not : at < length t → isDigit (getD t at 0) ≡ false → number (drop at t) ≡ none
+  pub number-not : at < length t → isDigit (getD t at 0) ≡ false → number (drop at t) ≡ stops (drop at t)
   number-not h e = rw (front t at h) (number-none (getD t at 0) (drop (at + 1) t) e)
 
   pub number-nought : at < length t → isDigit (getD t at 0) ≡ true → getD t at 0 ≡ byte0 → number (drop at t) ≡ got 0 (drop (at + 1) t)
   number-nought h e z = rw (front t at h) (number-zero (getD t at 0) (drop (at + 1) t) e z)
 
   pub number-on : at < length t → isDigit (getD t at 0) ≡ true → (getD t at 0 ≡ byte0 → ⊥)
-      → number (drop at t) ≡ some (moreDigits (maxDigits - 1) (getD t at 0 - byte0) (drop (at + 1) t))
+      → number (drop at t) ≡ is (moreDigits (maxDigits - 1) (getD t at 0 - byte0) (drop (at + 1) t))
   number-on h e z = rw (front t at h) (number-more (getD t at 0) (drop (at + 1) t) e z)
 
 -- ---- one scan, then another
-pub then-none : {A B : Type 0} {o : Option (Got A)} (f : A → List ℕ → Option (Got B)) → o ≡ none → then o f ≡ none
-then-none {A} {B} f e = ap (λ o. then o f) e
+pub then-stops : {A B : Type 0} {o : Scan A} {cs : List ℕ} (f : A → List ℕ → Scan B) → o ≡ stops cs → then o f ≡ stops cs
+then-stops {A} {B} f e = ap (λ o. then o f) e
 
-pub then-some : {A B : Type 0} {o : Option (Got A)} {x : A} {bs : List ℕ} (f : A → List ℕ → Option (Got B)) → o ≡ got x bs → then o f ≡ f x bs
-then-some {A} {B} f e = ap (λ o. then o f) e
+pub then-is : {A B : Type 0} {o : Scan A} {x : A} {bs : List ℕ} (f : A → List ℕ → Scan B) → o ≡ got x bs → then o f ≡ f x bs
+then-is {A} {B} f e = ap (λ o. then o f) e

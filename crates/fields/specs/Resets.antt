@@ -1,13 +1,12 @@
 -- What reading needs of the numbers of a resets field ("`-`, or clocks strictly ascending, joined by commas"), gathered from left to right.
-use mathlib.Core.Option.{Option, none, some}
-use mathlib.Core.Bool.{Bool, true, false, _&&_, cond}
+use mathlib.Core.Bool.{true, false, _&&_, cond}
 use mathlib.Core.List.{List, [], _∷_}
 use Prim.Native.Nat.{ℕ}
 use lib.ListN.{drop}
 use lib.Dec.{ltb}
 use Rattle.laws.specs.Sets.{_∪_, only}
 use Rattle.answer.specs.Limits.{maxClocks}
-use Rattle.iosa.specs.Reading.{Got, got}
+use Rattle.iosa.specs.Reading.{Scan, is, stops, got}
 use Rattle.fields.specs.declared.Resets.{Resets}
 use Rattle.fields.specs.declared.ResetsScan.{ResetsScan}
 use Rattle.fields.specs.declared.ResetsScan.the-variants as OfResets
@@ -36,10 +35,10 @@ summary [] = none-yet
 summary (x ∷ xs) = withAll (first x) xs
 
 -- a scan's value, changed
-abbrev pub valued : {A B : Type 0} → (A → B) → Option (Got A) → Option (Got B)
-valued f none = none
-valued f (some g) = got (f (g .value)) (g .rest)
+abbrev pub valued : {A B : Type 0} → (A → B) → Scan A → Scan B
+valued f (stops cs) = stops cs
+valued f (is g) = got (f (g .value)) (g .rest)
 
-abbrev pub gotResets : List ℕ → ResetsScan → Option (Got Resets)
-gotResets t (OfResets.Is s c) = got s (drop (c .at) t)
-gotResets t OfResets.Missing = none
+abbrev pub gotResets : List ℕ → ResetsScan → Scan Resets
+gotResets t (OfResets.Is c s) = got s (drop (c .at) t)
+gotResets t (OfResets.Missing c) = stops (drop (c .at) t)

@@ -1,9 +1,9 @@
-// Fields of a text: each scan takes bytes off at a cursor and answers a value with the cursor behind it, or that there is no such field.
+// Fields of a text: each scan takes bytes off at a cursor and answers a value with the cursor behind it, or where it stopped: at the first byte that could not stand there.
 ghost use mathlib.Core.Path.{_≡_};
-ghost use mathlib.Core.Option.{some};
-ghost use Prim.Native.Nat.{_-_, _<_};
+ghost use mathlib.Core.List.{List};
+ghost use Prim.Native.Nat.{ℕ, _-_, _<_};
 ghost use lib.ListN.{length, drop};
-ghost use Rattle.iosa.specs.Reading.{exactly, theByte, isDigit, moreDigits, number as numberOf, guardOrDash, kind as kindScan, moreNumbers, numbersOrDash, field};
+ghost use Rattle.iosa.specs.Reading.{is, shorter, exactly, theByte, isDigit, moreDigits, number as numberOf, guardOrDash, kind as kindScan, moreNumbers, numbersOrDash, field};
 ghost use Rattle.answer.specs.Limits.{maxDigits};
 ghost use Rattle.fields.specs.Fields.{past, gotNumber, gotGuard, gotKind};
 ghost use Rattle.fields.specs.Resets.{gotResets, valued, first, with, withAll, summary};
@@ -35,12 +35,13 @@ pub const DIGITS: usize = 5;
 
 pub enum Step {
     Past(Cursor),
-    Missing,
+    Missing(Cursor),
 }
 
+// Where there is no number it is 0: with both cases alike in memory the compiler keeps them in registers, and a good text is read no slower for the cursor.
 pub enum NumberScan {
-    Is(u64, Cursor),
-    Missing,
+    Is(Cursor, u64),
+    Missing(Cursor, u64),
 }
 
 // "guard (a clock or `-`)".
@@ -50,8 +51,8 @@ pub enum Guard {
 }
 
 pub enum GuardScan {
-    Is(Guard, Cursor),
-    Missing,
+    Is(Cursor, Guard),
+    Missing(Cursor),
 }
 
 // "`in`, `out`, `uin` or `uout`".
@@ -63,8 +64,8 @@ pub enum Kind {
 }
 
 pub enum KindScan {
-    Is(Kind, Cursor),
-    Missing,
+    Is(Cursor, Kind),
+    Missing(Cursor),
 }
 
 // What reading needs of the numbers of a resets field: that all of them are clocks, that they ascend, the last one, and the set.
@@ -76,8 +77,8 @@ pub struct Resets {
 }
 
 pub enum ResetsScan {
-    Is(Resets, Cursor),
-    Missing,
+    Is(Cursor, Resets),
+    Missing(Cursor),
 }
 
 pub fn byte(text: &[u8], c: Cursor, b: u8) -> Step
@@ -89,7 +90,7 @@ pub fn byte(text: &[u8], c: Cursor, b: u8) -> Step
             return Step::Past(Cursor { at: at + 1 });
         }
     }
-    Step::Missing
+    Step::Missing(c)
 }
 
 pub fn word(text: &[u8], c: Cursor, w: &[u8]) -> Step
@@ -99,10 +100,10 @@ pub fn word(text: &[u8], c: Cursor, w: &[u8]) -> Step
     let mut i = 0;
     while i < w.len() {
         if text.len() <= at {
-            return Step::Missing;
+            return Step::Missing(Cursor { at });
         }
         if w[i] != text[at] {
-            return Step::Missing;
+            return Step::Missing(Cursor { at });
         }
         i += 1;
         at += 1;
@@ -119,24 +120,24 @@ pub fn is_digit(b: u8) -> bool
 // The digits behind a number's first.
 fn more_digits(text: &[u8], first: u64, c: Cursor) -> NumberScan
     requires { ⌜ first < 10 ⌝ }
-    ensures { λ r. ⌜ gotNumber (now (text .entry)) r ≡ some (moreDigits (maxDigits - 1) first (drop (c .at) (now (text .entry)))) ⌝ }
+    ensures { λ r. ⌜ gotNumber (now (text .entry)) r ≡ is (moreDigits (maxDigits - 1) first (drop (c .at) (now (text .entry)))) ⌝ }
 {
     let mut n = first;
     let mut at = c.at;
     let mut k = 1;
     while k < DIGITS {
         if text.len() <= at {
-            return NumberScan::Is(n, Cursor { at });
+            return NumberScan::Is(Cursor { at }, n);
         }
         let b = text[at];
         if !is_digit(b) {
-            return NumberScan::Is(n, Cursor { at });
+            return NumberScan::Is(Cursor { at }, n);
         }
         n = n * 10 + (b - Sign::ZERO) as u64;
         at += 1;
         k += 1;
     }
-    NumberScan::Is(n, Cursor { at })
+    NumberScan::Is(Cursor { at }, n)
 }
 
 pub fn number(text: &[u8], c: Cursor) -> NumberScan
@@ -144,14 +145,14 @@ pub fn number(text: &[u8], c: Cursor) -> NumberScan
 {
     let at = c.at;
     if text.len() <= at {
-        return NumberScan::Missing;
+        return NumberScan::Missing(c, 0);
     }
     let b = text[at];
     if !is_digit(b) {
-        return NumberScan::Missing;
+        return NumberScan::Missing(c, 0);
     }
     if b == Sign::ZERO {
-        return NumberScan::Is(0, Cursor { at: at + 1 });
+        return NumberScan::Is(Cursor { at: at + 1 }, 0);
     }
     more_digits(text, (b - Sign::ZERO) as u64, Cursor { at: at + 1 })
 }
@@ -160,40 +161,48 @@ pub fn number(text: &[u8], c: Cursor) -> NumberScan
 pub fn number_field(text: &[u8], c: Cursor) -> NumberScan
     ensures { λ r. ⌜ gotNumber (now (text .entry)) r ≡ field numberOf (drop (c .at) (now (text .entry))) ⌝ }
 {
-    let Step::Past(d) = byte(text, c, Sign::TAB) else {
-        return NumberScan::Missing;
-    };
-    number(text, d)
+    match byte(text, c, Sign::TAB) {
+        Step::Past(d) => number(text, d),
+        Step::Missing(e) => NumberScan::Missing(e, 0),
+    }
 }
 
 pub fn guard_of(text: &[u8], c: Cursor) -> GuardScan
     ensures { λ r. ⌜ gotGuard (now (text .entry)) r ≡ guardOrDash (drop (c .at) (now (text .entry))) ⌝ }
 {
     if let Step::Past(d) = byte(text, c, Sign::DASH) {
-        return GuardScan::Is(Guard::Dash, d);
+        return GuardScan::Is(d, Guard::Dash);
     }
     match number(text, c) {
-        NumberScan::Is(n, d) => GuardScan::Is(Guard::Clock(n), d),
-        NumberScan::Missing => GuardScan::Missing,
+        NumberScan::Is(end, n) => GuardScan::Is(end, Guard::Clock(n)),
+        NumberScan::Missing(e, _) => GuardScan::Missing(e),
     }
 }
 
+// Of two places where scans of the same bytes stopped, the one further on.
+pub fn further(a: Cursor, b: Cursor) -> Cursor
+    ensures { λ r. ⌜ ((t : List ℕ) → drop (r .at) t ≡ shorter (drop (a .at) t) (drop (b .at) t)) ⌝ }
+{
+    if a.at < b.at { b } else { a }
+}
+
+// Where none of the four words stands, the one that got furthest tells where it stops.
 pub fn kind_of(text: &[u8], c: Cursor) -> KindScan
     ensures { λ r. ⌜ gotKind (now (text .entry)) r ≡ kindScan (drop (c .at) (now (text .entry))) ⌝ }
 {
-    if let Step::Past(d) = word(text, c, b"in") {
-        return KindScan::Is(Kind::In, d);
+    match word(text, c, b"in") {
+        Step::Past(d) => KindScan::Is(d, Kind::In),
+        Step::Missing(i) => match word(text, c, b"out") {
+            Step::Past(d) => KindScan::Is(d, Kind::Out),
+            Step::Missing(o) => match word(text, c, b"uin") {
+                Step::Past(d) => KindScan::Is(d, Kind::Uin),
+                Step::Missing(ui) => match word(text, c, b"uout") {
+                    Step::Past(d) => KindScan::Is(d, Kind::Uout),
+                    Step::Missing(uo) => KindScan::Missing(further(i, further(o, further(ui, uo)))),
+                },
+            },
+        },
     }
-    if let Step::Past(d) = word(text, c, b"out") {
-        return KindScan::Is(Kind::Out, d);
-    }
-    if let Step::Past(d) = word(text, c, b"uin") {
-        return KindScan::Is(Kind::Uin, d);
-    }
-    if let Step::Past(d) = word(text, c, b"uout") {
-        return KindScan::Is(Kind::Uout, d);
-    }
-    KindScan::Missing
 }
 
 fn first_reset(n: u64) -> Resets
@@ -247,16 +256,20 @@ fn more_resets(text: &[u8], s: Resets, c: Cursor) -> ResetsScan
     let mut at = c.at;
     while at < text.len() {
         if text[at] != Sign::COMMA {
-            return ResetsScan::Is(sum, Cursor { at });
+            return ResetsScan::Is(Cursor { at }, sum);
         }
-        let NumberScan::Is(n, next) = number(text, Cursor { at: at + 1 }) else {
-            return ResetsScan::Missing;
-        };
-        let more = with_reset(sum, n);
-        sum = more;
-        at = next.at;
+        match number(text, Cursor { at: at + 1 }) {
+            NumberScan::Is(next, n) => {
+                let more = with_reset(sum, n);
+                sum = more;
+                at = next.at;
+            }
+            NumberScan::Missing(e, _) => {
+                return ResetsScan::Missing(e);
+            }
+        }
     }
-    ResetsScan::Is(sum, Cursor { at })
+    ResetsScan::Is(Cursor { at }, sum)
 }
 
 pub fn resets_of(text: &[u8], c: Cursor) -> ResetsScan
@@ -264,17 +277,17 @@ pub fn resets_of(text: &[u8], c: Cursor) -> ResetsScan
 {
     if let Step::Past(d) = byte(text, c, Sign::DASH) {
         return ResetsScan::Is(
+            d,
             Resets {
                 clocks: true,
                 ascend: true,
                 last: 0,
                 set: 0,
             },
-            d,
         );
     }
-    let NumberScan::Is(n, d) = number(text, c) else {
-        return ResetsScan::Missing;
-    };
-    more_resets(text, first_reset(n), d)
+    match number(text, c) {
+        NumberScan::Is(end, n) => more_resets(text, first_reset(n), end),
+        NumberScan::Missing(e, _) => ResetsScan::Missing(e),
+    }
 }

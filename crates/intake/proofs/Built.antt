@@ -8,7 +8,7 @@ use lib.ListN.{length, take, drop, length-drop, take-append-drop}
 use lib.Seq.{ext-getD, getD-drop}
 use Rattle.answer.specs.Told.{Told, answered, refused}
 use Rattle.iosa.specs.Model.{Model, Comp}
-use Rattle.iosa.specs.Reading.{Progress, entry, faultOf, finish, linesFrom, atStart, readOf}
+use Rattle.iosa.specs.Reading.{Progress, stops, entry, faultOf, finish, linesFrom, atStart, readOf}
 use Rattle.iosa.proofs.Reading.Faults.{read-short, model-read}
 use Rattle.lines.specs.declared.Line.{Line}
 use Rattle.lines.specs.Lines.{lineOf}
@@ -67,8 +67,8 @@ finished m (c ∷ cs) e = let i : reverse (c ∷ cs) ≡ m = cc in sym i
 
 module _ {text old : List ℕ} {p : CodeProgress} {at : ℕ} {t : List ℕ} (b : Building text old p at t) where
   module _ (m : Model) (good : readOf text ≡ answered m) where
-    pub has-line : at < length text → entry (drop at text) ≡ none → ⊥
-    has-line h e = never text m _ good (no-line (b .stands) h e)
+    pub has-line : (cs : List ℕ) → at < length text → entry (drop at text) ≡ stops cs → ⊥
+    has-line cs h e = never text m _ good (no-line (b .stands) cs h e)
 
     pub no-fault : (l : Line) (to : ℕ) → Read text at l to → (f : ℕ) → stepOf p l ≡ Fault f → ⊥
     no-fault l to r f e = never text m _ good (line-fault (b .stands) l to r f e .0)

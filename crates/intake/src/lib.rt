@@ -80,7 +80,7 @@ pub fn build(text: &[u8], table: &mut [u64])
     let mut p = judge::at_start();
     let mut at = 0;
     while at < text.len() {
-        let LineScan::Is(line, next) = lines::line_at(text, Cursor { at }) else {
+        let LineScan::Is(next, line) = lines::line_at(text, Cursor { at }) else {
             return;
         };
         let Judged::Taken(q) = judge::step(p, line) else {

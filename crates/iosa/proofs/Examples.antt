@@ -1,6 +1,6 @@
--- The examples of paper 01, and of 02, 10/13, hold: antt computes every one.
+-- The examples of paper 01, and of 02, 2/13 and 10/13, hold: antt computes every one.
 use mathlib.Core.Path.{refl}
-use Rattle.iosa.specs.Examples.{reply, cases, furtherCases, componentCases, programCases, Hold}
+use Rattle.iosa.specs.Examples.{reply, cases, furtherCases, columnCases, componentCases, programCases, Hold}
 
 -- P1 to P13
 pub paper-examples-hold : Hold cases
@@ -11,6 +11,11 @@ paper-examples-hold = refl
 pub further-examples-hold : Hold furtherCases
 unfolding reply furtherCases
 further-examples-hold = refl
+
+-- columns
+pub column-examples-hold : Hold columnCases
+unfolding reply columnCases
+column-examples-hold = refl
 
 -- components by themselves
 pub component-examples-hold : Hold componentCases

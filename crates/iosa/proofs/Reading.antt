@@ -1,10 +1,14 @@
 -- Reading and writing undo each other; reading by its faults.
+pub mod Scans
 pub mod Number
 pub mod Fields
 pub mod Joined
 pub mod Lines
 pub mod Members
 pub mod Tests
+pub mod Local
+pub mod WrongByte
+pub mod FirstValue
 pub mod LowestFault
 pub mod LinesFrom
 pub mod Faults

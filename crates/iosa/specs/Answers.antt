@@ -86,7 +86,7 @@ MergeCallAnswer c cs i needed bytes = accepted (c ∷ cs) ▹ room needed bytes 
 -- "1; lines in file order, within a line 2 to 7; 8": or the one model whose text this is
 pub data ReadAnswer (t : List ℕ) : Answer Model → Type 0 where
   is1 : maxBytes < length t → ReadAnswer t (refused (tell 1 (0 ∷ [])))
-  is-fault : {n k : ℕ} → LineFaultAt t n k → ReadAnswer t (refused (tell n (k ∷ [])))
+  is-fault : {n k : ℕ} {column : List ℕ} → LineFaultAt t n k column → ReadAnswer t (refused (tell n (k ∷ column)))
   is8 : t ≡ [] → ReadAnswer t (refused (tell 8 (0 ∷ [])))
   is-text : {m : Model} → WellFormed m → textOf m ≡ t → ReadAnswer t (answered m)
 

@@ -12,7 +12,7 @@ use Rattle.laws.specs.Fold.{tab}
 use Rattle.answer.specs.Told.{Told, tell, Answer, answered, refused, Shot, fired, quiet}
 use Rattle.iosa.specs.Model.{Model, declared, rowCount}
 use Rattle.iosa.specs.Text.{textOf, digitsOf, decimal, joined, members, guardField, setField, fieldsAfter, compLine, actLine, clkLine, rowLine, kindOf, actPart, clkPart, rowLines, compText}
-use Rattle.iosa.specs.Reading.{readOf, exactly, moreDigits, number, moreNumbers, numbers, guardOrDash, numbersOrDash, kind, compEntry, actEntry, clkEntry, rowEntry, entry, outOfTurn, allBelow, outOfRange, allIn, lacks, ascending, setOf, follows, outOfOrder, tooMany, faultOf, takeIn, linesFrom}
+use Rattle.iosa.specs.Reading.{readOf, exactly, moreDigits, number, moreNumbers, numbers, guardOrDash, numbersOrDash, kind, compEntry, actEntry, clkEntry, rowEntry, entry, shorter, resetValues, firstBad, columnOf, outOfTurn, allBelow, outOfRange, allIn, lacks, ascending, setOf, follows, outOfOrder, tooMany, faultOf, takeIn, linesFrom}
 use Rattle.iosa.specs.Settle.{settleOf, settleListOf, settle, unreachedFrom, reachFault, beginFault, budgetFault, traceFault, play}
 use Rattle.iosa.specs.Orders.{Settling}
 use Rattle.iosa.specs.Timed.{timedOf, enablingAll, unstableFault, outOfTicks, valuesFault, belowZero, check29, isLeast, shares, check30, clockRow, clockRowOf, fireOne, fireAll, fallen, agedFrom, fire, timedFrom}
@@ -86,7 +86,7 @@ replyTiming (refused t) = refusesTold t
 
 -- what antt opens to compute a reply stands on the line below
 unfoldable pub reply : Ask → Reply
-unfolding declared rowCount digitsOf decimal joined members guardField setField fieldsAfter compLine actLine clkLine rowLine kindOf actPart clkPart rowLines compText textOf lower before exactly moreDigits number moreNumbers numbers guardOrDash numbersOrDash kind compEntry actEntry clkEntry rowEntry entry outOfTurn allBelow outOfRange allIn lacks ascending setOf follows outOfOrder tooMany faultOf takeIn linesFrom readOf seek rowFor badGuard check10 repeats check11 lacksRow check12 twice check13 enablingOf unstable allowed narrow greatest check14 faultAt faultFrom clashFor check15 check16 check17 follow unreached reachOf clashes check18 clashAmong indexFault componentOf acceptOf confluentOf move moveAll isUout urgentStep lowest isStable inRange stateFault settle unreachedFrom reachFault beginFault budgetFault traceFault settleOf play settleListOf enablingAll unstableFault outOfTicks valuesFault belowZero check29 isLeast shares check30 clockRow clockRowOf fireOne fireAll fallen agedFrom fire timedFrom timedOf rowsBy eachWith pairRows productRows merged mergedAt neighbourFault sizeFault mergeOf requestLine requestOf refusedLine stepLine stepLines lastLine answerLines runLines reportOf
+unfolding declared rowCount digitsOf decimal joined members guardField setField fieldsAfter compLine actLine clkLine rowLine kindOf actPart clkPart rowLines compText textOf lower before exactly moreDigits number moreNumbers numbers guardOrDash numbersOrDash kind compEntry actEntry clkEntry rowEntry entry shorter resetValues firstBad columnOf outOfTurn allBelow outOfRange allIn lacks ascending setOf follows outOfOrder tooMany faultOf takeIn linesFrom readOf seek rowFor badGuard check10 repeats check11 lacksRow check12 twice check13 enablingOf unstable allowed narrow greatest check14 faultAt faultFrom clashFor check15 check16 check17 follow unreached reachOf clashes check18 clashAmong indexFault componentOf acceptOf confluentOf move moveAll isUout urgentStep lowest isStable inRange stateFault settle unreachedFrom reachFault beginFault budgetFault traceFault settleOf play settleListOf enablingAll unstableFault outOfTicks valuesFault belowZero check29 isLeast shares check30 clockRow clockRowOf fireOne fireAll fallen agedFrom fire timedFrom timedOf rowsBy eachWith pairRows productRows merged mergedAt neighbourFault sizeFault mergeOf requestLine requestOf refusedLine stepLine stepLines lastLine answerLines runLines reportOf
 reply (reads m) = replyModel (readOf (bytesOf m))
 reply (settles m s n) = onModel (λ x. replySettling (settleOf x s n n)) (readOf (bytesOf m))
 reply (lists m s l) = onModel (λ x. replySettling (settleListOf x s l)) (readOf (bytesOf m))
@@ -166,8 +166,40 @@ furtherCases =
     ∷ P (settles loop (0 ∷ []) 4097) (refuses-with 22 (0 ∷ []))
     ∷ P (reads "") (refuses-with 8 (0 ∷ []))
     ∷ P (reads "comp\t128\t0\n") (text (bytesOf "comp\t128\t0\n"))
-    ∷ P (reads "comp\t129\t0\n") (refuses-with 4 (1 ∷ []))
+    ∷ P (reads "comp\t129\t0\n") (refuses-with 4 (1 ∷ 6 ∷ []))
     ∷ P (reads M) (text (bytesOf M))
+    ∷ []
+
+-- 02, 2/13: "for 2 the first byte that no well-shaped line could have there (a missing LF counts one past the end), for 4 and 5 the first byte of the first value at fault"
+unfoldable pub columnCases : List Case
+columnCases =
+    P (reads "comp\t1\t0") (refuses-with 2 (1 ∷ 9 ∷ []))
+    ∷ P (reads "com") (refuses-with 2 (1 ∷ 4 ∷ []))
+    ∷ P (reads "\n") (refuses-with 2 (1 ∷ 1 ∷ []))
+    ∷ P (reads "comp\t1\n") (refuses-with 2 (1 ∷ 7 ∷ []))
+    ∷ P (reads "cx\t1\t0\n") (refuses-with 2 (1 ∷ 2 ∷ []))
+    ∷ P (reads "comp\t007\t0\n") (refuses-with 2 (1 ∷ 7 ∷ []))
+    ∷ P (reads "comp\t100000\t0\n") (refuses-with 2 (1 ∷ 11 ∷ []))
+    ∷ P (reads "comp\t1\t0\nact\t0\tunn\n") (refuses-with 2 (2 ∷ 8 ∷ []))
+    ∷ P (reads "comp\t1\t0\nact\t0\tui\n") (refuses-with 2 (2 ∷ 9 ∷ []))
+    ∷ P (reads "comp\t1\t0\nrow\t0\t--\t0\t-\t0\n") (refuses-with 2 (2 ∷ 8 ∷ []))
+    ∷ P (reads "comp\t1\t0\nrow\t0\t-\t0\t-,0\t0\n") (refuses-with 2 (2 ∷ 12 ∷ []))
+    ∷ P (reads "comp\t1\t0\nrow\t0\t-\t0\t0,\t0\n") (refuses-with 2 (2 ∷ 13 ∷ []))
+    ∷ P (reads "comp\t1\t0\nrow\t0\t-\t0\t0,,1\t0\n") (refuses-with 2 (2 ∷ 13 ∷ []))
+    ∷ P (reads "comp\t0\t0\n") (refuses-with 4 (1 ∷ 6 ∷ []))
+    ∷ P (reads "comp\t129\t130\n") (refuses-with 4 (1 ∷ 6 ∷ []))
+    ∷ P (reads "comp\t3\t5\n") (refuses-with 4 (1 ∷ 8 ∷ []))
+    ∷ P (reads "comp\t1\t0\nclk\t64\t9\n") (refuses-with 4 (2 ∷ 5 ∷ []))
+    ∷ P (reads "comp\t1\t0\nclk\t63\t2\n") (refuses-with 4 (2 ∷ 8 ∷ []))
+    ∷ P (reads "comp\t2\t0\nact\t0\tin\nclk\t0\t0\nrow\t2\t64\t64\t0,64,1\t9\n") (refuses-with 4 (4 ∷ 5 ∷ []))
+    ∷ P (reads "comp\t2\t0\nact\t0\tin\nclk\t0\t0\nrow\t0\t64\t64\t0,64,1\t9\n") (refuses-with 4 (4 ∷ 7 ∷ []))
+    ∷ P (reads "comp\t2\t0\nact\t0\tin\nclk\t0\t0\nrow\t0\t0\t64\t0,64,1\t9\n") (refuses-with 4 (4 ∷ 9 ∷ []))
+    ∷ P (reads "comp\t2\t0\nact\t0\tin\nclk\t0\t0\nrow\t0\t0\t0\t0,64,99\t9\n") (refuses-with 4 (4 ∷ 13 ∷ []))
+    ∷ P (reads "comp\t2\t0\nact\t0\tin\nclk\t0\t0\nrow\t0\t0\t0\t0\t9\n") (refuses-with 4 (4 ∷ 13 ∷ []))
+    ∷ P (reads "comp\t2\t0\nact\t0\tin\nclk\t0\t0\nrow\t0\t1\t1\t2\t0\n") (refuses-with 5 (4 ∷ 7 ∷ []))
+    ∷ P (reads "comp\t2\t0\nact\t0\tin\nclk\t0\t0\nrow\t0\t0\t1\t2\t0\n") (refuses-with 5 (4 ∷ 9 ∷ []))
+    ∷ P (reads "comp\t2\t0\nact\t0\tin\nclk\t0\t0\nrow\t0\t-\t0\t0,5,3\t0\n") (refuses-with 5 (4 ∷ 13 ∷ []))
+    ∷ P (reads "act\t0\tin\n") (refuses-with 3 (1 ∷ []))
     ∷ []
 
 -- 02, 10/13: components 0, 1 and 2 by themselves, their compatibility, and both together, of M, of P8's model and of two that share an output;

@@ -12,8 +12,9 @@ use Rattle.answer.specs.Limits.{maxComponents, maxRows, maxStates, maxActions, 
 use Rattle.answer.specs.Told.{tell, Answer, answered, refused}
 use Rattle.iosa.specs.Model.{Comp, Model, acts, rowCount}
 use Rattle.iosa.specs.WellFormed.{before}
-use Rattle.iosa.specs.Reading.{Entry, comp-entry, act-entry, clk-entry, row-entry, Progress, current, atStart, turn, rowOf, takeIn}
+use Rattle.iosa.specs.Reading.{Entry, comp-entry, act-entry, clk-entry, row-entry, Progress, current, atStart, turn, rowOf, takeIn, statesBy}
 use Rattle.iosa.specs.Line.{lineOf, LineFits}
+use Rattle.iosa.specs.Column.{WrongByte, FirstValue, Ranged, Owned}
 
 -- each number of a list; the clock of a guard, if it has one
 abbrev pub Each : (ℕ → Type 0) → List ℕ → Type 0
@@ -107,6 +108,13 @@ pub data LineFault (p : Progress) (bs : List ℕ) (n : ℕ) : Type 0 where
   -- 7 "17th component or 1,025th row"; the 33rd since request 12
   too-many : {e : Entry} {cs : List ℕ} → n ≡ 7 → LineAt bs e cs → ¬ Room (p .comps) e → LineFault p bs n
 
+-- "2, 4 and 5 carry line and column" (02, 2/13): what stands behind the line in the place of n
+pub data Carries (p : Progress) (bs : List ℕ) (n : ℕ) (column : List ℕ) : Type 0 where
+  wrong-byte : {k : ℕ} → n ≡ 2 → WrongByte bs k → column ≡ k ∷ [] → Carries p bs n column
+  range-value : {e : Entry} {cs : List ℕ} {k : ℕ} → n ≡ 4 → LineAt bs e cs → FirstValue (Ranged (statesBy (current p) e)) e k → column ≡ k ∷ [] → Carries p bs n column
+  name-value : {e : Entry} {cs : List ℕ} {k : ℕ} → n ≡ 5 → LineAt bs e cs → FirstValue (Owned (current p)) e k → column ≡ k ∷ [] → Carries p bs n column
+  line-alone : ¬ (n ≡ 2) → ¬ (n ≡ 4) → ¬ (n ≡ 5) → column ≡ [] → Carries p bs n column
+
 -- ---- the lines in their turn
 -- what stands before the line behind e
 abbrev pub withLine : Progress → Entry → Progress
@@ -118,18 +126,19 @@ pub data Reaches (t : List ℕ) : ℕ → Progress → List ℕ → Type 0 where
   next-line : {k : ℕ} {p : Progress} {bs : List ℕ} {e : Entry} {cs : List ℕ} → Reaches t k p bs → LineAt bs e cs → Faultless p e
       → Reaches t (suc k) (withLine p e) cs
 
--- t, not too long, has a line k, the lines before it are faultless, and n is its lowest fault
-pub record LineFaultAt (t : List ℕ) (n k : ℕ) : Type 0 where
+-- t, not too long, has a line k, the lines before it are faultless, and n is its lowest fault, with the column where n carries one
+pub record LineFaultAt (t : List ℕ) (n k : ℕ) (column : List ℕ) : Type 0 where
   pub short : length t ≤ maxBytes
   pub progress : Progress
   pub bytes : List ℕ
   pub reached : Reaches t k progress bytes
   pub line : ¬ (bytes ≡ [])
   pub lowest : Lowest (LineFault progress bytes) n
+  pub carries : Carries progress bytes n column
 
 -- what is answered to t: a model, or 1, 8, or a line's lowest fault
 pub data ReadsAs (t : List ℕ) (a : Answer Model) : Type 0 where
   is-model : (m : Model) → a ≡ answered m → ReadsAs t a
   is-too-long : maxBytes < length t → a ≡ refused (tell 1 (0 ∷ [])) → ReadsAs t a
   is-empty : t ≡ [] → a ≡ refused (tell 8 (0 ∷ [])) → ReadsAs t a
-  has-fault : (n k : ℕ) → LineFaultAt t n k → a ≡ refused (tell n (k ∷ [])) → ReadsAs t a
+  has-fault : (n k : ℕ) (column : List ℕ) → LineFaultAt t n k column → a ≡ refused (tell n (k ∷ column)) → ReadsAs t a

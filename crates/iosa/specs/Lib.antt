@@ -8,6 +8,7 @@ pub mod Text
 pub mod WellFormed
 pub mod Reading
 pub mod Line
+pub mod Column
 pub mod Faulty
 pub mod Checks
 pub mod Faults

@@ -7,7 +7,7 @@ use Prim.Native.Nat.{ℕ, _^_, _<_}
 use lib.Dec.{eqb}
 use Rattle.answer.specs.Limits.{maxDigits}
 use Rattle.iosa.specs.Text.{comma, dash, compWord, actWord, clkWord, rowWord, kindWord, decimal, joined, guardField, fieldsAfter}
-use Rattle.iosa.specs.Reading.{Got, got, isDigit, Entry, comp-entry, act-entry, clk-entry, row-entry, guardOf}
+use Rattle.iosa.specs.Reading.{Got, Scan, is, got, isDigit, Entry, comp-entry, act-entry, clk-entry, row-entry, guardOf}
 
 -- "Numbers are decimal, 1 to 5 digits"
 abbrev pub Fits : ℕ → Type 0
@@ -55,6 +55,6 @@ abbrev pub Any : List ℕ → Type 0
 Any bs = Unit {0}
 
 -- what is printed is scanned back, before any bytes that may stand behind it, and what is scanned is what is printed
-pub record Exact {A : Type 0} (scan : List ℕ → Option (Got A)) (print : A → List ℕ) (Good : A → Type 0) (Behind : List ℕ → Type 0) : Type 0 where
+pub record Exact {A : Type 0} (scan : List ℕ → Scan A) (print : A → List ℕ) (Good : A → Type 0) (Behind : List ℕ → Type 0) : Type 0 where
   pub printed : (x : A) (bs : List ℕ) → Good x → Behind bs → scan (print x ++ bs) ≡ got x bs
-  pub scanned : (bs : List ℕ) (g : Got A) → scan bs ≡ some g → (bs ≡ print (g .value) ++ g .rest) × Good (g .value)
+  pub scanned : (bs : List ℕ) (g : Got A) → scan bs ≡ is g → (bs ≡ print (g .value) ++ g .rest) × Good (g .value)

@@ -8,34 +8,49 @@ use Prim.Native.Nat.{ℕ, zero, suc, _+_, _*_, _-_, _^_}
 use lib.ListN.{length}
 use lib.Dec.{eqb, ltb, leb}
 use Rattle.laws.specs.Sets.{has, _∪_, within, only}
-use Rattle.laws.specs.Search.{when, orElse, mapSome}
+use Rattle.laws.specs.Search.{when, orElse}
 use Rattle.answer.specs.Limits.{maxComponents, maxRows, maxStates, maxActions, maxClocks, maxBytes, maxDigits}
 use Rattle.answer.specs.Told.{Told, tell, Answer, answered, refused}
 use Rattle.iosa.specs.Model.{Row, Comp, Model, noComp, acts, rowCount, guardSet}
-use Rattle.iosa.specs.Text.{tab, lf, comma, dash, byte0, compWord, actWord, clkWord, rowWord, Kind, in-kind, out-kind, uin-kind, uout-kind, kindWord}
+use Rattle.iosa.specs.Text.{tab, lf, comma, dash, byte0, compWord, actWord, clkWord, rowWord, Kind, in-kind, out-kind, uin-kind, uout-kind, kindWord, decimal}
 use Rattle.iosa.specs.WellFormed.{before}
 
--- ---- a scan takes bytes off the front: a value and the bytes behind it, or nothing
+-- ---- a scan takes bytes off the front: a value and the bytes behind it, or it stops
 pub record Got (A : Type 0) : Type 0 where
   pub value : A
   pub rest : List ℕ
 
-abbrev pub got : {A : Type 0} → A → List ℕ → Option (Got A)
-got x bs = some (record { value = x; rest = bs })
+-- "The reading of a number or field must answer the column at which it went wrong" (02, 2/13): the bytes from the first that could not stand there
+pub data Scan (A : Type 0) : Type 0 where
+  is : Got A → Scan A
+  stops : List ℕ → Scan A
+
+abbrev pub got : {A : Type 0} → A → List ℕ → Scan A
+got x bs = is (record { value = x; rest = bs })
 
 -- one scan, then another that may use its value
-abbrev pub then : {A B : Type 0} → Option (Got A) → (A → List ℕ → Option (Got B)) → Option (Got B)
-then none f = none
-then (some g) f = f (g .value) (g .rest)
+abbrev pub then : {A B : Type 0} → Scan A → (A → List ℕ → Scan B) → Scan B
+then (stops cs) f = stops cs
+then (is g) f = f (g .value) (g .rest)
+
+-- of two places to stop in the same bytes, the one further on
+unfoldable pub shorter : List ℕ → List ℕ → List ℕ
+shorter cs ds = cond (ltb (length cs) (length ds)) cs ds
+
+-- one of two scans of the same bytes: where both stop, the one that got further tells where
+abbrev pub furthest : {A : Type 0} → Scan A → Scan A → Scan A
+furthest (is g) s = is g
+furthest (stops cs) (is g) = is g
+furthest (stops cs) (stops ds) = stops (shorter cs ds)
 
 -- these bytes
-unfoldable pub exactly : List ℕ → List ℕ → Option (Got (Unit {0}))
+unfoldable pub exactly : List ℕ → List ℕ → Scan (Unit {0})
 exactly [] bs = got tt bs
-exactly (w ∷ ws) [] = none
-exactly (w ∷ ws) (b ∷ bs) = elim (eqb w b) [ true ↦ exactly ws bs | false ↦ none ]
+exactly (w ∷ ws) [] = stops []
+exactly (w ∷ ws) (b ∷ bs) = elim (eqb w b) [ true ↦ exactly ws bs | false ↦ stops (b ∷ bs) ]
 
 -- one byte
-abbrev pub theByte : ℕ → List ℕ → Option (Got (Unit {0}))
+abbrev pub theByte : ℕ → List ℕ → Scan (Unit {0})
 theByte b bs = exactly (b ∷ []) bs
 
 abbrev pub isDigit : ℕ → Bool
@@ -48,15 +63,15 @@ moreDigits (suc k) n [] = record { value = n; rest = [] }
 moreDigits (suc k) n (b ∷ bs) = elim (isDigit b) [ true ↦ moreDigits k (n * 10 + (b - byte0)) bs | false ↦ record { value = n; rest = b ∷ bs } ]
 
 -- "Numbers are decimal, 1 to 5 digits, with no needless zero in front": behind a zero in front no digit is taken
-unfoldable pub number : List ℕ → Option (Got ℕ)
-number [] = none
+unfoldable pub number : List ℕ → Scan ℕ
+number [] = stops []
 number (b ∷ bs) = elim (isDigit b) [
-  | true ↦ elim (eqb b byte0) [ true ↦ got 0 bs | false ↦ some (moreDigits (maxDigits - 1) (b - byte0) bs) ]
-  | false ↦ none
+  | true ↦ elim (eqb b byte0) [ true ↦ got 0 bs | false ↦ is (moreDigits (maxDigits - 1) (b - byte0) bs) ]
+  | false ↦ stops (b ∷ bs)
 ]
 
 -- further numbers, each behind a comma; no more than k
-unfoldable pub moreNumbers : ℕ → List ℕ → Option (Got (List ℕ))
+unfoldable pub moreNumbers : ℕ → List ℕ → Scan (List ℕ)
 moreNumbers zero bs = got [] bs
 moreNumbers (suc k) [] = got [] []
 moreNumbers (suc k) (b ∷ bs) = elim (eqb b comma) [
@@ -65,22 +80,22 @@ moreNumbers (suc k) (b ∷ bs) = elim (eqb b comma) [
 ]
 
 -- numbers joined by single commas
-unfoldable pub numbers : List ℕ → Option (Got (List ℕ))
+unfoldable pub numbers : List ℕ → Scan (List ℕ)
 numbers bs = then (number bs) (λ n cs. then (moreNumbers (length cs) cs) (λ ns ds. got (n ∷ ns) ds))
 
 -- "a clock or `-`"
-unfoldable pub guardOrDash : List ℕ → Option (Got (Option ℕ))
-guardOrDash bs = elim (theByte dash bs) [ some g ↦ got none (g .rest) | none ↦ then (number bs) (λ x cs. got (some x) cs) ]
+unfoldable pub guardOrDash : List ℕ → Scan (Option ℕ)
+guardOrDash bs = elim (theByte dash bs) [ is g ↦ got none (g .rest) | stops cs ↦ then (number bs) (λ x cs. got (some x) cs) ]
 
 -- "`-`, or clocks .. joined by commas"
-unfoldable pub numbersOrDash : List ℕ → Option (Got (List ℕ))
-numbersOrDash bs = elim (theByte dash bs) [ some g ↦ got [] (g .rest) | none ↦ numbers bs ]
+unfoldable pub numbersOrDash : List ℕ → Scan (List ℕ)
+numbersOrDash bs = elim (theByte dash bs) [ is g ↦ got [] (g .rest) | stops cs ↦ numbers bs ]
 
 -- "`in`, `out`, `uin` or `uout`"
-unfoldable pub kind : List ℕ → Option (Got Kind)
-kind bs = orElse (word in-kind) (orElse (word out-kind) (orElse (word uin-kind) (word uout-kind)))
+unfoldable pub kind : List ℕ → Scan Kind
+kind bs = furthest (word in-kind) (furthest (word out-kind) (furthest (word uin-kind) (word uout-kind)))
   where
-    word : Kind → Option (Got Kind)
+    word : Kind → Scan Kind
     word k = then (exactly (kindWord k) bs) (λ _ cs. got k cs)
 
 -- ---- a line
@@ -91,23 +106,23 @@ pub data Entry : Type 0 where
   row-entry : (from : ℕ) (guard : Option ℕ) (action : ℕ) (resets : List ℕ) (target : ℕ) → Entry
 
 -- a field behind a tab
-abbrev pub field : {A : Type 0} → (List ℕ → Option (Got A)) → List ℕ → Option (Got A)
+abbrev pub field : {A : Type 0} → (List ℕ → Scan A) → List ℕ → Scan A
 field f bs = then (theByte tab bs) (λ _ cs. f cs)
 
 -- the line ends in LF
-abbrev pub ended : Entry → List ℕ → Option (Got Entry)
+abbrev pub ended : Entry → List ℕ → Scan Entry
 ended e bs = then (theByte lf bs) (λ _ cs. got e cs)
 
-unfoldable pub compEntry : List ℕ → Option (Got Entry)
+unfoldable pub compEntry : List ℕ → Scan Entry
 compEntry bs = then (field number bs) (λ n cs. then (field number cs) (λ s ds. ended (comp-entry n s) ds))
 
-unfoldable pub actEntry : List ℕ → Option (Got Entry)
+unfoldable pub actEntry : List ℕ → Scan Entry
 actEntry bs = then (field number bs) (λ a cs. then (field kind cs) (λ k ds. ended (act-entry a k) ds))
 
-unfoldable pub clkEntry : List ℕ → Option (Got Entry)
+unfoldable pub clkEntry : List ℕ → Scan Entry
 clkEntry bs = then (field number bs) (λ x cs. then (field number cs) (λ b ds. ended (clk-entry x b) ds))
 
-unfoldable pub rowEntry : List ℕ → Option (Got Entry)
+unfoldable pub rowEntry : List ℕ → Scan Entry
 rowEntry bs =
     then (field number bs) (λ s cs.
     then (field guardOrDash cs) (λ g ds.
@@ -116,15 +131,15 @@ rowEntry bs =
     then (field number fs) (λ t gs.
     ended (row-entry s g a r t) gs)))))
 
--- one line, with its LF: its first word tells what is behind it
-unfoldable pub entry : List ℕ → Option (Got Entry)
+-- one line, with its LF: its first word tells what is behind it; where it has none, the word that got furthest tells where it stops
+unfoldable pub entry : List ℕ → Scan Entry
 entry bs = elim (exactly compWord bs) [
-  | some g ↦ compEntry (g .rest)
-  | none ↦ elim (exactly actWord bs) [
-    | some g ↦ actEntry (g .rest)
-    | none ↦ elim (exactly clkWord bs) [
-      | some g ↦ clkEntry (g .rest)
-      | none ↦ elim (exactly rowWord bs) [ some g ↦ rowEntry (g .rest) | none ↦ none ]
+  | is g ↦ compEntry (g .rest)
+  | stops c ↦ elim (exactly actWord bs) [
+    | is g ↦ actEntry (g .rest)
+    | stops a ↦ elim (exactly clkWord bs) [
+      | is g ↦ clkEntry (g .rest)
+      | stops k ↦ elim (exactly rowWord bs) [ is g ↦ rowEntry (g .rest) | stops r ↦ stops (shorter c (shorter a (shorter k r))) ]
     ]
   ]
 ]
@@ -239,6 +254,88 @@ faultOf p e =
     let f : Option ℕ = when (tooMany (p .comps) e) 7 in
     orElse (when (outOfTurn (p .last) e) 3) (orElse b (orElse c (orElse d f)))
 
+-- ---- the column of a fault (02, 2/13): "for 4 and 5 the first byte of the first value at fault. Columns are bytes from 1"
+-- a value of a line: a number of states, a state, an action, a clock, whether a clock is set at the start, or `-`
+pub data Value : Type 0 where
+  states-value state-value action-value clock-value set-value : ℕ → Value
+  dash-value : Value
+
+abbrev pub valueText : Value → List ℕ
+valueText (states-value n) = decimal n
+valueText (state-value s) = decimal s
+valueText (action-value a) = decimal a
+valueText (clock-value x) = decimal x
+valueText (set-value b) = decimal b
+valueText dash-value = dash ∷ []
+
+abbrev pub guardValue : Option ℕ → Value
+guardValue none = dash-value
+guardValue (some x) = clock-value x
+
+-- the clocks of a resets field, and the target behind them
+unfoldable pub resetValues : List ℕ → Value → List Value
+resetValues [] v = v ∷ []
+resetValues (x ∷ xs) v = clock-value x ∷ resetValues xs v
+
+abbrev pub lastValues : List ℕ → Value → List Value
+lastValues [] v = dash-value ∷ v ∷ []
+lastValues (x ∷ xs) v = resetValues (x ∷ xs) v
+
+-- the values of a line that have a range, from left to right
+abbrev pub valuesOf : Entry → List Value
+valuesOf (comp-entry n s) = states-value n ∷ state-value s ∷ []
+valuesOf (act-entry a k) = action-value a ∷ []
+valuesOf (clk-entry x b) = clock-value x ∷ set-value b ∷ []
+valuesOf (row-entry s g a r t) = state-value s ∷ guardValue g ∷ action-value a ∷ lastValues r (state-value t)
+
+abbrev pub wordOf : Entry → List ℕ
+wordOf (comp-entry n s) = compWord
+wordOf (act-entry a k) = actWord
+wordOf (clk-entry x b) = clkWord
+wordOf (row-entry s g a r t) = rowWord
+
+-- the column of the first value at fault, where the first value of all stands at column k, and one of them is at fault; tab and comma are one byte
+unfoldable pub firstBad : (Value → Bool) → ℕ → List Value → ℕ
+firstBad bad k [] = k
+firstBad bad k (v ∷ []) = k
+firstBad bad k (v ∷ w ∷ vs) = cond (bad v) k (firstBad bad (k + suc (length (valueText v))) (w ∷ vs))
+
+-- 4: the value is outside its range; n is how many states the component has
+abbrev pub outside : ℕ → Value → Bool
+outside n (states-value m) = not (leb 1 m && leb m maxStates)
+outside n (state-value s) = not (ltb s n)
+outside n (action-value a) = not (ltb a maxActions)
+outside n (clock-value x) = not (ltb x maxClocks)
+outside n (set-value b) = not (leb b 1)
+outside n dash-value = false
+
+-- 5: the component lacks it
+abbrev pub unnamed : Comp → Value → Bool
+unnamed c (states-value m) = false
+unnamed c (state-value s) = false
+unnamed c (action-value a) = not (has (acts c) a)
+unnamed c (clock-value x) = not (has (c .clocks) x)
+unnamed c (set-value b) = false
+unnamed c dash-value = false
+
+-- how many states the component of a line has: a `comp` line says it
+abbrev pub statesBy : Comp → Entry → ℕ
+statesBy c (comp-entry n s) = n
+statesBy c (act-entry a k) = c .states
+statesBy c (clk-entry x b) = c .states
+statesBy c (row-entry s g a r t) = c .states
+
+abbrev pub firstColumn : (Value → Bool) → Entry → ℕ
+firstColumn bad e = firstBad bad (length (wordOf e) + 2) (valuesOf e)
+
+-- "2, 4 and 5 carry line and column": what stands behind the line in the place of fault f, 3 to 7, of the line e
+unfoldable pub columnOf : Comp → ℕ → Entry → List ℕ
+columnOf c f e = cond (eqb f 4) (firstColumn (outside (statesBy c e)) e ∷ []) (cond (eqb f 5) (firstColumn (unnamed c) e ∷ []) [])
+
+-- 2: "the first byte that no well-shaped line could have there (a missing LF counts one past the end)", where a scan of bs stops at cs
+abbrev pub stopColumn : List ℕ → List ℕ → ℕ
+stopColumn bs cs = suc (length bs - length cs)
+
 -- ---- a faultless line is taken in: "Lines belong to the last `comp`"
 abbrev pub withAct : Comp → ℕ → Kind → Comp
 withAct c a in-kind = record { states = c .states; start = c .start; ins = c .ins ∪ only a; outs = c .outs; uins = c .uins; uouts = c .uouts; clocks = c .clocks; started = c .started; rows = c .rows }
@@ -297,9 +394,9 @@ unfoldable pub linesFrom : ℕ → ℕ → Progress → List ℕ → Answer Mode
 linesFrom zero n p bs = finish (p .comps)
 linesFrom (suc k) n p [] = finish (p .comps)
 linesFrom (suc k) n p (b ∷ bs) = elim (entry (b ∷ bs)) [
-  | none ↦ refused (tell 2 (n ∷ []))
-  | some g ↦ elim (faultOf p (g .value)) [
-    | some f ↦ refused (tell f (n ∷ []))
+  | stops cs ↦ refused (tell 2 (n ∷ stopColumn (b ∷ bs) cs ∷ []))
+  | is g ↦ elim (faultOf p (g .value)) [
+    | some f ↦ refused (tell f (n ∷ columnOf (current p) f (g .value)))
     | none ↦ linesFrom k (suc n) (record { comps = takeIn (p .comps) (g .value); last = some (g .value) }) (g .rest)
   ]
 ]

@@ -10,7 +10,7 @@ use Rattle.answer.specs.Limits.{maxRequest}
 use Rattle.answer.specs.Told.{Told, tell, Answer, answered, refused}
 use Rattle.iosa.specs.Model.{Model}
 use Rattle.iosa.specs.Text.{tab, lf, decimal, joined, setField, fieldsAfter}
-use Rattle.iosa.specs.Reading.{Got, got, then, exactly, theByte, number, numbers, field, readOf}
+use Rattle.iosa.specs.Reading.{Got, Scan, is, stops, got, then, exactly, theByte, number, numbers, field, readOf}
 use Rattle.iosa.specs.Line.{Fits, ListFits}
 use Rattle.iosa.specs.Step.{urgentStep}
 use Rattle.iosa.specs.Stepped.{Gone}
@@ -26,7 +26,7 @@ pub record Request : Type 0 where
 abbrev pub fromWord : List ℕ
 fromWord = 102 ∷ 114 ∷ 111 ∷ 109 ∷ []
 
-unfoldable pub requestLine : List ℕ → Option (Got Request)
+unfoldable pub requestLine : List ℕ → Scan Request
 requestLine bs =
     then (exactly fromWord bs) (λ _ cs.
     then (field numbers cs) (λ s ds.
@@ -43,9 +43,9 @@ abbrev pub RequestFits : Request → Type 0
 RequestFits q = ListFits (q .state) × Fits (q .budget)
 
 -- 9 "request line of the program of wrong shape, or over 256 bytes with its LF"
-abbrev pub shortEnough : List ℕ → Option (Got Request) → Option (Got Request)
-shortEnough bs none = none
-shortEnough bs (some g) = cond (ltb maxRequest (length bs - length (g .rest))) none (some g)
+abbrev pub shortEnough : List ℕ → Scan Request → Option (Got Request)
+shortEnough bs (stops cs) = none
+shortEnough bs (is g) = cond (ltb maxRequest (length bs - length (g .rest))) none (some g)
 
 unfoldable pub requestOf : List ℕ → Option (Got Request)
 requestOf bs = shortEnough bs (requestLine bs)

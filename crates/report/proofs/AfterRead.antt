@@ -13,10 +13,10 @@ use Rattle.answer.specs.declared.Checked.the-variants.{Fine, Refused}
 use Rattle.answer.specs.declared.Refusal.{Refusal}
 use Rattle.iosa.specs.Model.{Model}
 use Rattle.answer.specs.State.{partsOf}
-use Rattle.iosa.specs.Reading.{got, readOf}
+use Rattle.iosa.specs.Reading.{readOf}
 use Rattle.iosa.specs.Settle.{settleOf}
 use Rattle.iosa.specs.Report.{Request, requestOf, answerLines, reportOf}
-use Rattle.request.specs.Kept.{Kept, keep}
+use Rattle.request.specs.Kept.{Kept, there, keep}
 use Rattle.report.proofs.ReportLaws.{report-model, kept-answers}
 use Rattle.iosa.proofs.Reading.TextOfRead.{text-of-read}
 use Rattle.layout.specs.Layout.{imageWords}
@@ -64,7 +64,7 @@ module _ (text old new : List ℕ) (r : Checked) (e : ReadCall text old new r) (
       go (some u) (refused t) p q s = let w : u ≡ t = cc in (t, q, p ∙ ap some w)
 
 -- the request and the model that was read, as they are kept, give the report
-pub report-run : (bs rest : List ℕ) (q : Request) → requestOf bs ≡ got q rest → (m : Model) → readOf rest ≡ answered m → (y : Kept) → keep q ≡ y
+pub report-run : (bs rest : List ℕ) (q : Request) → requestOf bs ≡ there q rest → (m : Model) → readOf rest ≡ answered m → (y : Kept) → keep q ≡ y
     → answerLines m (partsOf (y .state)) (settleOf m (partsOf (y .state)) (y .budget) (y .budget)) ≡ reportOf bs
 report-run bs rest q e m f y k =
     ap (λ z. answerLines m (partsOf (z .state)) (settleOf m (partsOf (z .state)) (z .budget) (z .budget))) (sym k)

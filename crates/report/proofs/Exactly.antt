@@ -15,7 +15,7 @@ use Rattle.answer.specs.Limits.{maxRequest}
 use Rattle.answer.specs.Told.{tell, Answer, answered, refused}
 use Rattle.answer.specs.declared.Written.{Written}
 use Rattle.iosa.specs.Model.{Model}
-use Rattle.iosa.specs.Reading.{Got, got, readOf}
+use Rattle.iosa.specs.Reading.{Got, Scan, is, stops, readOf}
 use Rattle.iosa.specs.Settle.{settleOf}
 use Rattle.iosa.specs.Report.{Request, requestLine, requestText, requestOf, shortEnough, answerLines, reportOf}
 use Rattle.iosa.specs.InOrder.{_▹_, Gives, room}
@@ -28,13 +28,14 @@ use Rattle.iosa.proofs.Answers.Texts.{read-text-exactly}
 use Rattle.iosa.proofs.Answers.Lines.{answer-printed}
 use Rattle.steplines.specs.Run.{mostBytes}
 use Rattle.text.proofs.Filling.{lengthIn, filledWith, fills-exactly}
+use Rattle.request.specs.Kept.{there}
 use Rattle.report.specs.Reported.{lengthTold, reportIn, Reported}
 use Rattle.report.specs.ReportExactly.{ReportExactly}
 use Rattle.report.proofs.RequestExact.{request-exact}
 use Rattle.report.proofs.ReportLaws.{report-9, report-text, report-model}
 
 -- ---- the request line
-short-exactly : (bs : List ℕ) (g g′ : Got Request) → (shortEnough bs (some g) ≡ some g′) ↔ (g ≡ g′) × (length bs - length (g .rest) ≤ maxRequest)
+short-exactly : (bs : List ℕ) (g g′ : Got Request) → (shortEnough bs (is g) ≡ some g′) ↔ (g ≡ g′) × (length bs - length (g .rest) ≤ maxRequest)
 short-exactly bs g g′ = go (ltb maxRequest (length bs - length (g .rest))) refl
   where
     go : (b : Bool) → ltb maxRequest (length bs - length (g .rest)) ≡ b
@@ -42,15 +43,15 @@ short-exactly bs g g′ = go (ltb maxRequest (length bs - length (g .rest))) ref
     go true e = (λ h. absurd (no-some refl h), λ p. absurd (true≢false (sym e ∙ le-ltb maxRequest _ (p .1))))
     go false e = (λ h. (Option·some-inj .0 h, ltb-false maxRequest _ e), λ p. ap some (p .0))
 
-asks : (bs : List ℕ) (o : Option (Got Request)) → requestLine bs ≡ o → (g : Got Request) → shortEnough bs o ≡ some g → Asks bs (g .value) (g .rest)
-asks bs none e g h = absurd (no-some refl h)
-asks bs (some g₀) e g h =
+asks : (bs : List ℕ) (o : Scan Request) → requestLine bs ≡ o → (g : Got Request) → shortEnough bs o ≡ some g → Asks bs (g .value) (g .rest)
+asks bs (stops cs) e g h = absurd (no-some refl h)
+asks bs (is g₀) e g h =
     let p = short-exactly bs g₀ g .0 h in
-    let q = request-exact .scanned bs g (e ∙ ap some (p .0)) in
+    let q = request-exact .scanned bs g (e ∙ ap is (p .0)) in
     let n = ap (λ (x : Got Request). length (x .rest)) (p .0) in
     record { fits = q .1; line = q .0; short = omega (arith, ap length (q .0), length-append (requestText (g .value)) (g .rest), p .1, n) }
 
-asked : (bs : List ℕ) (q : Request) (text : List ℕ) → Asks bs q text → requestOf bs ≡ got q text
+asked : (bs : List ℕ) (q : Request) (text : List ℕ) → Asks bs q text → requestOf bs ≡ there q text
 unfolding requestOf
 asked bs q text a =
     let e = ap requestLine (a .line) ∙ request-exact .printed q text (a .fits) tt in

@@ -10,17 +10,19 @@ use lib.ListN.{length, take, drop, length-append, take-append-drop}
 use lib.Seq.{take-all, take-append-seam, take-append-le, length-take-le}
 use lib.Dec.{ltb}
 use borrow.Author.Tests.{ltb-false}
-use Rattle.laws.proofs.SearchLaws.{no-some}
+use Rattle.iosa.proofs.Reading.Scans.{no-is}
 use Rattle.answer.specs.Limits.{maxRequest, maxBytes}
 use Rattle.answer.specs.Told.{tell}
-use Rattle.iosa.specs.Reading.{Got, got}
+use Rattle.iosa.specs.Reading.{Got, Scan, is, stops}
 use Rattle.iosa.specs.Report.{Request, requestLine, requestText, RequestFits, shortEnough, requestOf, refusedLine, reportOf}
 use Rattle.iosa.proofs.Reading.Faults.{too-long-exactly}
+use Rattle.request.specs.Kept.{there}
 use Rattle.report.proofs.ReportLaws.{report-9, report-text}
 use Rattle.report.proofs.RequestExact.{request-exact}
 
 -- a request line before any bytes
-request-before : (q : Request) → RequestFits q → (bs : List ℕ) → requestOf (requestText q ++ bs) ≡ cond (ltb maxRequest (length (requestText q))) none (got q bs)
+request-before : (q : Request) → RequestFits q → (bs : List ℕ)
+    → requestOf (requestText q ++ bs) ≡ cond (ltb maxRequest (length (requestText q))) none (there q bs)
 unfolding requestOf
 request-before q h bs =
     let e : length (requestText q ++ bs) - length bs ≡ length (requestText q) = omega (arith, length-append (requestText q) bs) in
@@ -33,9 +35,9 @@ too-long-report q h b bs l = report-text (requestText q ++ bs) bs q (request-bef
 too-wide-report : (q : Request) → RequestFits q → ltb maxRequest (length (requestText q)) ≡ true → (bs : List ℕ) → reportOf (requestText q ++ bs) ≡ refusedLine (tell 9 (0 ∷ []))
 too-wide-report q h b bs = report-9 (requestText q ++ bs) (request-before q h bs ∙ rw b)
 
-no-line-report : (bs : List ℕ) → requestLine bs ≡ none → reportOf bs ≡ refusedLine (tell 9 (0 ∷ []))
+no-line-report : (bs cs : List ℕ) → requestLine bs ≡ stops cs → reportOf bs ≡ refusedLine (tell 9 (0 ∷ []))
 unfolding requestOf
-no-line-report bs e = report-9 bs (ap (shortEnough bs) e)
+no-line-report bs cs e = report-9 bs (ap (shortEnough bs) e)
 
 -- f stands in front, and is longer than a request line and a text
 module _ (f r : List ℕ) (long : maxRequest + maxBytes < length f) where
@@ -54,9 +56,9 @@ module _ (f r : List ℕ) (long : maxRequest + maxBytes < length f) where
           too-long-report q h b t (omega (arith, few, sum)) ∙ sym (too-long-report q h b (t ++ r) (omega (arith, few, sum, length-append t r)))
 
   -- where f has none, a request line of the whole is over its limit
-  no-line : requestLine f ≡ none → (o : Option (Got Request)) → requestLine (f ++ r) ≡ o → reportOf (f ++ r) ≡ refusedLine (tell 9 (0 ∷ []))
-  no-line n none e = no-line-report (f ++ r) e
-  no-line n (some g) e = ap reportOf (p .0) ∙ go (ltb maxRequest (length (requestText (g .value)))) refl
+  no-line : (cs : List ℕ) → requestLine f ≡ stops cs → (o : Scan Request) → requestLine (f ++ r) ≡ o → reportOf (f ++ r) ≡ refusedLine (tell 9 (0 ∷ []))
+  no-line cs n (stops ds) e = no-line-report (f ++ r) ds e
+  no-line cs n (is g) e = ap reportOf (p .0) ∙ go (ltb maxRequest (length (requestText (g .value)))) refl
     where
       p : (f ++ r ≡ requestText (g .value) ++ g .rest) × RequestFits (g .value)
       p = request-exact .scanned (f ++ r) g e
@@ -71,14 +73,15 @@ module _ (f r : List ℕ) (long : maxRequest + maxBytes < length f) where
       go : (b : Bool) → ltb maxRequest (length (requestText (g .value))) ≡ b → reportOf (requestText (g .value) ++ g .rest) ≡ refusedLine (tell 9 (0 ∷ []))
       go true b = too-wide-report (g .value) (p .1) b (g .rest)
       go false b =
-          absurd (no-some n (ap requestLine (within (ltb-false maxRequest (length (requestText (g .value))) b)) ∙ request-exact .printed (g .value) (drop (length (requestText (g .value))) f) (p .1) tt))
+          absurd (no-is n (ap requestLine (within (ltb-false maxRequest (length (requestText (g .value))) b)) ∙ request-exact .printed (g .value) (drop (length
+          (requestText (g .value))) f) (p .1) tt))
 
   front-tells : reportOf f ≡ reportOf (f ++ r)
   front-tells = go (requestLine f) refl
     where
-      go : (o : Option (Got Request)) → requestLine f ≡ o → reportOf f ≡ reportOf (f ++ r)
-      go none e = no-line-report f e ∙ sym (no-line e (requestLine (f ++ r)) refl)
-      go (some g) e = let p = request-exact .scanned f g e in with-line (g .value) (g .rest) (p .1) (p .0)
+      go : (o : Scan Request) → requestLine f ≡ o → reportOf f ≡ reportOf (f ++ r)
+      go (stops cs) e = no-line-report f cs e ∙ sym (no-line cs e (requestLine (f ++ r)) refl)
+      go (is g) e = let p = request-exact .scanned f g e in with-line (g .value) (g .rest) (p .1) (p .0)
 
 -- what the program reads tells as much as the whole of its input
 pub front-decides : (n : ℕ) → maxRequest + maxBytes < n → (bs : List ℕ) → reportOf (take n bs) ≡ reportOf bs

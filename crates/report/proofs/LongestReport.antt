@@ -14,7 +14,8 @@ use Rattle.answer.specs.Told.{answered}
 use Rattle.iosa.specs.Model.{Model}
 use Rattle.iosa.specs.Text.{tab, decimal, textOf}
 use Rattle.iosa.specs.Checks.{confluentOf}
-use Rattle.iosa.specs.Reading.{got, readOf}
+use Rattle.iosa.specs.Reading.{readOf}
+use Rattle.request.specs.Kept.{there}
 use Rattle.iosa.specs.Step.{Went, urgentStep, lowest}
 use Rattle.iosa.specs.Settle.{settle, beginFault, budgetFault, traceFault, settleOf}
 use Rattle.iosa.specs.Orders.{Settling}
@@ -76,7 +77,7 @@ module _ (m : Model) (s : List ℕ) (a r : ℕ) where
         rw (f, settle-loops n) (length-append (stepLines m 1 s (replicate n a)) (lastLine (looped n)) ∙ rw (lines-length 1 n))
 
 -- ---- what antt computes of the input
-requested : requestOf longestInput ≡ got longestRequest (textOf longestModel)
+requested : requestOf longestInput ≡ there longestRequest (textOf longestModel)
 unfolding reply requestText longestInput longestModel loud still
 requested = refl
 

@@ -1,13 +1,13 @@
 -- No report is longer than what `report` asks of a buffer.
 use mathlib.Core.Path.{_≡_, refl}
 use mathlib.Core.Logic.{⊎-elim}
-use mathlib.Core.Bool.{Bool, true, false, not}
+use mathlib.Core.Bool.{Bool, true, false, not, cond}
 use mathlib.Core.Option.{Option, none, some}
 use mathlib.Core.List.{List, [], _∷_}
 use Prim.Native.Nat.{ℕ, zero, suc, _≤_}
 use native.Mathlib.Omega.{arith}
 use lib.ListN.{length}
-use lib.Dec.{ltb}
+use lib.Dec.{eqb, ltb}
 use Rattle.laws.specs.Search.{when, orElse, mapSome}
 use Rattle.answer.specs.Limits.{maxBytes, maxBudget}
 use Rattle.answer.specs.Told.{Told, tell, Answer, answered, refused}
@@ -15,7 +15,7 @@ use Rattle.iosa.specs.Model.{Comp, Model}
 use Rattle.iosa.specs.WellFormed.{WellFormed}
 use Rattle.iosa.specs.Faults.{FaultAt, guarded, repeated, lacking, doubled, inactive, Fault, inside, output-shared, clock-shared, urgency-differs, Clash, clash}
 use Rattle.iosa.specs.Checks.{confluentOf}
-use Rattle.iosa.specs.Reading.{Got, Entry, Progress, entry, faultOf, takeIn, finish, linesFrom, atStart, readOf}
+use Rattle.iosa.specs.Reading.{Got, Scan, is, stops, Entry, Progress, current, entry, faultOf, columnOf, stopColumn, firstColumn, outside, unnamed, statesBy, takeIn, finish, linesFrom, atStart, readOf}
 use Rattle.iosa.specs.Step.{stateFault, inRange, urgentStep}
 use Rattle.iosa.specs.Settle.{settle, unreachedFrom, reachFault, beginFault, budgetFault, traceFault, settleOf}
 use Rattle.iosa.specs.Orders.{Settling}
@@ -54,7 +54,16 @@ finish-brief : (cs : List Comp) → BriefOr (finish cs)
 finish-brief [] = omega arith
 finish-brief (c ∷ cs) = tt
 
--- 2 to 7
+-- 2 to 7: the line, and a column at most
+column-brief : (c : Comp) (f : ℕ) (e : Entry) → length (columnOf c f e) ≤ 1
+unfolding columnOf
+column-brief c f e = go (eqb f 4) (eqb f 5)
+  where
+    go : (a b : Bool) → length (cond a (firstColumn (outside (statesBy c e)) e ∷ []) (cond b (firstColumn (unnamed c) e ∷ []) [])) ≤ 1
+    go true b = omega arith
+    go false true = omega arith
+    go false false = omega arith
+
 lines-brief : (k n : ℕ) (p : Progress) (bs : List ℕ) → BriefOr (linesFrom k n p bs)
 unfolding linesFrom
 lines-brief zero n p bs = finish-brief (p .comps)
@@ -65,17 +74,25 @@ lines-brief (suc k) n p (b ∷ bs) = go (lines-brief k (suc n)) (entry (b ∷ bs
     next g = record { comps = takeIn (p .comps) (g .value); last = some (g .value) }
 
     one : ((q : Progress) (cs : List ℕ) → BriefOr (linesFrom k (suc n) q cs)) → (g : Got Entry) (f : Option ℕ)
-        → BriefOr {A = Model} (elim f as (λ _. Answer Model) [ some f ↦ refused (tell f (n ∷ [])) | none ↦ linesFrom k (suc n) (next g) (g .rest) ])
-    one ih g (some f) = omega arith
+        → BriefOr {A = Model} (elim f as (λ _. Answer Model) [
+          | some f ↦ refused (tell f (n ∷ columnOf (current p) f (g .value)))
+          | none ↦ linesFrom k (suc n)
+              (next g) (g .rest)
+        ])
+    one ih g (some f) = omega (arith, column-brief (current p) f (g .value))
     one ih g none = ih (next g) (g .rest)
 
-    go : ((q : Progress) (cs : List ℕ) → BriefOr (linesFrom k (suc n) q cs)) → (o : Option (Got Entry))
+    go : ((q : Progress) (cs : List ℕ) → BriefOr (linesFrom k (suc n) q cs)) → (o : Scan Entry)
         → BriefOr {A = Model} (elim o as (λ _. Answer Model) [
-          | none ↦ refused (tell 2 (n ∷ []))
-          | some g ↦ elim (faultOf p (g .value)) [ some f ↦ refused (tell f (n ∷ [])) | none ↦ linesFrom k (suc n) (next g) (g .rest) ]
+          | stops cs ↦ refused (tell 2 (n ∷ stopColumn (b ∷ bs) cs ∷ []))
+          | is g ↦ elim (faultOf p (g .value)) [
+            | some f ↦ refused (tell f (n ∷ columnOf (current p) f (g .value)))
+            | none ↦ linesFrom k (suc n) (next g)
+                (g .rest)
+          ]
         ])
-    go ih none = omega arith
-    go ih (some g) = one ih g (faultOf p (g .value))
+    go ih (stops cs) = omega arith
+    go ih (is g) = one ih g (faultOf p (g .value))
 
 -- 1
 read-brief : (bs : List ℕ) → BriefOr (readOf bs)

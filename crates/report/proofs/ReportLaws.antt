@@ -16,7 +16,7 @@ use Rattle.answer.specs.declared.Refusal.{Refusal}
 use Rattle.iosa.specs.Model.{Model}
 use Rattle.iosa.specs.Checks.{confluentOf}
 use Rattle.iosa.specs.WellFormed.{WellComp, WellFormed}
-use Rattle.iosa.specs.Reading.{got, readOf}
+use Rattle.iosa.specs.Reading.{readOf}
 use Rattle.iosa.specs.Step.{inRange, stateFault, unless}
 use Rattle.iosa.specs.Settle.{beginFault, budgetFault, traceFault, settleOf}
 use Rattle.iosa.specs.Report.{Request, requestOf, refusedLine, answerLines, runLines, reportOf}
@@ -24,7 +24,7 @@ use Rattle.iosa.proofs.Settling.Each.{All, each-all}
 use Rattle.layout.specs.Image.{modelOf}
 use Rattle.parts.specs.Faults.{Says}
 use Rattle.entry.specs.Entry.{entryFault}
-use Rattle.request.specs.Kept.{held}
+use Rattle.request.specs.Kept.{there, held}
 use Rattle.request.proofs.HeldLaws.{Few, held-in-range, held-same}
 use Rattle.tell.specs.Tell.{refusedText}
 use Rattle.tell.proofs.TellLaws.{told-text}
@@ -34,7 +34,7 @@ pub report-9 : (bs : List ℕ) → requestOf bs ≡ none → reportOf bs ≡ ref
 unfolding reportOf
 report-9 bs e = rw (e, reportOf)
 
-module _ (bs rest : List ℕ) (q : Request) (e : requestOf bs ≡ got q rest) where
+module _ (bs rest : List ℕ) (q : Request) (e : requestOf bs ≡ there q rest) where
   pub report-text : (t : Told) → readOf rest ≡ refused t → reportOf bs ≡ refusedLine t
   unfolding reportOf runLines
   report-text t f = rw (e, f, reportOf)

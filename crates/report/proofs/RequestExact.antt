@@ -1,14 +1,14 @@
 -- The request line is scanned as it is printed, and printed as it was scanned.
 use mathlib.Core.Path.{_≡_, refl, sym, _∙_, ap, subst}
-use mathlib.Core.Option.{Option, some, Option·some-inj}
 use mathlib.Core.List.{List, [], _∷_, _++_, append-assoc}
 use Prim.Native.Nat.{ℕ}
 use Rattle.iosa.specs.Text.{tab, lf, decimal, joined, fieldsAfter}
-use Rattle.iosa.specs.Reading.{Got, got, then, exactly, theByte, number, numbers, field}
+use Rattle.iosa.specs.Reading.{Got, Scan, is, got, then, exactly, theByte, number, numbers, field}
 use Rattle.iosa.specs.Line.{Fits, ListFits, Any, Exact}
 use Rattle.iosa.specs.Report.{Request, fromWord, requestLine, requestText, RequestFits}
 use Rattle.iosa.proofs.Reading.Lines.{field-printed, field-scanned, field-before}
-use Rattle.iosa.proofs.Reading.Fields.{then-some, exactly-scanned, number-exact, numbers-exact}
+use Rattle.iosa.proofs.Reading.Scans.{is-inj, then-is}
+use Rattle.iosa.proofs.Reading.Fields.{exactly-scanned, number-exact, numbers-exact}
 
 printed : (q : Request) (bs : List ℕ) → RequestFits q → requestLine (requestText q ++ bs) ≡ got q bs
 unfolding requestLine requestText fieldsAfter exactly
@@ -22,24 +22,25 @@ asRequest s n z = record { value = record { state = s .value; budget = n .value 
 abbrev Scanned : List ℕ → Got Request → Type 0
 Scanned bs g = (bs ≡ requestText (g .value) ++ g .rest) × RequestFits (g .value)
 
-parts-scanned : (bs : List ℕ) (w : Got (Unit {0})) (s : Got (List ℕ)) (n : Got ℕ) (z : Got (Unit {0})) (g : Got Request) → exactly fromWord bs ≡ some w → field numbers (w .rest) ≡ some s
-    → field number (s .rest) ≡ some n → theByte lf (n .rest) ≡ some z → _≡_ {A = Option (Got Request)} (some (asRequest s n z)) (some g) → Scanned bs g
+parts-scanned : (bs : List ℕ) (w : Got (Unit {0})) (s : Got (List ℕ)) (n : Got ℕ) (z : Got (Unit {0})) (g : Got Request) → exactly fromWord bs ≡ is w
+    → field numbers (w .rest) ≡ is s
+    → field number (s .rest) ≡ is n → theByte lf (n .rest) ≡ is z → _≡_ {A = Scan Request} (is (asRequest s n z)) (is g) → Scanned bs g
 unfolding requestText fieldsAfter
 parts-scanned bs w s n z g ew es en ez eg =
     let ps = field-scanned numbers joined ListFits numbers-exact (w .rest) s es in
     let pn = field-scanned number decimal Fits number-exact (s .rest) n en in
     let end = exactly-scanned (lf ∷ []) (n .rest) z ez in
     let fields = field-before (joined (s .value)) (decimal (n .value) ∷ []) (z .rest) (ps .0) (field-before (decimal (n .value)) [] (z .rest) (pn .0) end) in
-    subst (Scanned bs) (Option·some-inj .0 eg) (exactly-scanned fromWord bs w ew ∙ ap {B = List ℕ} (λ l. fromWord ++ l) fields, (ps .1, pn .1))
+    subst (Scanned bs) (is-inj eg) (exactly-scanned fromWord bs w ew ∙ ap {B = List ℕ} (λ l. fromWord ++ l) fields, (ps .1, pn .1))
 
-scanned : (bs : List ℕ) (g : Got Request) → requestLine bs ≡ some g → Scanned bs g
+scanned : (bs : List ℕ) (g : Got Request) → requestLine bs ≡ is g → Scanned bs g
 unfolding requestLine
 scanned bs g e =
-    let behind : List ℕ → ℕ → List ℕ → Option (Got Request) = λ s n es. then (theByte lf es) (λ _ fs. got (record { state = s; budget = n }) fs) in
-    let t = then-some (exactly fromWord bs) (λ _ cs. then (field numbers cs) (λ s ds. then (field number ds) (λ n es. behind s n es))) e in
-    let u = then-some (field numbers (t .0 .rest)) (λ s ds. then (field number ds) (λ n es. behind s n es)) (t .2) in
-    let v = then-some (field number (u .0 .rest)) (λ n es. behind (u .0 .value) n es) (u .2) in
-    let y = then-some (theByte lf (v .0 .rest)) (λ _ fs. got (record { state = u .0 .value; budget = v .0 .value }) fs) (v .2) in
+    let behind : List ℕ → ℕ → List ℕ → Scan Request = λ s n es. then (theByte lf es) (λ _ fs. got (record { state = s; budget = n }) fs) in
+    let t = then-is (exactly fromWord bs) (λ _ cs. then (field numbers cs) (λ s ds. then (field number ds) (λ n es. behind s n es))) e in
+    let u = then-is (field numbers (t .0 .rest)) (λ s ds. then (field number ds) (λ n es. behind s n es)) (t .2) in
+    let v = then-is (field number (u .0 .rest)) (λ n es. behind (u .0 .value) n es) (u .2) in
+    let y = then-is (theByte lf (v .0 .rest)) (λ _ fs. got (record { state = u .0 .value; budget = v .0 .value }) fs) (v .2) in
     parts-scanned bs (t .0) (u .0) (v .0) (y .0) g (t .1) (u .1) (v .1) (y .1) (y .2)
 
 pub request-exact : Exact requestLine requestText RequestFits Any

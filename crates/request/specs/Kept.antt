@@ -7,7 +7,7 @@ use lib.ListN.{drop, set}
 use lib.Dec.{ltb}
 use Rattle.answer.specs.Limits.{maxComponents, noState}
 use Rattle.answer.specs.declared.State.{State}
-use Rattle.iosa.specs.Reading.{Got, got}
+use Rattle.iosa.specs.Reading.{Got, Scan, is, stops}
 use Rattle.iosa.specs.Report.{Request}
 use Rattle.request.specs.declared.PartsScan.{PartsScan}
 use Rattle.request.specs.declared.Asked.{Asked}
@@ -41,12 +41,25 @@ pub record Kept : Type 0 where
 abbrev pub keep : Request → Kept
 keep r = record { state = held (r .state); budget = r .budget }
 
+-- 9 has no column: a scan that stops is no request, wherever it does
+abbrev pub heard : {A : Type 0} → Scan A → Option (Got A)
+heard (stops cs) = none
+heard (is g) = some g
+
+-- a value and the bytes behind it, and the same with the value changed
+abbrev pub there : {A : Type 0} → A → List ℕ → Option (Got A)
+there x bs = some (record { value = x; rest = bs })
+
+abbrev pub kept : {A B : Type 0} → (A → B) → Option (Got A) → Option (Got B)
+kept f none = none
+kept f (some g) = there (f (g .value)) (g .rest)
+
 -- what the scans answer
 abbrev pub gotParts : List ℕ → PartsScan → Option (Got State)
-gotParts t r = cond (r .found) (got (r .state) (drop (r .at) t)) none
+gotParts t r = cond (r .found) (there (r .state) (drop (r .at) t)) none
 
 abbrev pub asked : List ℕ → Asked → Option (Got Kept)
-asked t r = cond (r .found) (got (record { state = r .state; budget = r .budget }) (drop (r .at) t)) none
+asked t r = cond (r .found) (there (record { state = r .state; budget = r .budget }) (drop (r .at) t)) none
 
 abbrev pub notAsked : Asked
 notAsked = record { found = false; state = noState; budget = 0; at = 0 }

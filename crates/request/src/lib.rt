@@ -6,7 +6,7 @@ ghost use Rattle.answer.specs.Limits.{noState};
 ghost use Rattle.iosa.specs.Reading.{moreNumbers, numbers, field};
 ghost use Rattle.iosa.specs.Report.{requestLine, requestOf};
 ghost use Rattle.fields.specs.Resets.{valued};
-ghost use Rattle.request.specs.Kept.{byteOf, with, withAll, held, keep, gotParts, asked, notAsked, lessOf};
+ghost use Rattle.request.specs.Kept.{byteOf, with, withAll, held, keep, heard, kept, gotParts, asked, notAsked, lessOf};
 use answer::Model;
 use answer::State;
 use fields::Cursor;
@@ -62,7 +62,7 @@ fn with_part(x: State, n: u64) -> State
 fn more_parts(text: &[u8], x: State, c: Cursor) -> PartsScan
     ensures { λ r.
         ⌜ gotParts (now (text .entry)) r
-        ≡ valued (withAll x) (moreNumbers (length (drop (c .at) (now (text .entry)))) (drop (c .at) (now (text .entry)))) ⌝ }
+        ≡ heard (valued (withAll x) (moreNumbers (length (drop (c .at) (now (text .entry)))) (drop (c .at) (now (text .entry))))) ⌝ }
 {
     let mut cur = x;
     let mut at = c.at;
@@ -74,7 +74,7 @@ fn more_parts(text: &[u8], x: State, c: Cursor) -> PartsScan
                 at,
             };
         }
-        let NumberScan::Is(n, next) = fields::number(text, Cursor { at: at + 1 }) else {
+        let NumberScan::Is(next, n) = fields::number(text, Cursor { at: at + 1 }) else {
             return PartsScan {
                 found: false,
                 state: cur,
@@ -94,9 +94,9 @@ fn more_parts(text: &[u8], x: State, c: Cursor) -> PartsScan
 
 // "state numbers joined by commas", behind a tab.
 fn parts_field(text: &[u8], c: Cursor) -> PartsScan
-    ensures { λ r. ⌜ gotParts (now (text .entry)) r ≡ valued held (field numbers (drop (c .at) (now (text .entry)))) ⌝ }
+    ensures { λ r. ⌜ gotParts (now (text .entry)) r ≡ heard (valued held (field numbers (drop (c .at) (now (text .entry))))) ⌝ }
 {
-    let NumberScan::Is(n, d) = fields::number_field(text, c) else {
+    let NumberScan::Is(d, n) = fields::number_field(text, c) else {
         return PartsScan {
             found: false,
             state: answer::no_state(),
@@ -118,7 +118,7 @@ fn not_asked() -> Asked
 }
 
 fn request_line(text: &[u8]) -> Asked
-    ensures { λ r. ⌜ asked (now (text .entry)) r ≡ valued keep (requestLine (now (text .entry))) ⌝ }
+    ensures { λ r. ⌜ asked (now (text .entry)) r ≡ heard (valued keep (requestLine (now (text .entry)))) ⌝ }
 {
     let Step::Past(c1) = fields::word(text, Cursor { at: 0 }, b"from") else {
         return not_asked();
@@ -127,7 +127,7 @@ fn request_line(text: &[u8]) -> Asked
     if !p.found {
         return not_asked();
     }
-    let NumberScan::Is(budget, c2) = fields::number_field(text, Cursor { at: p.at }) else {
+    let NumberScan::Is(c2, budget) = fields::number_field(text, Cursor { at: p.at }) else {
         return not_asked();
     };
     let Step::Past(c3) = fields::byte(text, c2, Sign::LF) else {
@@ -150,7 +150,7 @@ fn less_of(n: usize, m: usize) -> usize
 
 // 9 where there is none: "request line of the program of wrong shape, or over 256 bytes with its LF".
 pub fn request_of(text: &[u8]) -> Asked
-    ensures { λ r. ⌜ (asked (now (text .entry)) r ≡ valued keep (requestOf (now (text .entry)))) × (r .at ≤ length (now (text .entry))) ⌝ }
+    ensures { λ r. ⌜ (asked (now (text .entry)) r ≡ kept keep (requestOf (now (text .entry)))) × (r .at ≤ length (now (text .entry))) ⌝ }
 {
     let r = request_line(text);
     if !r.found {

@@ -1,2 +1,3 @@
+pub mod AllowedLaws
 pub mod Turns
 pub mod Checked

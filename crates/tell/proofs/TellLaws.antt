@@ -35,6 +35,10 @@ pub one-part : (n : ℕ) → joined (n ∷ []) ≡ decimal n ++ []
 unfolding joined
 one-part n = refl
 
+pub two-parts : (i j : ℕ) → joined (i ∷ j ∷ []) ≡ decimal i ++ ((comma ∷ decimal j) ++ [])
+unfolding joined
+two-parts i j = refl
+
 pub three-parts : (i j k : ℕ) → joined (i ∷ j ∷ k ∷ []) ≡ decimal i ++ ((comma ∷ decimal j) ++ ((comma ∷ decimal k) ++ []))
 unfolding joined
 three-parts i j k = refl

@@ -72,6 +72,14 @@ fn put_one(out: &mut [u8], at: usize, n: u64) -> usize
     print::put_decimal(out, at, n)
 }
 
+fn put_two(out: &mut [u8], at: usize, i: u64, j: u64) -> usize
+    requires { ⌜ Room (now out) at (joined (i ∷ j ∷ [])) ⌝ }
+    ensures { λ r. ⌜ Put (now (out .entry)) at (joined (i ∷ j ∷ [])) (now (out .exit)) r ⌝ }
+{
+    let second = print::put_decimal(out, at, i);
+    print::put_behind(out, second, Sign::COMMA, j)
+}
+
 fn put_three(out: &mut [u8], at: usize, i: u64, j: u64, k: u64) -> usize
     requires { ⌜ Room (now out) at (joined (i ∷ j ∷ k ∷ [])) ⌝ }
     ensures { λ r. ⌜ Put (now (out .entry)) at (joined (i ∷ j ∷ k ∷ [])) (now (out .exit)) r ⌝ }
@@ -125,6 +133,7 @@ fn put_place(out: &mut [u8], at: usize, p: Place) -> usize
             first,
             second,
         } => put_three(out, at, clock, first as u64, second as u64),
+        Place::Spot { line, column } => put_two(out, at, line as u64, column as u64),
     }
 }
 

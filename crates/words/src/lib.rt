@@ -120,6 +120,7 @@ fn refusal_words(r: Refusal) -> [u64; Words::COUNT]
             first,
             second,
         } => told(number, 3, clock, first as u64, second as u64, 0),
+        Place::Spot { line, column } => told(number, 2, line as u64, column as u64, 0, 0),
     }
 }
 

@@ -1,11 +1,11 @@
 -- `fields::guard_of` meets its contract.
-use mathlib.Core.Path.{_≡_, sym, _∙_, ap}
+use mathlib.Core.Path.{sym, _∙_, ap}
 use mathlib.Core.Option.{some}
 use lib.ListN.{drop}
 use denote.Ref.{now}
 use Rattle.iosa.specs.Reading.{got}
 use Rattle.fields.specs.Fields.{past, gotNumber}
-use Rattle.fields.proofs.ScanLaws.{then-none, then-some}
+use Rattle.fields.proofs.ScanLaws.{then-stops, then-is}
 use Rattle.fields.proofs.FieldLaws.{guard-dash, guard-clock}
 use borrow.Author.Needs.{needs}
 use Rattle.fields.proofs.guard_of.Statement.{statement}
@@ -28,27 +28,29 @@ enum-told c = search needs
 number-requires : tie.Need-number-requires
 number-requires c κs = search needs
 
-enum-known-n : tie.Need-enum-known-n
-enum-known-n c = search needs
+enum-known-end : tie.Need-enum-known-end
+enum-known-end c = search needs
 
-enum-told-2 : tie.Need-enum-told-2
-enum-told-2 c = search needs
+enum-known-e : tie.Need-enum-known-e
+enum-known-e c = search needs
 
 returns-2 : tie.Need-returns-2
 returns-2 c =
     let a = c .before .before .before .before .before .before .before .before .args in
     let t = now (a .text) in
-    let n = sym (c .before .before .before .number .ensures) ∙ ap (gotNumber t) (c .before .n .given .1) in
-    let e = guard-clock (drop (a .c .at) t) (sym (c .before .before .before .before .before .before .byte .ensures) ∙ ap (past t) (c .before .before .before .before .enum-told .given .1)) in
-    sym (e ∙ then-some (λ x cs. got (some x) cs) n)
+    let n = sym (c .before .before .before .number .ensures) ∙ ap (gotNumber t) (c .before .end .given .1) in
+    let q = c .before .before .before .before in
+    let e = guard-clock (drop (a .c .at) t) (sym (q .before .before .byte .ensures) ∙ ap (past t) (q .enum-told .given .1)) in
+    sym (e ∙ then-is (λ x cs. got (some x) cs) n)
 
 returns-3 : tie.Need-returns-3
 returns-3 c =
-    let a = c .before .before .before .before .before .before .before .args in
+    let a = c .before .before .before .before .before .before .before .before .args in
     let t = now (a .text) in
-    let n = sym (c .before .before .number .ensures) ∙ ap (gotNumber t) (c .enum-told2 .given .1) in
-    let e = guard-clock (drop (a .c .at) t) (sym (c .before .before .before .before .before .byte .ensures) ∙ ap (past t) (c .before .before .before .enum-told .given .1)) in
-    sym (e ∙ then-none (λ x cs. got (some x) cs) n)
+    let n = sym (c .before .before .before .number .ensures) ∙ ap (gotNumber t) (c .before .e .given .1) in
+    let q = c .before .before .before .before in
+    let e = guard-clock (drop (a .c .at) t) (sym (q .before .before .byte .ensures) ∙ ap (past t) (q .enum-told .given .1)) in
+    sym (e ∙ then-stops (λ x cs. got (some x) cs) n)
 
 pub guard-of-spec : {M : Type 1} → statement M
 guard-of-spec =
@@ -59,7 +61,7 @@ guard-of-spec =
     returns
     enum-told
     number-requires
-    enum-known-n
-    enum-told-2
+    enum-known-end
+    enum-known-e
     returns-2
     returns-3)

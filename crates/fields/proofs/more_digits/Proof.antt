@@ -1,14 +1,13 @@
 -- `fields::more_digits` meets its contract. The loop's invariant: what the digits from here on make of n is what all of them make of the first;
 -- n has k digits.
 use mathlib.Core.Path.{_≡_, refl, sym, _∙_, ap}
-use mathlib.Core.Option.{some}
 use mathlib.Core.Bool.{true}
 use Prim.Native.Nat.{ℕ, _+_, _-_, _^_, _≤_, _<_}
 use native.Mathlib.Omega.{arith}
 use borrow.Author.Tests.{not-true, not-false}
-use lib.ListN.{length, drop, getD}
+use lib.ListN.{drop, getD}
 use denote.Ref.{now}
-use Rattle.iosa.specs.Reading.{moreDigits, isDigit}
+use Rattle.iosa.specs.Reading.{is, moreDigits, isDigit}
 use Rattle.fields.proofs.ScanLaws.{more-full, digits-end, digits-stop, digits-on, is-digit, digits-room, digits-few}
 use Rattle.fields.proofs.more_digits.Statement.{statement}
 use Rattle.fields.proofs.more_digits.Tie as tie
@@ -35,7 +34,7 @@ returns : tie.Need-returns Inv-loop μ-loop
 returns c =
     let a = c .before .before .before .before .args in
     let l = c .before .before .loop in
-    ap some (sym (digits-end (now (a .text)) (5 - l .k) (l .n) (l .at) (c .if1 .taken)) ∙ l .inv .3)
+    ap is (sym (digits-end (now (a .text)) (5 - l .k) (l .n) (l .at) (c .if1 .taken)) ∙ l .inv .3)
 
 shared-slice-read-b : tie.Need-shared-slice-read-b Inv-loop μ-loop
 shared-slice-read-b c = omega arith
@@ -48,7 +47,7 @@ returns-2 c =
     let a = c .before .before .before .before .before .before .before .args in
     let l = c .before .before .before .before .before .loop in
     let e = sym (c .before .is-digit .ensures) ∙ not-true _ (c .if2 .taken) in
-    ap some (sym (digits-stop (now (a .text)) (5 - l .k) (l .n) (l .at) (omega arith) e) ∙ l .inv .3)
+    ap is (sym (digits-stop (now (a .text)) (5 - l .k) (l .n) (l .at) (omega arith) e) ∙ l .inv .3)
 
 mul-n : tie.Need-mul-n Inv-loop μ-loop
 mul-n c = let l = c .before .before .before .before .before .loop in omega (arith, digits-few (l .k) (l .n) (omega arith) (l .inv .2))
@@ -84,7 +83,7 @@ returns-3 : tie.Need-returns-3 Inv-loop μ-loop
 returns-3 c =
     let a = c .before .before .before .args in
     let l = c .before .loop in
-    ap some (sym (more-full (5 - l .k) (l .n) (drop (l .at) (now (a .text))) (omega arith)) ∙ l .inv .3)
+    ap is (sym (more-full (5 - l .k) (l .n) (drop (l .at) (now (a .text))) (omega arith)) ∙ l .inv .3)
 
 pub more-digits-spec : {M : Type 1} → statement M
 more-digits-spec =

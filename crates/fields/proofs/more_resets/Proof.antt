@@ -24,22 +24,14 @@ shared-slice-read-if1 c = omega arith
 returns : tie.Need-returns Inv-loop μ-loop
 returns c = gathered-other with withAll nothing-more one-more _ _ _ _ _ (c .before .before .before .loop .inv) (c .before .before .loop-test .taken) (c .if1 .taken)
 
-add-t9 : tie.Need-add-t9 Inv-loop μ-loop
-add-t9 c = omega arith
+add-t10 : tie.Need-add-t10 Inv-loop μ-loop
+add-t10 c = omega arith
 
 number-requires : tie.Need-number-requires Inv-loop μ-loop
 number-requires c κs = search needs
 
-enum-known-n : tie.Need-enum-known-n Inv-loop μ-loop
-enum-known-n c = search needs
-
-enum-told : tie.Need-enum-told Inv-loop μ-loop
-enum-told c = search needs
-
-returns-2 : tie.Need-returns-2 Inv-loop μ-loop
-returns-2 c =
-    let b = c .before .before .before in
-    gathered-missing with withAll nothing-more one-more _ _ _ _ _ (b .before .before .before .loop .inv) (b .before .before .loop-test .taken) (b .if1 .left) _ (c .before .before .number .ensures) (c .enum-told .given .1)
+enum-known-next : tie.Need-enum-known-next Inv-loop μ-loop
+enum-known-next c = search needs
 
 with-reset-requires : tie.Need-with-reset-requires Inv-loop μ-loop
 with-reset-requires c κs = search needs
@@ -47,12 +39,23 @@ with-reset-requires c κs = search needs
 loop-less : tie.Need-loop-less Inv-loop μ-loop
 loop-less c =
     let b = c .before .before .before .before .before in
-    gathered-less with withAll nothing-more one-more _ _ _ _ _ (b .before .before .before .loop .inv) (b .before .before .loop-test .taken) (b .if1 .left) _ (c .before .before .before .before .number .ensures) _ _ (c .before .before .n .given .1)
+    gathered-less with withAll nothing-more one-more _ _ _ _ _ (b .before .before .before .loop .inv) (b .before .before .loop-test .taken) (b .if1 .left) _
+    (c .before .before .before .before .number .ensures) _ _ (c .before .before .next .given .1)
 
 loop-again : tie.Need-loop-again Inv-loop μ-loop
 loop-again c =
     let b = c .before .before .before .before .before in
-    gathered-more with withAll nothing-more one-more _ _ _ _ _ (b .before .before .before .loop .inv) (b .before .before .loop-test .taken) (b .if1 .left) _ (c .before .before .before .before .number .ensures) _ _ (c .before .before .n .given .1) _ (c .with-reset .ensures)
+    gathered-more with withAll nothing-more one-more _ _ _ _ _ (b .before .before .before .loop .inv) (b .before .before .loop-test .taken) (b .if1 .left) _
+    (c .before .before .before .before .number .ensures) _ _ (c .before .before .next .given .1) _ (c .with-reset .ensures)
+
+enum-known-e : tie.Need-enum-known-e Inv-loop μ-loop
+enum-known-e c = search needs
+
+returns-2 : tie.Need-returns-2 Inv-loop μ-loop
+returns-2 c =
+    let b = c .before .before .before .before in
+    gathered-missing with withAll nothing-more one-more _ _ _ _ _ (b .before .before .before .loop .inv) (b .before .before .loop-test .taken) (b .if1 .left) _
+    (c .before .before .before .number .ensures) _ _ (c .before .e .given .1)
 
 returns-3 : tie.Need-returns-3 Inv-loop μ-loop
 returns-3 c = gathered-end with withAll nothing-more one-more _ _ _ _ _ (c .before .loop .inv) (c .loop-test .left)
@@ -66,12 +69,12 @@ more-resets-spec =
     loop-holds
     shared-slice-read-if1
     returns
-    add-t9
+    add-t10
     number-requires
-    enum-known-n
-    enum-told
-    returns-2
+    enum-known-next
     with-reset-requires
     loop-less
     loop-again
+    enum-known-e
+    returns-2
     returns-3)

@@ -1,5 +1,5 @@
 -- `fields::resets_of` meets its contract.
-use mathlib.Core.Path.{_≡_, sym, _∙_, ap}
+use mathlib.Core.Path.{sym, _∙_, ap}
 use lib.ListN.{length, drop}
 use denote.Ref.{now}
 use Rattle.iosa.specs.Reading.{numbersOrDash, moreNumbers}
@@ -31,19 +31,8 @@ enum-told c = search needs
 number-requires : tie.Need-number-requires
 number-requires c κs = search needs
 
-enum-known-n : tie.Need-enum-known-n
-enum-known-n c = search needs
-
-enum-told-2 : tie.Need-enum-told-2
-enum-told-2 c = search needs
-
-returns-2 : tie.Need-returns-2
-returns-2 c =
-    let a = c .before .before .before .before .before .before .before .args in
-    let t = now (a .text) in
-    let bs = drop (a .c .at) t in
-    let d = resets-numbers bs (sym (c .before .before .before .before .before .byte .ensures) ∙ ap (past t) (c .before .before .before .enum-told .given .1)) in
-    sym (ap (valued summary) (d ∙ no-number bs (sym (c .before .before .number .ensures) ∙ ap (gotNumber t) (c .enum-told2 .given .1))))
+enum-known-end : tie.Need-enum-known-end
+enum-known-end c = search needs
 
 first-reset-requires : tie.Need-first-reset-requires
 first-reset-requires c κs = search needs
@@ -51,16 +40,28 @@ first-reset-requires c κs = search needs
 more-resets-requires : tie.Need-more-resets-requires
 more-resets-requires c κs = search needs
 
-returns-3 : tie.Need-returns-3
-returns-3 c =
+returns-2 : tie.Need-returns-2
+returns-2 c =
     let a = c .before .before .before .before .before .before .before .before .before .before .args in
     let t = now (a .text) in
     let bs = drop (a .c .at) t in
-    let v = c .before .before .before .n .given .0 in
-    let cs = drop (v .1 .0 .at) t in
+    let v = c .before .before .before .end .given .0 in
+    let cs = drop (v .0 .at) t in
     let d = resets-numbers bs (sym (c .before .before .before .before .before .before .before .before .byte .ensures) ∙ ap (past t) (c .before .before .before .before .before .before .enum-told .given .1)) in
-    let n = first-number bs cs (v .0) (sym (c .before .before .before .before .before .number .ensures) ∙ ap (gotNumber t) (c .before .before .before .n .given .1)) in
+    let n = first-number bs cs (v .1 .0) (sym (c .before .before .before .before .before .number .ensures) ∙ ap (gotNumber t) (c .before .before .before .end .given .1)) in
     c .more-resets .ensures ∙ ap (λ s. valued (withAll s) (moreNumbers (length cs) cs)) (c .before .first-reset .ensures) ∙ sym (ap (valued summary) d ∙ n)
+
+enum-known-e : tie.Need-enum-known-e
+enum-known-e c = search needs
+
+returns-3 : tie.Need-returns-3
+returns-3 c =
+    let a = c .before .before .before .before .before .before .before .before .args in
+    let t = now (a .text) in
+    let bs = drop (a .c .at) t in
+    let q = c .before .before .before .before in
+    let d = resets-numbers bs (sym (q .before .before .byte .ensures) ∙ ap (past t) (q .enum-told .given .1)) in
+    sym (ap (valued summary) (d ∙ no-number bs _ (sym (c .before .before .before .number .ensures) ∙ ap (gotNumber t) (c .before .e .given .1))))
 
 pub resets-of-spec : {M : Type 1} → statement M
 resets-of-spec =
@@ -71,9 +72,9 @@ resets-of-spec =
     returns
     enum-told
     number-requires
-    enum-known-n
-    enum-told-2
-    returns-2
+    enum-known-end
     first-reset-requires
     more-resets-requires
+    enum-known-e
+    returns-2
     returns-3)

@@ -6,7 +6,7 @@ use lib.ListN.{length, drop}
 use denote.Ref.{now}
 use Rattle.iosa.specs.Reading.{entry}
 use Rattle.lines.specs.Lines.{lineOf, gotLine}
-use Rattle.lines.proofs.LineLaws.{valued-none}
+use Rattle.lines.proofs.LineLaws.{valued-stops}
 use Rattle.layout.specs.Image.{imageOf}
 use Rattle.survey.proofs.Turns.{read-line, read-on}
 use Rattle.intake.proofs.Built.{Building, filled-rest, building-first, has-line, no-fault, built, turn-fits, turn-taken}
@@ -33,8 +33,8 @@ loop-holds c =
 line-at-requires : tie.Need-line-at-requires Inv-loop μ-loop
 line-at-requires c κs = search needs
 
-enum-known-line : tie.Need-enum-known-line Inv-loop μ-loop
-enum-known-line c = search needs
+enum-known-next : tie.Need-enum-known-next Inv-loop μ-loop
+enum-known-next c = search needs
 
 enum-told : tie.Need-enum-told Inv-loop μ-loop
 enum-told c = search needs
@@ -46,8 +46,11 @@ returns : tie.Need-returns Inv-loop μ-loop
 returns c =
     let a = c .before .before .before .before .before .before .before .before .before .before .before .before .args in
     let l = c .before .before .before .before .loop in
-    let e = valued-none lineOf (entry (drop (l .at) (now (a .text)))) (sym (c .before .before .line-at .ensures) ∙ ap (gotLine (now (a .text))) (c .enum-told .given .1)) in
-    absurd (has-line (l .inv) (c .before .before .before .before .before .before .before .before .before .before .before .before .pre .1 .0) (c .before .before .before .before .before .before .before .before .before .before .before .before .pre .1 .1) (c .before .before .before .loop-test .taken) e)
+    let e = valued-stops lineOf (entry (drop (l .at) (now (a .text)))) (sym (c .before .before .line-at .ensures) ∙ ap (gotLine (now (a .text)))
+    (c .enum-told .given .1)) in
+    absurd (has-line (l .inv) (c .before .before .before .before .before .before .before .before .before .before .before .before .pre .1 .0)
+    (c .before .before .before .before .before .before .before .before .before .before .before .before .pre .1 .1) _
+    (c .before .before .before .loop-test .taken) e)
 
 step-requires : tie.Need-step-requires Inv-loop μ-loop
 step-requires c κs = search needs
@@ -65,33 +68,33 @@ returns-2 : tie.Need-returns-2 Inv-loop μ-loop
 returns-2 c =
     let a = c .before .before .before .before .before .before .before .before .before .before .before .before .before .before .before .before .args in
     let l = c .before .before .before .before .before .before .before .before .loop in
-    let v = c .before .before .before .before .line .given .0 in
-    let r = read-line (now (a .text)) (l .at) (v .0) (v .1 .0 .at) (sym (c .before .before .before .before .before .before .line-at .ensures) ∙ ap (gotLine (now (a .text))) (c .before .before .before .before .line .given .1)) in
-    absurd (no-fault (l .inv) (c .before .before .before .before .before .before .before .before .before .before .before .before .before .before .before .before .pre .1 .0) (c .before .before .before .before .before .before .before .before .before .before .before .before .before .before .before .before .pre .1 .1) (v .0) (v .1 .0 .at) r (c .enum-told2 .given .0 .0) (sym (c .before .before .step .ensures) ∙ c .enum-told2 .given .1))
+    let v = c .before .before .before .before .next .given .0 in
+    let r = read-line (now (a .text)) (l .at) (v .1 .0) (v .0 .at) (sym (c .before .before .before .before .before .before .line-at .ensures) ∙ ap (gotLine (now (a .text))) (c .before .before .before .before .next .given .1)) in
+    absurd (no-fault (l .inv) (c .before .before .before .before .before .before .before .before .before .before .before .before .before .before .before .before .pre .1 .0) (c .before .before .before .before .before .before .before .before .before .before .before .before .before .before .before .before .pre .1 .1) (v .1 .0) (v .0 .at) r (c .enum-told2 .given .0 .0) (sym (c .before .before .step .ensures) ∙ c .enum-told2 .given .1))
 
 take-in-requires : tie.Need-take-in-requires Inv-loop μ-loop
 take-in-requires c κs =
     let a = c .before .before .before .before .before .before .before .before .before .before .before .before .before .before .before .before .before .before .args in
     let l = c .before .before .before .before .before .before .before .before .before .before .loop in
-    let v = c .before .before .before .before .before .before .line .given .0 in
-    let r = read-line (now (a .text)) (l .at) (v .0) (v .1 .0 .at) (sym (c .before .before .before .before .before .before .before .before .line-at .ensures) ∙ ap (gotLine (now (a .text))) (c .before .before .before .before .before .before .line .given .1)) in
-    turn-fits (l .inv) (v .0) (v .1 .0 .at) r (c .before .before .q .given .0 .0) (sym (c .before .before .before .before .step .ensures) ∙ c .before .before .q .given .1)
+    let v = c .before .before .before .before .before .before .next .given .0 in
+    let r = read-line (now (a .text)) (l .at) (v .1 .0) (v .0 .at) (sym (c .before .before .before .before .before .before .before .before .line-at .ensures) ∙ ap (gotLine (now (a .text))) (c .before .before .before .before .before .before .next .given .1)) in
+    turn-fits (l .inv) (v .1 .0) (v .0 .at) r (c .before .before .q .given .0 .0) (sym (c .before .before .before .before .step .ensures) ∙ c .before .before .q .given .1)
 
 loop-less : tie.Need-loop-less Inv-loop μ-loop
 loop-less c =
     let a = c .before .before .before .before .before .before .before .before .before .before .before .before .before .before .before .before .before .before .before .before .before .args in
     let l = c .before .before .before .before .before .before .before .before .before .before .before .before .before .loop in
-    let v = c .before .before .before .before .before .before .before .before .before .line .given .0 in
-    let r = read-line (now (a .text)) (l .at) (v .0) (v .1 .0 .at) (sym (c .before .before .before .before .before .before .before .before .before .before .before .line-at .ensures) ∙ ap (gotLine (now (a .text))) (c .before .before .before .before .before .before .before .before .before .line .given .1)) in
+    let v = c .before .before .before .before .before .before .before .before .before .next .given .0 in
+    let r = read-line (now (a .text)) (l .at) (v .1 .0) (v .0 .at) (sym (c .before .before .before .before .before .before .before .before .before .before .before .line-at .ensures) ∙ ap (gotLine (now (a .text))) (c .before .before .before .before .before .before .before .before .before .next .given .1)) in
     read-on r
 
 loop-again : tie.Need-loop-again Inv-loop μ-loop
 loop-again c =
     let a = c .before .before .before .before .before .before .before .before .before .before .before .before .before .before .before .before .before .before .before .before .before .args in
     let l = c .before .before .before .before .before .before .before .before .before .before .before .before .before .loop in
-    let v = c .before .before .before .before .before .before .before .before .before .line .given .0 in
-    let r = read-line (now (a .text)) (l .at) (v .0) (v .1 .0 .at) (sym (c .before .before .before .before .before .before .before .before .before .before .before .line-at .ensures) ∙ ap (gotLine (now (a .text))) (c .before .before .before .before .before .before .before .before .before .line .given .1)) in
-    turn-taken (l .inv) (v .0) (v .1 .0 .at) r (c .before .before .before .before .before .q .given .0 .0) (sym (c .before .before .before .before .before .before .before .step .ensures) ∙ c .before .before .before .before .before .q .given .1) (c .before .before .take-in .last .0) (c .before .before .take-in .ensures)
+    let v = c .before .before .before .before .before .before .before .before .before .next .given .0 in
+    let r = read-line (now (a .text)) (l .at) (v .1 .0) (v .0 .at) (sym (c .before .before .before .before .before .before .before .before .before .before .before .line-at .ensures) ∙ ap (gotLine (now (a .text))) (c .before .before .before .before .before .before .before .before .before .next .given .1)) in
+    turn-taken (l .inv) (v .1 .0) (v .0 .at) r (c .before .before .before .before .before .q .given .0 .0) (sym (c .before .before .before .before .before .before .before .step .ensures) ∙ c .before .before .before .before .before .q .given .1) (c .before .before .take-in .last .0) (c .before .before .take-in .ensures)
 
 same-length-3 : tie.Need-same-length-3 Inv-loop μ-loop
 same-length-3 c = c .before .loop .inv .long ∙ c .before .before .before .before .before .fill-words .ensures .long
@@ -113,7 +116,7 @@ build-spec =
     at-start-requires
     loop-holds
     line-at-requires
-    enum-known-line
+    enum-known-next
     enum-told
     same-length
     returns

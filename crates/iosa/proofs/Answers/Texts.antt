@@ -85,10 +85,10 @@ read-text-exactly t a = (λ e. subst (ReadAnswer t) e (there (read-answers t)), 
     there (is-model m e) = let p = read-exactly t m .0 e in subst (ReadAnswer t) (sym e) (is-text (p .0) (p .1))
     there (is-too-long h e) = subst (ReadAnswer t) (sym e) (is1 h)
     there (is-empty h e) = subst (ReadAnswer t) (sym e) (is8 h)
-    there (has-fault n k f e) = subst (ReadAnswer t) (sym e) (is-fault f)
+    there (has-fault n k column f e) = subst (ReadAnswer t) (sym e) (is-fault f)
 
     back : {b : Answer Model} → ReadAnswer t b → readOf t ≡ b
     back (is1 h) = too-long-exactly t .1 h
-    back (is-fault {n = n} {k = k} f) = let h = fault-number (f .lowest .here) in fault-exactly t n k (h .0) (h .1) .1 f
+    back (is-fault {n = n} {k = k} {column = column} f) = let h = fault-number (f .lowest .here) in fault-exactly t n k column (h .0) (h .1) .1 f
     back (is8 e) = no-component-exactly t .1 e
     back (is-text {m = m} w e) = read-exactly t m .1 (w, e)

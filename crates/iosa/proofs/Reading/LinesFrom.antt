@@ -5,15 +5,15 @@ use mathlib.Core.List.{List, [], _∷_, cons≢nil}
 use Prim.Native.Nat.{ℕ, zero, suc, _≤_, _<_}
 use native.Mathlib.Omega.{arith}
 use lib.ListN.{length, length-append}
-use Rattle.laws.proofs.SearchLaws.{no-some}
 use Rattle.answer.specs.Told.{tell, refused}
-use Rattle.iosa.specs.Reading.{Got, got, exactly, Entry, comp-entry, act-entry, clk-entry, row-entry, entry, Progress, faultOf, finish, linesFrom}
+use Rattle.iosa.specs.Reading.{Got, Scan, is, stops, got, exactly, shorter, Entry, comp-entry, act-entry, clk-entry, row-entry, entry, Progress, current, faultOf, columnOf, stopColumn, finish, linesFrom}
 use Rattle.iosa.specs.Line.{lineOf}
 use Rattle.iosa.specs.Faulty.{withLine}
+use Rattle.iosa.proofs.Reading.Scans.{no-is}
 use Rattle.iosa.proofs.Reading.Lines.{entry-exact}
 
-entry-nothing : entry [] ≡ none
-unfolding entry exactly
+entry-nothing : entry [] ≡ stops []
+unfolding entry exactly shorter
 entry-nothing = refl
 
 line-long : (e : Entry) → 1 ≤ length (lineOf e)
@@ -23,7 +23,7 @@ line-long (act-entry a k) = omega arith
 line-long (clk-entry x b) = omega arith
 line-long (row-entry s g a r t) = omega arith
 
-pub entry-shortens : (bs : List ℕ) (g : Got Entry) → entry bs ≡ some g → length (g .rest) < length bs
+pub entry-shortens : (bs : List ℕ) (g : Got Entry) → entry bs ≡ is g → length (g .rest) < length bs
 entry-shortens bs g h = omega (arith, ap length (entry-exact .scanned bs g h .0), length-append (lineOf (g .value)) (g .rest), line-long (g .value))
 
 module _ (k : ℕ) (p : Progress) where
@@ -33,17 +33,19 @@ module _ (k : ℕ) (p : Progress) where
   lines-end (suc f) = refl
 
   -- a line of wrong shape
-  pub lines-shapeless : (f : ℕ) (bs : List ℕ) → ¬ (bs ≡ []) → length bs ≤ f → entry bs ≡ none → linesFrom f k p bs ≡ refused (tell 2 (k ∷ []))
+  pub lines-shapeless : (f : ℕ) (bs cs : List ℕ) → ¬ (bs ≡ []) → length bs ≤ f → entry bs ≡ stops cs
+      → linesFrom f k p bs ≡ refused (tell 2 (k ∷ stopColumn bs cs ∷ []))
   unfolding linesFrom
-  lines-shapeless f [] w l read = absurd (w refl)
-  lines-shapeless zero (b ∷ bs) w l read = absurd (omega arith)
-  lines-shapeless (suc f) (b ∷ bs) w l read = rw (read, linesFrom)
+  lines-shapeless f [] cs w l read = absurd (w refl)
+  lines-shapeless zero (b ∷ bs) cs w l read = absurd (omega arith)
+  lines-shapeless (suc f) (b ∷ bs) cs w l read = rw (read, linesFrom)
 
   module _ (e : Entry) (cs : List ℕ) where
     -- a line of good shape that has a fault
-    pub lines-fault : (f : ℕ) (bs : List ℕ) (n : ℕ) → length bs ≤ f → entry bs ≡ got e cs → faultOf p e ≡ some n → linesFrom f k p bs ≡ refused (tell n (k ∷ []))
+    pub lines-fault : (f : ℕ) (bs : List ℕ) (n : ℕ) → length bs ≤ f → entry bs ≡ got e cs → faultOf p e ≡ some n
+        → linesFrom f k p bs ≡ refused (tell n (k ∷ columnOf (current p) n e))
     unfolding linesFrom
-    lines-fault f [] n l read h = absurd (no-some entry-nothing read)
+    lines-fault f [] n l read h = absurd (no-is entry-nothing read)
     lines-fault zero (b ∷ bs) n l read h = absurd (omega arith)
     lines-fault (suc f) (b ∷ bs) n l read h = rw (read, linesFrom) (rw h)
 
@@ -59,10 +61,11 @@ lines-bound (suc f) g k p [] l m = lines-end k p (suc f) ∙ sym (lines-end k p 
 lines-bound (suc f) zero k p (b ∷ bs) l m = absurd (omega arith)
 lines-bound (suc f) (suc g) k p (b ∷ bs) l m = go (λ q cs l m. lines-bound f g (suc k) q cs l m) (entry (b ∷ bs)) refl
   where
-    go : ((q : Progress) (cs : List ℕ) → length cs ≤ f → length cs ≤ g → linesFrom f (suc k) q cs ≡ linesFrom g (suc k) q cs) → (o : Option (Got Entry)) → entry (b ∷ bs) ≡ o
+    go : ((q : Progress) (cs : List ℕ) → length cs ≤ f → length cs ≤ g → linesFrom f (suc k) q cs ≡ linesFrom g (suc k) q cs) → (o : Scan Entry)
+        → entry (b ∷ bs) ≡ o
         → linesFrom (suc f) k p (b ∷ bs) ≡ linesFrom (suc g) k p (b ∷ bs)
-    go ih none read = lines-shapeless k p (suc f) (b ∷ bs) cons≢nil l read ∙ sym (lines-shapeless k p (suc g) (b ∷ bs) cons≢nil m read)
-    go ih (some r) read = line (faultOf p (r .value)) refl
+    go ih (stops cs) read = lines-shapeless k p (suc f) (b ∷ bs) cs cons≢nil l read ∙ sym (lines-shapeless k p (suc g) (b ∷ bs) cs cons≢nil m read)
+    go ih (is r) read = line (faultOf p (r .value)) refl
       where
         line : (o : Option ℕ) → faultOf p (r .value) ≡ o → linesFrom (suc f) k p (b ∷ bs) ≡ linesFrom (suc g) k p (b ∷ bs)
         line (some n) h = lines-fault k p (r .value) (r .rest) (suc f) (b ∷ bs) n l read h ∙ sym (lines-fault k p (r .value) (r .rest) (suc g) (b ∷ bs) n m read h)
@@ -73,7 +76,7 @@ lines-bound (suc f) (suc g) k p (b ∷ bs) l m = go (λ q cs l m. lines-bound f 
 -- a faultless line is taken in, and reading goes on behind it
 pub lines-next : (k : ℕ) (p : Progress) (e : Entry) (cs : List ℕ) (f g : ℕ) (bs : List ℕ) → length bs ≤ f → length cs ≤ g → entry bs ≡ got e cs → faultOf p e ≡ none
     → linesFrom f k p bs ≡ linesFrom g (suc k) (withLine p e) cs
-lines-next k p e cs f g [] l m read h = absurd (no-some entry-nothing read)
+lines-next k p e cs f g [] l m read h = absurd (no-is entry-nothing read)
 lines-next k p e cs zero g (b ∷ bs) l m read h = absurd (omega arith)
 lines-next k p e cs (suc f) g (b ∷ bs) l m read h =
     taken-in k p e cs f b bs read h ∙ lines-bound f g (suc k) (withLine p e) cs (omega (arith, entry-shortens (b ∷ bs) (record { value = e; rest = cs }) read)) m

@@ -2,22 +2,26 @@
 use mathlib.Core.Path.{_≡_, refl, sym, _∙_, ap, subst}
 use mathlib.Core.Option.{Option, none, some, Option·some-inj}
 use mathlib.Core.Bool.{Bool, true, false, true≢false}
-use mathlib.Core.List.{List}
+use mathlib.Core.List.{List, [], _∷_}
 use Prim.Native.Nat.{ℕ, _≤_}
 use native.Mathlib.Omega.{arith}
 use Rattle.laws.specs.Search.{when, orElse}
 use Rattle.laws.proofs.SearchLaws.{no-some}
 use Rattle.laws.proofs.TestLaws.{apart-cases}
 use Rattle.laws.specs.Lowest.{Lowest}
-use Rattle.iosa.specs.Reading.{Got, got, Entry, entry, Progress, current, outOfTurn, outOfRange, lacks, outOfOrder, tooMany, faultOf}
+use Rattle.iosa.specs.Reading.{Got, stops, got, Entry, entry, Progress, current, outOfTurn, outOfRange, lacks, outOfOrder, tooMany, faultOf, statesBy, columnOf, stopColumn}
 use Rattle.iosa.specs.Faulty.{InTurn, InRange, Named, InOrder, Room, Faultless, LineAt}
-use Rattle.iosa.specs.Faulty.{LineFault, wrong-shape, out-of-turn, out-of-range, not-named, out-of-order, too-many}
-use Rattle.iosa.proofs.Reading.Lines.{line-exactly, no-line-exactly}
+use Rattle.iosa.specs.Faulty.{LineFault, wrong-shape, out-of-turn, out-of-range, not-named, out-of-order, too-many, Carries, wrong-byte, range-value, name-value, line-alone}
+use Rattle.iosa.proofs.Reading.Scans.{is-inj}
+use Rattle.iosa.proofs.Reading.Lines.{line-exactly, no-line}
+use Rattle.iosa.proofs.Reading.WrongByte.{wrong-byte-here, one-wrong-byte}
+use Rattle.iosa.proofs.Reading.FirstValue.{first-value-exactly, first-name-exactly, one-first-value}
+use Rattle.iosa.specs.Column.{FirstValue, Ranged, Owned}
 use Rattle.iosa.proofs.Reading.Tests.{turn-decided, range-decided, names-decided, order-decided, room-decided}
 
 module _ (p : Progress) (bs : List ℕ) (e : Entry) (cs : List ℕ) (read : entry bs ≡ got e cs) where
   same-line : {d : Entry} {ds : List ℕ} → LineAt bs d ds → e ≡ d
-  same-line {d} {ds} h = ap (λ (g : Got Entry). g .value) (Option·some-inj .0 (sym read ∙ line-exactly bs d ds .1 h))
+  same-line {d} {ds} h = ap (λ (g : Got Entry). g .value) (is-inj (sym read ∙ line-exactly bs d ds .1 h))
 
   here : LineAt bs e cs
   here = line-exactly bs e cs .0 read
@@ -90,6 +94,20 @@ module _ (p : Progress) (bs : List ℕ) (e : Entry) (cs : List ℕ) (read : entr
   unfolding faultOf
   fault-some n h = lowest (outOfTurn (p .last) e) (outOfRange (current p) e) (lacks (current p) e) (outOfOrder (p .last) e) (tooMany (p .comps) e) refl refl refl refl refl n h
 
+  -- the column that is told is the one that the fault carries
+  carries : (n : ℕ) → LineFault p bs n → Carries p bs n (columnOf (current p) n e)
+  unfolding columnOf
+  carries n (wrong-shape z h) = absurd (h e cs here)
+  carries n (out-of-turn z h w) = rw z (line-alone (λ q. omega arith) (λ q. omega arith) (λ q. omega arith) refl)
+  carries n (out-of-range z h w) =
+      rw z (range-value refl here (first-value-exactly (current p) e (λ q. w (subst (InRange (current p)) (same-line h) q)) _ .0 refl) refl)
+  carries n (not-named z h w) = rw z (name-value refl here (first-name-exactly (current p) e (λ q. w (subst (Named (current p)) (same-line h) q)) _ .0 refl) refl)
+  carries n (out-of-order z h w) = rw z (line-alone (λ q. omega arith) (λ q. omega arith) (λ q. omega arith) refl)
+  carries n (too-many z h w) = rw z (line-alone (λ q. omega arith) (λ q. omega arith) (λ q. omega arith) refl)
+
+  pub fault-carries : (n : ℕ) → faultOf p e ≡ some n → Carries p bs n (columnOf (current p) n e)
+  fault-carries n h = carries n (fault-some n h .here)
+
   pub fault-none : faultOf p e ≡ none → Faultless p e
   unfolding faultOf
   fault-none h = faultless (outOfTurn (p .last) e) (outOfRange (current p) e) (lacks (current p) e) (outOfOrder (p .last) e) (tooMany (p .comps) e) refl refl refl refl refl h
@@ -115,5 +133,34 @@ fault-number (not-named e h w) = (omega arith, omega arith)
 fault-number (out-of-order e h w) = (omega arith, omega arith)
 fault-number (too-many e h w) = (omega arith, omega arith)
 
-pub shapeless : (p : Progress) (bs : List ℕ) → entry bs ≡ none → Lowest (LineFault p bs) 2
-shapeless p bs e = record { here = wrong-shape refl (no-line-exactly bs .0 e); before = λ m h w. omega (arith, fault-number w .0) }
+pub shapeless : (p : Progress) (bs cs : List ℕ) → entry bs ≡ stops cs → Lowest (LineFault p bs) 2
+shapeless p bs cs e = record { here = wrong-shape refl (no-line bs cs e); before = λ m h w. omega (arith, fault-number w .0) }
+
+pub shapeless-carries : (p : Progress) (bs cs : List ℕ) → entry bs ≡ stops cs → Carries p bs 2 (stopColumn bs cs ∷ [])
+shapeless-carries p bs cs e = wrong-byte refl (wrong-byte-here bs cs e) refl
+
+-- a fault carries no other column
+one-line : {bs : List ℕ} {d e : Entry} {cs ds : List ℕ} → LineAt bs d cs → LineAt bs e ds → d ≡ e
+one-line {bs} {d} {e} {cs} {ds} a b = ap (λ (g : Got Entry). g .value) (is-inj (sym (line-exactly bs d cs .1 a) ∙ line-exactly bs e ds .1 b))
+
+pub one-column : {p : Progress} {bs : List ℕ} {n : ℕ} {a b : List ℕ} → Carries p bs n a → Carries p bs n b → a ≡ b
+one-column (wrong-byte z w q) (wrong-byte y v r) = q ∙ ap (λ k. k ∷ []) (one-wrong-byte w v) ∙ sym r
+one-column (wrong-byte z w q) (range-value y l v r) = absurd (omega arith)
+one-column (wrong-byte z w q) (name-value y l v r) = absurd (omega arith)
+one-column (wrong-byte z w q) (line-alone x y v r) = absurd (x z)
+one-column (range-value z l w q) (wrong-byte y v r) = absurd (omega arith)
+one-column {p} (range-value {e = e} {k = j} z l w q) (range-value {e = d} {k = k} y m v r) =
+    let f : FirstValue (Ranged (statesBy (current p) e)) e k = subst (λ e. FirstValue (Ranged (statesBy (current p) e)) e k) (one-line m l) v in
+    q ∙ ap (λ k. k ∷ []) (one-first-value w f) ∙ sym r
+one-column (range-value z l w q) (name-value y m v r) = absurd (omega arith)
+one-column (range-value z l w q) (line-alone x y v r) = absurd (y z)
+one-column (name-value z l w q) (wrong-byte y v r) = absurd (omega arith)
+one-column (name-value z l w q) (range-value y m v r) = absurd (omega arith)
+one-column {p} (name-value {e = e} {k = j} z l w q) (name-value {e = d} {k = k} y m v r) =
+    let f : FirstValue (Owned (current p)) e k = subst (λ e. FirstValue (Owned (current p)) e k) (one-line m l) v in
+    q ∙ ap (λ k. k ∷ []) (one-first-value w f) ∙ sym r
+one-column (name-value z l w q) (line-alone x y v r) = absurd (v z)
+one-column (line-alone x y v q) (wrong-byte z w r) = absurd (x z)
+one-column (line-alone x y v q) (range-value z l w r) = absurd (y z)
+one-column (line-alone x y v q) (name-value z l w r) = absurd (v z)
+one-column (line-alone x y v q) (line-alone x₂ y₂ v₂ r) = q ∙ sym r

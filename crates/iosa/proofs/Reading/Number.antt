@@ -1,6 +1,5 @@
 -- A number printed is scanned back, and what is scanned as a number is that number printed.
 use mathlib.Core.Path.{_≡_, refl, sym, _∙_, ap, ap₂}
-use mathlib.Core.Option.{Option, none, some, Option·some-inj}
 use mathlib.Core.Bool.{Bool, true, false}
 use mathlib.Core.List.{List, [], _∷_, _++_, append-assoc}
 use Prim.Native.Nat.{ℕ, zero, suc, _+_, _*_, _-_, _/_, _%_, _^_, _≤_, _<_}
@@ -10,10 +9,10 @@ use lib.ListN.{length, length-append}
 use lib.Dec.{eqb, ltb, leb}
 use borrow.Author.Tests.{ltb-true, leb-true, lt-ltb, le-ltb, le-leb, eqb-true, eqb-false, ne-eqb}
 use Rattle.laws.proofs.TestLaws.{and-true}
-use Rattle.laws.proofs.SearchLaws.{no-some}
 use Rattle.answer.specs.Limits.{maxDigits}
 use Rattle.iosa.specs.Text.{byte0, digitsOf, decimal}
-use Rattle.iosa.specs.Reading.{Got, got, isDigit, moreDigits, number}
+use Rattle.iosa.specs.Reading.{Got, Scan, is, stops, got, isDigit, moreDigits, number}
+use Rattle.iosa.proofs.Reading.Scans.{is-inj, no-is}
 
 -- the bytes do not begin with a digit
 abbrev pub NoDigit : List ℕ → Type 0
@@ -147,11 +146,11 @@ number-zero : (bs : List ℕ) → number (byte0 ∷ bs) ≡ got 0 bs
 unfolding number
 number-zero bs = refl
 
-number-lead : (d : ℕ) (bs : List ℕ) → 1 ≤ d → d < 10 → number ((byte0 + d) ∷ bs) ≡ some (moreDigits (maxDigits - 1) d bs)
+number-lead : (d : ℕ) (bs : List ℕ) → 1 ≤ d → d < 10 → number ((byte0 + d) ∷ bs) ≡ is (moreDigits (maxDigits - 1) d bs)
 unfolding number
 number-lead d bs p h =
     let e : byte0 + d - byte0 ≡ d = omega arith in
-    rw (digit-is d h, number) (rw (ne-eqb (byte0 + d) byte0 (omega arith)) (ap {B = Option (Got ℕ)} (λ n. some (moreDigits (maxDigits - 1) n bs)) e))
+    rw (digit-is d h, number) (rw (ne-eqb (byte0 + d) byte0 (omega arith)) (ap {B = Scan ℕ} (λ n. is (moreDigits (maxDigits - 1) n bs)) e))
 
 pub number-printed : (n : ℕ) (bs : List ℕ) → n < 10 ^ maxDigits → NoDigit bs → number (decimal n ++ bs) ≡ got n bs
 unfolding decimal digitsOf
@@ -162,23 +161,30 @@ number-printed n bs h e = go (digits-of (maxDigits - 1) n h) (ℕ-discrete n 0)
     go d (no z) =
         ap (λ (l : List ℕ). number (l ++ bs)) (d .here)
         ∙ number-lead (d .lead) (d .more ++ bs) (d .some (omega arith)) (d .digit)
-        ∙ ap {B = Option (Got ℕ)} some (
+        ∙ ap {B = Scan ℕ} is (
         digits-taken (maxDigits - 1) (d .lead) bs (d .worth) (omega (arith, d .fits)) ∙ digits-end (maxDigits - 1 - length (d .more)) n bs e)
 
-pub number-scanned : (bs : List ℕ) (g : Got ℕ) → number bs ≡ some g → (bs ≡ decimal (g .value) ++ g .rest) × (g .value < 10 ^ maxDigits)
+pub number-scanned : (bs : List ℕ) (g : Got ℕ) → number bs ≡ is g → (bs ≡ decimal (g .value) ++ g .rest) × (g .value < 10 ^ maxDigits)
 unfolding number decimal digitsOf
-number-scanned [] g e = absurd (no-some refl e)
+number-scanned [] g e = absurd (no-is refl e)
 number-scanned (b ∷ bs) g e = go (isDigit b) refl (eqb b byte0) refl e
   where
     go : (t : Bool) → isDigit b ≡ t → (z : Bool) → eqb b byte0 ≡ z
-        → (elim t as (λ _. Option (Got ℕ)) [ true ↦ elim z as (λ _. Option (Got ℕ)) [ true ↦ got 0 bs | false ↦ some (moreDigits (maxDigits - 1) (b - byte0) bs) ] | false ↦ none ]) ≡ some g
+        → (elim t as (λ _. Scan ℕ) [
+          | true ↦ elim z as (λ _. Scan ℕ) [
+            | true ↦ got 0 bs
+            | false ↦ is (moreDigits (maxDigits - 1)
+                (b - byte0) bs)
+          ]
+          | false ↦ stops (b ∷ bs)
+        ]) ≡ is g
         → (b ∷ bs ≡ decimal (g .value) ++ g .rest) × (g .value < 10 ^ maxDigits)
-    go false d z w e = absurd (no-some refl e)
+    go false d z w e = absurd (no-is refl e)
     go true d true w e =
-        let q = Option·some-inj .0 e in
+        let q = is-inj e in
         rw (← q) (ap {B = List ℕ} (λ n. n ∷ bs) (eqb-true b byte0 w), omega arith)
     go true d false w e =
-        let q = Option·some-inj .0 e in
+        let q = is-inj e in
         let h = is-digit b d in
         let ne = eqb-false b byte0 w in
         let r = taken (maxDigits - 1) (b - byte0) bs in

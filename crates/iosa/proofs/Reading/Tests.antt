@@ -13,6 +13,8 @@ use Rattle.laws.proofs.TestLaws.{and-true}
 use Rattle.answer.specs.Limits.{maxComponents, maxRows, maxStates, maxActions, maxClocks}
 use Rattle.iosa.specs.Model.{Comp, acts, rowCount}
 use Rattle.iosa.specs.Reading.{Entry, comp-entry, act-entry, clk-entry, row-entry, turn, outOfTurn, allBelow, guardBelow, outOfRange, allIn, guardIn, lacks, ascending, follows, resetsAscend, outOfOrder, tooMany}
+use Rattle.iosa.specs.Reading.{Value, states-value, state-value, action-value, clock-value, set-value, dash-value, outside, unnamed}
+use Rattle.iosa.specs.Column.{Ranged, Owned}
 use Rattle.iosa.specs.Faulty.{Each, GuardIs, InTurn, InRange, Named, After, Ascends, ResetsAscend, InOrder, Room}
 
 -- ---- tests joined
@@ -106,6 +108,23 @@ names-decided c (row-entry s g a r t) =
     let more = test-and (has (acts c) a) (allIn (c .clocks) r) same (in-decided (c .clocks) r) in
     let d = no-fault (guardIn (c .clocks) g && (has (acts c) a && allIn (c .clocks) r)) (test-and (guardIn (c .clocks) g) (has (acts c) a && allIn (c .clocks) r) (guard-in-decided (c .clocks) g) more) in
     (λ h. let q = d .0 h in (q .0, q .1 .0, q .1 .1), λ h. d .1 (h .0, (h .1, h .2)))
+
+-- ---- 4 and 5, of one value
+pub ranged-decided : (n : ℕ) (v : Value) → (outside n v ≡ false) ↔ Ranged n v
+ranged-decided n (states-value m) = no-fault (leb 1 m && leb m maxStates) (test-and (leb 1 m) (leb m maxStates) (most 1 m) (most m maxStates))
+ranged-decided n (state-value s) = no-fault (ltb s n) (less s n)
+ranged-decided n (action-value a) = no-fault (ltb a maxActions) (less a maxActions)
+ranged-decided n (clock-value x) = no-fault (ltb x maxClocks) (less x maxClocks)
+ranged-decided n (set-value b) = no-fault (leb b 1) (most b 1)
+ranged-decided n dash-value = never
+
+pub owned-decided : (c : Comp) (v : Value) → (unnamed c v ≡ false) ↔ Owned c v
+owned-decided c (states-value m) = never
+owned-decided c (state-value s) = never
+owned-decided c (action-value a) = no-fault (has (acts c) a) same
+owned-decided c (clock-value x) = no-fault (has (c .clocks) x) same
+owned-decided c (set-value b) = never
+owned-decided c dash-value = never
 
 -- ---- 6
 after-decided : (d e : Entry) → (follows (some d) e ≡ true) ↔ After d e

@@ -1,10 +1,12 @@
 -- `lines::kind_field` meets its contract.
-use mathlib.Core.Path.{_≡_, sym, _∙_, ap}
+use mathlib.Core.Path.{sym, _∙_, ap}
 use lib.ListN.{drop}
 use denote.Ref.{now}
+use Rattle.iosa.specs.Text.{tab}
 use Rattle.iosa.specs.Reading.{kind}
 use Rattle.fields.specs.Fields.{past}
-use Rattle.fields.proofs.ScanLaws.{then-none, then-some}
+use Rattle.fields.proofs.ScanLaws.{then-stops, then-is}
+use Rattle.lines.proofs.LineLaws.{byte-stops}
 use borrow.Author.Needs.{needs}
 use Rattle.lines.proofs.kind_field.Statement.{statement}
 use Rattle.lines.proofs.kind_field.Tie as tie
@@ -15,21 +17,24 @@ byte-requires c κs = search needs
 enum-known-d : tie.Need-enum-known-d
 enum-known-d c = search needs
 
+kind-of-requires : tie.Need-kind-of-requires
+kind-of-requires c κs = search needs
+
 enum-told : tie.Need-enum-told
 enum-told c = search needs
 
 returns : tie.Need-returns
 returns c =
-    sym (then-none (λ _ cs. kind cs) (sym (c .before .before .byte .ensures) ∙ ap (past (now (c .before .before .before .before .args .text))) (c .enum-told .given .1)))
-
-kind-of-requires : tie.Need-kind-of-requires
-kind-of-requires c κs = search needs
+    let t = now (c .before .before .before .before .before .before .args .text) in
+    c .kind-of .ensures ∙ sym (then-is (λ _ cs. kind cs) (sym (c .before .before .before .before .byte .ensures) ∙ ap (past t)
+    (c .before .before .d .given .1)))
 
 returns-2 : tie.Need-returns-2
 returns-2 c =
-    let e = sym (c .before .before .before .before .byte .ensures) ∙ ap (past (now (c .before .before .before .before .before .before .args .text))) (c .before .before .d .given .1) in
-    c .kind-of .ensures ∙ sym (then-some (λ _ cs. kind cs) e)
+    let a = c .before .before .before .before .args in
+    let t = now (a .text) in
+    sym (then-stops (λ _ cs. kind cs) (byte-stops tab (drop (a .c .at) t) (sym (c .before .before .byte .ensures) ∙ ap (past t) (c .enum-told .given .1))))
 
 pub kind-field-spec : {M : Type 1} → statement M
 kind-field-spec =
-    tie.close (tie.spec byte-requires enum-known-d enum-told returns kind-of-requires returns-2)
+    tie.close (tie.spec byte-requires enum-known-d kind-of-requires enum-told returns returns-2)

@@ -1,7 +1,11 @@
 -- `lines::line_at` meets its contract.
 use mathlib.Core.Path.{_≡_, sym, _∙_, ap}
+use mathlib.Core.List.{List}
+use Prim.Native.Nat.{ℕ}
 use lib.ListN.{drop}
 use denote.Ref.{now}
+use Rattle.iosa.specs.Text.{compWord, actWord, clkWord, rowWord}
+use Rattle.iosa.specs.Reading.{stops, exactly}
 use Rattle.fields.specs.Fields.{past}
 use Rattle.fields.specs.Resets.{valued}
 use Rattle.lines.specs.Lines.{lineOf}
@@ -9,6 +13,35 @@ use Rattle.lines.proofs.LineLaws.{entry-comp, entry-act, entry-clk, ent
 use borrow.Author.Needs.{needs}
 use Rattle.lines.proofs.line_at.Statement.{statement}
 use Rattle.lines.proofs.line_at.Tie as tie
+
+-- ---- the words that are not there
+abbrev text : tie.After-enum-told → List ℕ
+text c = now (c .before .before .before .before .before .args .text)
+
+abbrev bytes : tie.After-enum-told → List ℕ
+bytes c = drop (c .before .before .before .before .before .args .c .at) (text c)
+
+abbrev one : tie.After-enum-told2 → tie.After-enum-told
+one c = c .before .before .before .before
+
+abbrev two : tie.After-enum-told3 → tie.After-enum-told2
+two c = c .before .before .before .before
+
+abbrev three : tie.After-enum-told4 → tie.After-enum-told3
+three c = c .before .before .before .before
+
+no-comp : (c : tie.After-enum-told) → exactly compWord (bytes c) ≡ stops (drop (c .enum-told .given .0 .0 .at) (text c))
+no-comp c = sym (c .before .before .word .ensures) ∙ ap (past (text c)) (c .enum-told .given .1)
+
+no-act : (c : tie.After-enum-told2) → exactly actWord (bytes (one c)) ≡ stops (drop (c .enum-told2 .given .0 .0 .at) (text (one c)))
+no-act c = sym (c .before .before .word2 .ensures) ∙ ap (past (text (one c))) (c .enum-told2 .given .1)
+
+no-clk : (c : tie.After-enum-told3) → exactly clkWord (bytes (one (two c))) ≡ stops (drop (c .enum-told3 .given .0 .0 .at) (text (one (two c))))
+no-clk c = sym (c .before .before .word3 .ensures) ∙ ap (past (text (one (two c)))) (c .enum-told3 .given .1)
+
+no-row : (c : tie.After-enum-told4)
+    → exactly rowWord (bytes (one (two (three c)))) ≡ stops (drop (c .enum-told4 .given .0 .0 .at) (text (one (two (three c)))))
+no-row c = sym (c .before .before .word4 .ensures) ∙ ap (past (text (one (two (three c))))) (c .enum-told4 .given .1)
 
 slice-aggregate-word : tie.Need-slice-aggregate-word
 slice-aggregate-word c = search needs
@@ -24,10 +57,11 @@ comp-line-requires c κs = search needs
 
 returns : tie.Need-returns
 returns c =
-    let a = c .before .before .before .before .before .before .before .args in
+    let w = c .before .before .before .before in
+    let a = w .before .before .before .args in
     let t = now (a .text) in
-    c .comp-line .ensures ∙ sym (ap (valued lineOf) (entry-comp (drop (a .c .at) t)
-    (sym (c .before .before .before .before .word .ensures) ∙ ap (past t) (c .before .before .d .given .1))))
+    let e = sym (w .word .ensures) ∙ ap (past t) (c .before .before .d .given .1) in
+    c .comp-line .ensures ∙ sym (ap (valued lineOf) (entry-comp (drop (a .c .at) t) e))
 
 enum-told : tie.Need-enum-told
 enum-told c = search needs
@@ -46,11 +80,10 @@ act-line-requires c κs = search needs
 
 returns-2 : tie.Need-returns-2
 returns-2 c =
-    let a = c .before .before .before .before .before .before .before .before .before .before .before .args in
-    let t = now (a .text) in
-    c .act-line .ensures ∙ sym (ap (valued lineOf) (entry-act (drop (a .c .at) t)
-    (sym (c .before .before .before .before .before .before .before .before .word .ensures) ∙ ap (past t) (c .before .before .before .before .before .before .enum-told .given .1))
-    (sym (c .before .before .before .before .word2 .ensures) ∙ ap (past t) (c .before .before .d2 .given .1))))
+    let w = c .before .before .before .before in
+    let q = w .before .before in
+    let e = sym (w .word2 .ensures) ∙ ap (past (text q)) (c .before .before .d2 .given .1) in
+    c .act-line .ensures ∙ sym (ap (valued lineOf) (entry-act (bytes q) (no-comp q) e))
 
 enum-told-2 : tie.Need-enum-told-2
 enum-told-2 c = search needs
@@ -69,12 +102,11 @@ clk-line-requires c κs = search needs
 
 returns-3 : tie.Need-returns-3
 returns-3 c =
-    let a = c .before .before .before .before .before .before .before .before .before .before .before .before .before .before .before .args in
-    let t = now (a .text) in
-    c .clk-line .ensures ∙ sym (ap (valued lineOf) (entry-clk (drop (a .c .at) t)
-    (sym (c .before .before .before .before .before .before .before .before .before .before .before .before .word .ensures) ∙ ap (past t) (c .before .before .before .before .before .before .before .before .before .before .enum-told .given .1))
-    (sym (c .before .before .before .before .before .before .before .before .word2 .ensures) ∙ ap (past t) (c .before .before .before .before .before .before .enum-told2 .given .1))
-    (sym (c .before .before .before .before .word3 .ensures) ∙ ap (past t) (c .before .before .d3 .given .1))))
+    let w = c .before .before .before .before in
+    let p = w .before .before in
+    let q = one p in
+    let e = sym (w .word3 .ensures) ∙ ap (past (text q)) (c .before .before .d3 .given .1) in
+    c .clk-line .ensures ∙ sym (ap (valued lineOf) (entry-clk (bytes q) (no-comp q) (no-act p) e))
 
 enum-told-3 : tie.Need-enum-told-3
 enum-told-3 c = search needs
@@ -93,26 +125,26 @@ row-line-requires c κs = search needs
 
 returns-4 : tie.Need-returns-4
 returns-4 c =
-    let a = c .before .before .before .before .before .before .before .before .before .before .before .before .before .before .before .before .before .before .before .args in
-    let t = now (a .text) in
-    c .row-line .ensures ∙ sym (ap (valued lineOf) (entry-row (drop (a .c .at) t)
-    (sym (c .before .before .before .before .before .before .before .before .before .before .before .before .before .before .before .before .word .ensures) ∙ ap (past t) (c .before .before .before .before .before .before .before .before .before .before .before .before .before .before .enum-told .given .1))
-    (sym (c .before .before .before .before .before .before .before .before .before .before .before .before .word2 .ensures) ∙ ap (past t) (c .before .before .before .before .before .before .before .before .before .before .enum-told2 .given .1))
-    (sym (c .before .before .before .before .before .before .before .before .word3 .ensures) ∙ ap (past t) (c .before .before .before .before .before .before .enum-told3 .given .1))
-    (sym (c .before .before .before .before .word4 .ensures) ∙ ap (past t) (c .before .before .d4 .given .1))))
+    let w = c .before .before .before .before in
+    let o = w .before .before in
+    let p = two o in
+    let q = one p in
+    let e = sym (w .word4 .ensures) ∙ ap (past (text q)) (c .before .before .d4 .given .1) in
+    c .row-line .ensures ∙ sym (ap (valued lineOf) (entry-row (bytes q) (no-comp q) (no-act p) (no-clk o) e))
 
 enum-told-4 : tie.Need-enum-told-4
 enum-told-4 c = search needs
 
+no-word-requires : tie.Need-no-word-requires
+no-word-requires c κs = search needs
+
 returns-5 : tie.Need-returns-5
 returns-5 c =
-    let a = c .before .before .before .before .before .before .before .before .before .before .before .before .before .before .before .before .before .args in
-    let t = now (a .text) in
-    sym (ap (valued lineOf) (entry-none (drop (a .c .at) t)
-    (sym (c .before .before .before .before .before .before .before .before .before .before .before .before .before .before .word .ensures) ∙ ap (past t) (c .before .before .before .before .before .before .before .before .before .before .before .before .enum-told .given .1))
-    (sym (c .before .before .before .before .before .before .before .before .before .before .word2 .ensures) ∙ ap (past t) (c .before .before .before .before .before .before .before .before .enum-told2 .given .1))
-    (sym (c .before .before .before .before .before .before .word3 .ensures) ∙ ap (past t) (c .before .before .before .before .enum-told3 .given .1))
-    (sym (c .before .before .word4 .ensures) ∙ ap (past t) (c .enum-told4 .given .1))))
+    let n = c .before in
+    let o = three n in
+    let p = two o in
+    let q = one p in
+    ap (λ l. stops l) (c .no-word .ensures) ∙ sym (ap (valued lineOf) (entry-none (bytes q) (no-comp q) (no-act p) (no-clk o) (no-row n)))
 
 pub line-at-spec : {M : Type 1} → statement M
 line-at-spec =
@@ -142,4 +174,5 @@ line-at-spec =
     row-line-requires
     returns-4
     enum-told-4
+    no-word-requires
     returns-5)

@@ -1,11 +1,13 @@
 -- `lines::resets_field` meets its contract.
-use mathlib.Core.Path.{_≡_, sym, _∙_, ap}
+use mathlib.Core.Path.{sym, _∙_, ap}
 use lib.ListN.{drop}
 use denote.Ref.{now}
+use Rattle.iosa.specs.Text.{tab}
 use Rattle.iosa.specs.Reading.{numbersOrDash}
 use Rattle.fields.specs.Fields.{past}
 use Rattle.fields.specs.Resets.{valued, summary}
-use Rattle.fields.proofs.ScanLaws.{then-none, then-some}
+use Rattle.fields.proofs.ScanLaws.{then-stops, then-is}
+use Rattle.lines.proofs.LineLaws.{byte-stops}
 use borrow.Author.Needs.{needs}
 use Rattle.lines.proofs.resets_field.Statement.{statement}
 use Rattle.lines.proofs.resets_field.Tie as tie
@@ -16,22 +18,25 @@ byte-requires c κs = search needs
 enum-known-d : tie.Need-enum-known-d
 enum-known-d c = search needs
 
+resets-of-requires : tie.Need-resets-of-requires
+resets-of-requires c κs = search needs
+
 enum-told : tie.Need-enum-told
 enum-told c = search needs
 
 returns : tie.Need-returns
 returns c =
-    let e = sym (c .before .before .byte .ensures) ∙ ap (past (now (c .before .before .before .before .args .text))) (c .enum-told .given .1) in
-    sym (ap (valued summary) (then-none (λ _ cs. numbersOrDash cs) e))
-
-resets-of-requires : tie.Need-resets-of-requires
-resets-of-requires c κs = search needs
+    let t = now (c .before .before .before .before .before .before .args .text) in
+    c .resets-of .ensures ∙ sym (ap (valued summary) (then-is (λ _ cs. numbersOrDash cs) (sym (c .before .before .before .before .byte .ensures) ∙ ap (past t)
+    (c .before .before .d .given .1))))
 
 returns-2 : tie.Need-returns-2
 returns-2 c =
-    let e = sym (c .before .before .before .before .byte .ensures) ∙ ap (past (now (c .before .before .before .before .before .before .args .text))) (c .before .before .d .given .1) in
-    c .resets-of .ensures ∙ sym (ap (valued summary) (then-some (λ _ cs. numbersOrDash cs) e))
+    let a = c .before .before .before .before .args in
+    let t = now (a .text) in
+    sym (ap (valued summary) (then-stops (λ _ cs. numbersOrDash cs) (byte-stops tab (drop (a .c .at) t) (sym (c .before .before .byte .ensures) ∙ ap (past t) (c .enum-told .given .1)))))
 
 pub resets-field-spec : {M : Type 1} → statement M
 resets-field-spec =
-    tie.close (tie.spec byte-requires enum-known-d enum-told returns resets-of-requires returns-2)
+    tie.close
+    (tie.spec byte-requires enum-known-d resets-of-requires enum-told returns returns-2)

@@ -11,9 +11,8 @@ use Rattle.answer.specs.State.{partsOf}
 use Rattle.iosa.specs.Reading.{readOf}
 use Rattle.iosa.specs.Settle.{settleOf}
 use Rattle.iosa.specs.Report.{requestOf, answerLines}
-use Rattle.lines.proofs.LineLaws.{valued-none, valued-some}
 use Rattle.request.specs.Kept.{keep}
-use Rattle.request.proofs.LineLaws.{missing-asked, found-asked}
+use Rattle.request.proofs.LineLaws.{missing-asked, found-asked, kept-none, kept-some}
 use Rattle.tell.proofs.TellLaws.{put-as, told-text}
 use Rattle.steplines.proofs.Most.{refused-most}
 use Rattle.report.proofs.ReportLaws.{report-9, report-text}
@@ -35,7 +34,8 @@ returns c =
     let u = c .before .before .before .before .before .before in
     let bs = now (u .before .before .before .args .input) in
     let q = u .request-of .result in
-    let none = valued-none keep (requestOf bs) (sym (u .request-of .ensures .0) ∙ missing-asked bs q (not-true (q .found) (c .before .before .before .before .if1 .taken))) in
+    let none = kept-none keep (requestOf bs) (sym (u .request-of .ensures .0) ∙ missing-asked bs q (not-true (q .found)
+    (c .before .before .before .before .if1 .taken))) in
     put-as (sym (report-9 bs none)) (c .before .before .put-whole .ensures)
 
 returns-2 : tie.Need-returns-2
@@ -44,7 +44,7 @@ returns-2 c =
     let u = r .before .before .before .before .before in
     let bs = now (u .before .before .before .args .input) in
     let q = u .request-of .result in
-    let k = valued-some keep (requestOf bs) (sym (u .request-of .ensures .0) ∙ found-asked bs q (not-false (q .found) (r .before .before .before .if1 .left))) in
+    let k = kept-some keep (requestOf bs) (sym (u .request-of .ensures .0) ∙ found-asked bs q (not-false (q .found) (r .before .before .before .if1 .left))) in
     let f = c .before .before .before .before .before .checked .given .0 .0 in
     let p = refused-read (take (length bs - q .at) (drop (q .at) bs)) _ _ _ (r .read .ensures) (omega (arith, length-replicate {A = ℕ} imageWords 0)) f (c .before .before .before .before .before .checked .given .1) in
     put-as (told-text f (p .0) (p .2) ∙ sym (report-text bs (drop (q .at) bs) (k .0) (k .1) (p .0) (ap readOf (sym (part-from bs (q .at))) ∙ p .1))) (c .before .before .put-refused .ensures)
@@ -96,7 +96,7 @@ returns-3 c =
     let u = r .before .before .before .before .before in
     let bs = now (u .before .before .before .args .input) in
     let q = u .request-of .result in
-    let k = valued-some keep (requestOf bs) (sym (u .request-of .ensures .0) ∙ found-asked bs q (not-false (q .found) (r .before .before .before .if1 .left))) in
+    let k = kept-some keep (requestOf bs) (sym (u .request-of .ensures .0) ∙ found-asked bs q (not-false (q .found) (r .before .before .before .if1 .left))) in
     let p = fine-read (take (length bs - q .at) (drop (q .at) bs)) _ _ _ (r .read .ensures) (omega (arith, length-replicate {A = ℕ} imageWords 0)) (c .before .before .before .before .before .before .enum-told .given .1) in
     let whole = report-run bs (drop (q .at) bs) (k .0) (k .1) (p .0) (ap readOf (sym (part-from bs (q .at))) ∙ p .1) (record { state = q .state; budget = q .budget }) (k .2) in
     put-as (ap (λ m. answerLines m (partsOf (q .state)) (settleOf m (partsOf (q .state)) (q .budget) (q .budget))) (p .3) ∙ whole) (c .before .before .put-answer .ensures)

@@ -6,7 +6,7 @@ use Rattle.iosa.specs.Text.{tab}
 use Rattle.iosa.specs.Reading.{theByte, moreNumbers}
 use Rattle.fields.specs.Fields.{gotNumber}
 use Rattle.fields.specs.Resets.{valued}
-use Rattle.request.specs.Kept.{with, withAll}
+use Rattle.request.specs.Kept.{with, withAll, heard}
 use Rattle.request.proofs.LineLaws.{parts-missing, parts-all}
 use borrow.Author.Needs.{needs}
 use Rattle.request.proofs.parts_field.Statement.{statement}
@@ -15,8 +15,8 @@ use Rattle.request.proofs.parts_field.Tie as tie
 number-field-requires : tie.Need-number-field-requires
 number-field-requires c κs = search needs
 
-enum-known-n : tie.Need-enum-known-n
-enum-known-n c = search needs
+enum-known-d : tie.Need-enum-known-d
+enum-known-d c = search needs
 
 enum-told : tie.Need-enum-told
 enum-told c = search needs
@@ -39,18 +39,20 @@ more-parts-requires c κs = search needs
 returns-2 : tie.Need-returns-2
 returns-2 c =
     let t = now (c .before .before .before .before .before .before .before .before .args .text) in
-    let v = c .before .before .before .before .n .given .0 in
-    let cs = drop (v .1 .0 .at) t in
+    let v = c .before .before .before .before .d .given .0 in
+    let cs = drop (v .0 .at) t in
     c .more-parts .ensures
-    ∙ ap (λ x. valued (withAll x) (moreNumbers (length cs) cs)) (c .before .with-part .ensures ∙ ap (λ x. with x (v .0)) (c .before .before .no-state2 .ensures))
-    ∙ sym (parts-all (theByte tab (drop (c .before .before .before .before .before .before .before .before .args .c .at) t)) (v .0) cs (sym (c .before .before .before .before .before .before .number-field .ensures) ∙ ap (gotNumber t) (c .before .before .before .before .n .given .1)))
+    ∙ ap (λ x. heard (valued (withAll x) (moreNumbers (length cs) cs))) (c .before .with-part .ensures ∙ ap (λ x. with x (v .1 .0))
+    (c .before .before .no-state2 .ensures))
+    ∙ sym (ap heard (parts-all (theByte tab (drop (c .before .before .before .before .before .before .before .before .args .c .at) t)) (v .1 .0) cs (sym
+    (c .before .before .before .before .before .before .number-field .ensures) ∙ ap (gotNumber t) (c .before .before .before .before .d .given .1))))
 
 pub parts-field-spec : {M : Type 1} → statement M
 parts-field-spec =
     tie.close
     (tie.spec
     number-field-requires
-    enum-known-n
+    enum-known-d
     enum-told
     no-state-requires
     returns

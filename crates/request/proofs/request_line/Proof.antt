@@ -3,12 +3,12 @@ use mathlib.Core.Path.{_≡_, sym, _∙_, ap}
 use lib.ListN.{drop, length}
 use denote.Ref.{now}
 use borrow.Author.Tests.{not-true, not-false}
-use Rattle.iosa.specs.Reading.{got, field, numbers}
+use Rattle.iosa.specs.Reading.{field, numbers}
 use Rattle.fields.specs.Fields.{past, gotNumber}
 use Rattle.fields.specs.Resets.{valued}
-use Rattle.lines.proofs.LineLaws.{valued-none, valued-some}
-use Rattle.request.specs.Kept.{Kept, held, keep, asked}
-use Rattle.request.proofs.LineLaws.{found-parts, missing-parts, line-no-1, line-no-2, line-no-3, line-no-4, line-is}
+use Rattle.lines.proofs.LineLaws.{valued-stops, valued-is}
+use Rattle.request.specs.Kept.{Kept, held, keep, heard, there, asked}
+use Rattle.request.proofs.LineLaws.{heard-is, heard-not, found-parts, missing-parts, line-no-1, line-no-2, line-no-3, line-no-4, line-is}
 use borrow.Author.Needs.{needs}
 use Rattle.request.proofs.request_line.Statement.{statement}
 use Rattle.request.proofs.request_line.Tie as tie
@@ -31,7 +31,8 @@ not-asked-requires c κs = search needs
 returns : tie.Need-returns
 returns c =
     let t = now (c .before .before .before .before .before .before .args .text) in
-    ap (asked t) (c .not-asked .ensures) ∙ sym (ap (valued keep) (line-no-1 t (sym (c .before .before .before .word .ensures) ∙ ap (past t) (c .before .enum-told .given .1))))
+    ap (asked t) (c .not-asked .ensures) ∙ sym (ap (λ o. heard (valued keep o)) (line-no-1 t (sym (c .before .before .before .word .ensures) ∙ ap (past t)
+    (c .before .enum-told .given .1))))
 
 parts-field-requires : tie.Need-parts-field-requires
 parts-field-requires c κs = search needs
@@ -43,13 +44,15 @@ returns-2 : tie.Need-returns-2
 returns-2 c =
     let t = now (c .before .before .before .before .before .before .before .before .before .before .args .text) in
     let e0 = sym (c .before .before .before .before .before .before .before .word .ensures) ∙ ap (past t) (c .before .before .before .before .before .c1 .given .1) in
-    ap (asked t) (c .not-asked2 .ensures) ∙ sym (ap (valued keep) (line-no-2 t e0 (valued-none held (field numbers _) (sym (c .before .before .before .parts-field .ensures) ∙ missing-parts t (c .before .before .before .parts-field .result) (not-true (c .before .before .before .parts-field .result .found) (c .before .if1 .taken))))))
+    let p = c .before .before .before .parts-field in
+    let gone = heard-not _ (sym (p .ensures) ∙ missing-parts t (p .result) (not-true (p .result .found) (c .before .if1 .taken))) in
+    ap (asked t) (c .not-asked2 .ensures) ∙ sym (ap (λ o. heard (valued keep o)) (line-no-2 t e0 (valued-stops held (field numbers _) (gone .1))))
 
 number-field-requires : tie.Need-number-field-requires
 number-field-requires c κs = search needs
 
-enum-known-budget : tie.Need-enum-known-budget
-enum-known-budget c = search needs
+enum-known-c2 : tie.Need-enum-known-c2
+enum-known-c2 c = search needs
 
 enum-told-2 : tie.Need-enum-told-2
 enum-told-2 c = search needs
@@ -61,8 +64,11 @@ returns-3 : tie.Need-returns-3
 returns-3 c =
     let t = now (c .before .before .before .before .before .before .before .before .before .before .before .before .before .args .text) in
     let e0 = sym (c .before .before .before .before .before .before .before .before .before .before .word .ensures) ∙ ap (past t) (c .before .before .before .before .before .before .before .before .c1 .given .1) in
-    let r = valued-some held (field numbers _) (sym (c .before .before .before .before .before .before .parts-field .ensures) ∙ found-parts t (c .before .before .before .before .before .before .parts-field .result) (not-false (c .before .before .before .before .before .before .parts-field .result .found) (c .before .before .before .before .if1 .left))) in
-    ap (asked t) (c .not-asked3 .ensures) ∙ sym (ap (valued keep) (line-no-3 t e0 (r .1) (sym (c .before .before .before .number-field .ensures) ∙ ap (gotNumber t) (c .before .enum-told2 .given .1))))
+    let p = c .before .before .before .before .before .before .parts-field in
+    let r = valued-is held (field numbers _) (heard-is _ _ _ (sym (p .ensures) ∙ found-parts t (p .result) (not-false (p .result .found)
+    (c .before .before .before .before .if1 .left)))) in
+    ap (asked t) (c .not-asked3 .ensures) ∙ sym (ap (λ o. heard (valued keep o)) (line-no-3 t e0 (r .1) (sym (c .before .before .before .number-field .ensures)
+    ∙ ap (gotNumber t) (c .before .enum-told2 .given .1))))
 
 byte-requires : tie.Need-byte-requires
 byte-requires c κs = search needs
@@ -80,18 +86,25 @@ returns-4 : tie.Need-returns-4
 returns-4 c =
     let t = now (c .before .before .before .before .before .before .before .before .before .before .before .before .before .before .before .before .before .args .text) in
     let e0 = sym (c .before .before .before .before .before .before .before .before .before .before .before .before .before .before .word .ensures) ∙ ap (past t) (c .before .before .before .before .before .before .before .before .before .before .before .before .c1 .given .1) in
-    let r = valued-some held (field numbers _) (sym (c .before .before .before .before .before .before .before .before .before .before .parts-field .ensures) ∙ found-parts t (c .before .before .before .before .before .before .before .before .before .before .parts-field .result) (not-false (c .before .before .before .before .before .before .before .before .before .before .parts-field .result .found) (c .before .before .before .before .before .before .before .before .if1 .left))) in
-    let e2 = sym (c .before .before .before .before .before .before .before .number-field .ensures) ∙ ap (gotNumber t) (c .before .before .before .before .before .budget .given .1) in
-    ap (asked t) (c .not-asked4 .ensures) ∙ sym (ap (valued keep) (line-no-4 t e0 (r .1) e2 (sym (c .before .before .before .byte .ensures) ∙ ap (past t) (c .before .enum-told3 .given .1))))
+    let p = c .before .before .before .before .before .before .before .before .before .before .parts-field in
+    let r = valued-is held (field numbers _) (heard-is _ _ _ (sym (p .ensures) ∙ found-parts t (p .result) (not-false (p .result .found)
+    (c .before .before .before .before .before .before .before .before .if1 .left)))) in
+    let e2 = sym (c .before .before .before .before .before .before .before .number-field .ensures) ∙ ap (gotNumber t) (c .before .before .before .before .before .c2 .given .1) in
+    ap (asked t) (c .not-asked4 .ensures) ∙ sym (ap (λ o. heard (valued keep o)) (line-no-4 t e0 (r .1) e2 (sym (c .before .before .before .byte .ensures) ∙ ap
+    (past t) (c .before .enum-told3 .given .1))))
 
 returns-5 : tie.Need-returns-5
 returns-5 c =
     let t = now (c .before .before .before .before .before .before .before .before .before .before .before .before .before .before .before .before .before .before .args .text) in
     let e0 = sym (c .before .before .before .before .before .before .before .before .before .before .before .before .before .before .before .word .ensures) ∙ ap (past t) (c .before .before .before .before .before .before .before .before .before .before .before .before .before .c1 .given .1) in
-    let r = valued-some held (field numbers _) (sym (c .before .before .before .before .before .before .before .before .before .before .before .parts-field .ensures) ∙ found-parts t (c .before .before .before .before .before .before .before .before .before .before .before .parts-field .result) (not-false (c .before .before .before .before .before .before .before .before .before .before .before .parts-field .result .found) (c .before .before .before .before .before .before .before .before .before .if1 .left))) in
-    let e2 = sym (c .before .before .before .before .before .before .before .before .number-field .ensures) ∙ ap (gotNumber t) (c .before .before .before .before .before .before .budget .given .1) in
+    let p = c .before .before .before .before .before .before .before .before .before .before .before .parts-field in
+    let r = valued-is held (field numbers _) (heard-is _ _ _ (sym (p .ensures) ∙ found-parts t (p .result) (not-false (p .result .found)
+    (c .before .before .before .before .before .before .before .before .before .if1 .left)))) in
+    let e2 = sym (c .before .before .before .before .before .before .before .before .number-field .ensures) ∙ ap (gotNumber t) (c .before .before .before .before .before .before .c2 .given .1) in
     let e3 = sym (c .before .before .before .before .byte .ensures) ∙ ap (past t) (c .before .before .c3 .given .1) in
-    sym (ap (valued keep) (line-is t e0 (r .1) e2 e3) ∙ ap (λ x. got {A = Kept} (record { state = x; budget = c .before .before .before .before .before .before .budget .given .0 .0 }) (drop (c .before .before .c3 .given .0 .0 .at) t)) (r .2))
+    sym (ap (λ o. heard (valued keep o)) (line-is t e0 (r .1) e2 e3) ∙ ap (λ x. there {A = Kept}
+    (record { state = x; budget = c .before .before .before .before .before .before .c2 .given .0 .1 .0 }) (drop
+    (c .before .before .c3 .given .0 .0 .at) t)) (r .2))
 
 pub request-line-spec : {M : Type 1} → statement M
 request-line-spec =
@@ -107,7 +120,7 @@ request-line-spec =
     not-asked-requires-2
     returns-2
     number-field-requires
-    enum-known-budget
+    enum-known-c2
     enum-told-2
     not-asked-requires-3
     returns-3

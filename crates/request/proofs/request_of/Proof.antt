@@ -4,12 +4,11 @@ use lib.ListN.{drop, length}
 use denote.Ref.{now}
 use native.Mathlib.Omega.{arith}
 use borrow.Author.Tests.{not-true, not-false}
-use Rattle.iosa.specs.Reading.{got}
 use Rattle.iosa.specs.Report.{requestLine}
 use Rattle.fields.specs.Resets.{valued}
-use Rattle.lines.proofs.LineLaws.{valued-none, valued-some}
-use Rattle.request.specs.Kept.{Kept, keep, asked, lessOf}
-use Rattle.request.proofs.LineLaws.{found-asked, missing-asked, no-line, too-long, short-enough, less-most, less-drop}
+use Rattle.lines.proofs.LineLaws.{valued-stops, valued-is}
+use Rattle.request.specs.Kept.{Kept, keep, there, kept, asked, lessOf}
+use Rattle.request.proofs.LineLaws.{heard-is, heard-not, found-asked, missing-asked, no-line, too-long, short-enough, less-most, less-drop}
 use borrow.Author.Needs.{needs}
 use Rattle.request.proofs.request_of.Statement.{statement}
 use Rattle.request.proofs.request_of.Tie as tie
@@ -23,8 +22,10 @@ not-asked-requires c κs = search needs
 returns : tie.Need-returns
 returns c =
     let t = now (c .before .before .before .before .before .args .text) in
-    let e = valued-none keep (requestLine t) (sym (c .before .before .before .request-line .ensures) ∙ missing-asked t (c .before .before .before .request-line .result) (not-true (c .before .before .before .request-line .result .found) (c .before .if1 .taken))) in
-    (ap (asked t) (c .not-asked .ensures) ∙ sym (ap (valued keep) (no-line t e)), rw (c .not-asked .ensures) (omega arith))
+    let p = c .before .before .before .request-line in
+    let gone = heard-not (valued keep (requestLine t)) (sym (p .ensures) ∙ missing-asked t (p .result) (not-true (p .result .found) (c .before .if1 .taken))) in
+    let e = valued-stops keep (requestLine t) (gone .1) in
+    (ap (asked t) (c .not-asked .ensures) ∙ sym (ap (kept keep) (no-line t (gone .0) e)), rw (c .not-asked .ensures) (omega arith))
 
 less-of-requires : tie.Need-less-of-requires
 less-of-requires c κs = search needs
@@ -35,17 +36,24 @@ not-asked-requires-2 c κs = search needs
 returns-2 : tie.Need-returns-2
 returns-2 c =
     let t = now (c .before .before .before .before .before .before .before .args .text) in
-    let r = valued-some keep (requestLine t) (sym (c .before .before .before .before .before .request-line .ensures) ∙ found-asked t (c .before .before .before .before .before .request-line .result) (not-false (c .before .before .before .before .before .request-line .result .found) (c .before .before .before .if1 .left))) in
-    (ap (asked t) (c .not-asked2 .ensures) ∙ sym (ap (valued keep) (too-long t (c .before .before .before .before .before .request-line .result .at) (r .0) (r .1) (omega (arith, c .before .if2 .taken, c .before .before .less-of .ensures)))), rw (c .not-asked2 .ensures) (omega arith))
+    let p = c .before .before .before .before .before .request-line in
+    let r = valued-is keep (requestLine t) (heard-is (valued keep (requestLine t)) _ _ (sym (p .ensures) ∙ found-asked t (p .result) (not-false
+    (p .result .found) (c .before .before .before .if1 .left)))) in (
+      ap (asked t) (c .not-asked2 .ensures) ∙ sym (ap (kept keep) (too-long t (c .before .before .before .before .before .request-line .result .at) (r .0)
+          (r .1) (omega (arith, c .before .if2 .taken, c .before .before .less-of .ensures)))),
+      rw (c .not-asked2 .ensures) (omega arith),
+    )
 
 returns-3 : tie.Need-returns-3
 returns-3 c =
     let t = now (c .before .before .before .before .before .before .before .args .text) in
-    let r = valued-some keep (requestLine t) (sym (c .before .before .before .before .before .request-line .ensures) ∙ found-asked t (c .before .before .before .before .before .request-line .result) (not-false (c .before .before .before .before .before .request-line .result .found) (c .before .before .before .if1 .left))) in
+    let p = c .before .before .before .before .before .request-line in
+    let r = valued-is keep (requestLine t) (heard-is (valued keep (requestLine t)) _ _ (sym (p .ensures) ∙ found-asked t (p .result) (not-false
+    (p .result .found) (c .before .before .before .if1 .left)))) in
     let e = short-enough t (c .before .before .before .before .before .request-line .result .at) (r .0) (r .1) (omega (arith, c .before .if2 .left, c .before .before .less-of .ensures)) in
-    let at = c .before .before .before .before .before .request-line .result .at in (
-      sym (ap (valued keep) e ∙ ap (λ k. got k (drop at t)) (r .2)
-          ∙ ap (λ l. got {A = Kept} (record { state = c .before .before .before .before .before .request-line .result .state; budget = c .before .before .before .before .before .request-line .result .budget }) l) (sym (less-drop t at) ∙ ap (λ k. drop k t) (sym (c .before .before .less-of .ensures)))),
+    let at = p .result .at in (
+      sym (ap (kept keep) e ∙ ap (λ k. there k (drop at t)) (r .2)
+          ∙ ap (λ l. there {A = Kept} (record { state = p .result .state; budget = p .result .budget }) l) (sym (less-drop t at) ∙ ap (λ k. drop k t) (sym (c .before .before .less-of .ensures)))),
       rw (c .before .before .less-of .ensures) (less-most at (length t)),
     )
 

@@ -81,6 +81,14 @@ enum-known-p-10 c = search needs
 put-three-requires-3 : tie.Need-put-three-requires-3
 put-three-requires-3 c κs = room-as (now (c .before .before .before .before .before .args .out)) (c .before .before .before .before .before .args .at) (ap placed (c .before .before .p10 .given .1)) (c .before .before .before .before .before .pre)
 
+enum-known-p-11 : tie.Need-enum-known-p-11
+enum-known-p-11 c = search needs
+
+put-two-requires : tie.Need-put-two-requires
+put-two-requires c κs =
+    room-as (now (c .before .before .before .before .before .args .out)) (c .before .before .before .before .before .args .at) (ap placed
+    (c .before .before .p11 .given .1)) (c .before .before .before .before .before .pre)
+
 same-length : tie.Need-same-length
 same-length c = search needs
 
@@ -147,6 +155,12 @@ same-length-11 c = search needs
 returns-11 : tie.Need-returns-11
 returns-11 c = put-as (sym (ap placed (c .before .before .before .before .before .p10 .given .1))) (c .before .before .put-three3 .ensures)
 
+same-length-12 : tie.Need-same-length-12
+same-length-12 c = search needs
+
+returns-12 : tie.Need-returns-12
+returns-12 c = put-as (sym (ap placed (c .before .before .before .before .before .p11 .given .1))) (c .before .before .put-two .ensures)
+
 pub put-place-spec : {M : Type 1} → statement M
 put-place-spec =
     tie.close
@@ -173,6 +187,8 @@ put-place-spec =
     put-three-requires-2
     enum-known-p-10
     put-three-requires-3
+    enum-known-p-11
+    put-two-requires
     same-length
     returns
     same-length-2
@@ -194,4 +210,6 @@ put-place-spec =
     same-length-10
     returns-10
     same-length-11
-    returns-11)
+    returns-11
+    same-length-12
+    returns-12)

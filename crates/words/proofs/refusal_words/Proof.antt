@@ -80,6 +80,12 @@ enum-known-place-10 c = search needs
 told-requires-11 : tie.Need-told-requires-11
 told-requires-11 c κs = search needs
 
+enum-known-place-11 : tie.Need-enum-known-place-11
+enum-known-place-11 c = search needs
+
+told-requires-12 : tie.Need-told-requires-12
+told-requires-12 c κs = search needs
+
 returns : tie.Need-returns
 unfolding toldWords
 returns c = known (c .before .before .before .args .r) (c .told .ensures) (c .before .enum-told .given .1)
@@ -124,6 +130,10 @@ returns-11 : tie.Need-returns-11
 unfolding toldWords
 returns-11 c = known (c .before .before .before .before .args .r) (c .told11 .ensures) (c .before .before .place10 .given .1)
 
+returns-12 : tie.Need-returns-12
+unfolding toldWords
+returns-12 c = known (c .before .before .before .before .args .r) (c .told12 .ensures) (c .before .before .place11 .given .1)
+
 pub refusal-words-spec : {M : Type 1} → statement M
 refusal-words-spec =
     tie.close
@@ -150,6 +160,8 @@ refusal-words-spec =
     told-requires-10
     enum-known-place-10
     told-requires-11
+    enum-known-place-11
+    told-requires-12
     returns
     returns-2
     returns-3
@@ -160,4 +172,5 @@ refusal-words-spec =
     returns-8
     returns-9
     returns-10
-    returns-11)
+    returns-11
+    returns-12)
