@@ -1,6 +1,7 @@
 #include "random_inputs.hpp"
 
 #include "aims.hpp"
+#include "alike.hpp"
 #include "damage.hpp"
 #include "drawing.hpp"
 #include "table.hpp"
@@ -200,4 +201,5 @@ void try_input(std::uint64_t seed, std::uint64_t index) {
     const Aim& aim = all_aims()[(aims_for_a_model * index + n) % all_aims().size()];
     try_call(*aim.call, aimed(random, aim));
   }
+  try_alike(random, drawn, where);
 }

@@ -60,6 +60,8 @@ Comparison compare(Input, const Call& call, const Loan& loan, const std::string&
   return made;
 }
 
+void hold(const std::string&, bool, const std::string&) {}
+
 int main(int count, char** words) {
   const std::uint64_t models = count > 1 ? std::strtoull(words[1], nullptr, 10) : 1000;
   for (std::uint64_t index = 0; index < models; ++index) try_input(1, index);

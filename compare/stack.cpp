@@ -72,6 +72,8 @@ Comparison compare(Input, const Call& call, const Loan& loan, const std::string&
 void expect(const std::string& why, const Call& call, const Loan& loan, const Said&) { compare(Input::stated, call, loan, why); }
 void expect(const std::string& why, const Call& call, const Loan& loan, const Said& expected, const Loan&) { expect(why, call, loan, expected); }
 
+void hold(const std::string&, bool, const std::string&) {}
+
 int main(int count, char** words) {
   if (count != 3) {
     std::fprintf(stderr, "usage: stack MODELS HEADER\n");

@@ -19,6 +19,16 @@ struct Counts {
 };
 
 std::map<const Call*, Counts> counts;
+
+// What must hold of several answers together: how often it was asked, and how often it did not.
+struct Held {
+  std::uint64_t asked = 0;
+  std::uint64_t missed = 0;
+};
+
+// Merging must not matter (compare/alike.cpp).
+std::map<std::string, Held> held = {{"10 to 17 passed again", {}},           {"18 passed again", {}},      {"settle alike, merged or not", {}},
+                                    {"settle_list alike, merged or not", {}}, {"23 at the same index", {}}, {"three merged either way", {}}};
 std::uint64_t compared = 0;
 
 unsigned long long plain(std::uint64_t number) { return number; }
@@ -71,6 +81,12 @@ void expect(const std::string& why, const Call& call, const Loan& loan, const Sa
   expect(why, call, loan, expected, loan);
 }
 
+void hold(const std::string& what, bool good, const std::string& where) {
+  Held& so = held[what];
+  ++so.asked;
+  if (!good && ++so.missed <= shown) std::printf("not so: %s, %s\n", what.c_str(), where.c_str());
+}
+
 int conclude(bool all) {
   std::uint64_t passed = 0, failed = 0;
   for (const Call* call : calls::all) {
@@ -90,6 +106,12 @@ int conclude(bool all) {
     ++(good ? passed : failed);
     passed += count.stated - count.missed;
     failed += count.missed;
+  }
+  for (const auto& [what, so] : held) {
+    std::printf("%s: %llu times\n", what.c_str(), plain(so.asked));
+    const bool good = so.missed == 0 && (so.asked > 0 || !all);
+    if (!good) std::printf("%s: %s\n", what.c_str(), so.missed == 0 ? "no generated input met it" : (std::to_string(so.missed) + " times not so").c_str());
+    ++(good ? passed : failed);
   }
   std::printf("%llu passed, %llu failed\n", plain(passed), plain(failed));
   return failed == 0 ? 0 : 1;

@@ -18,6 +18,10 @@ void expect(const std::string& why, const Call& call, const Loan& loan, const Sa
 // The same where no lent byte changes, as with every refusal.
 void expect(const std::string& why, const Call& call, const Loan& loan, const Said& expected);
 
-// Counts by call and outcome, a line for each call that differed or, where `all`, for each outcome that no generated input met; then
+// What must hold of several answers together, by name: counted, and told in full the first few times where it does not.
+void hold(const std::string& what, bool good, const std::string& where);
+
+// Counts by call and outcome and by what must hold, a line for each call that differed or, where `all`, for each outcome or each of those that no
+// generated input met; then
 // 'N passed, M failed'. Answers the exit status.
 int conclude(bool all);

@@ -1,4 +1,4 @@
-// Merging: indices at and past the last component, products at and past each limit, and the order of 24, 25, 26.
+// Merging: indices at and past the last component, products at and past each limit, and the order of 24, 25, 26; M merged or not.
 #include "generate_limits.hpp"
 #include "merging.hpp"
 #include "stated.hpp"
@@ -111,6 +111,47 @@ void bytes() {
   }
 }
 
+// Merging must not matter (02, 11/13): M from 1,0, and merged at 0 from 3, by rule and by list; the pair (1,1) is not got to.
+void runs() {
+  const Table merged = image(tabbed("comp 6 0\nact 0 out\nact 1 uout\nact 2 uout\nclk 0 1\nrow 0 0 0 - 3\nrow 1 0 0 - 4\nrow 1 - 2 - 2\nrow 2 0 0 - 5\n"
+                                    "row 3 - 1 0 1\nrow 4 - 1 0 1\nrow 4 - 2 - 5\nrow 5 - 1 0 2\n"));
+  expect_merged("M", image(m), 0, done(), merged);
+  const auto settle = [](const Table& table, const Bytes& state, const Said& expected, const Bytes& trace) {
+    Loan loan = lent_state(table, state);
+    loan.number = 100;
+    loan.out = Bytes(100, 0x77);
+    Loan left = loan;
+    std::copy(trace.begin(), trace.end(), left.out.begin());
+    expect("M, merged or not", calls::settle, loan, expected, left);
+  };
+  settle(image(m), {1, 0}, settled(FLOODNEEDLE_STABLE, 2, 1, {0, 2}), {1, 2});
+  settle(merged, {3}, settled(FLOODNEEDLE_STABLE, 2, 1, {2}), {1, 2});
+  settle(image(m), {1, 1}, settled(FLOODNEEDLE_STABLE, 2, 1, {0, 2}), {1, 2});
+  settle(merged, {4}, refused(19, {0}), {});
+  const auto settle_list = [](const Table& table, const Bytes& state, const Bytes& list, const Said& expected) {
+    Loan loan = lent_state(table, state);
+    loan.bytes = list;
+    expect("M by list, merged or not", calls::settle_list, loan, expected);
+  };
+  settle_list(image(m), {1, 0}, {1, 2}, settled(FLOODNEEDLE_STABLE, 2, 1, {0, 2}));
+  settle_list(merged, {3}, {1, 2}, settled(FLOODNEEDLE_STABLE, 2, 1, {2}));
+  settle_list(image(m), {1, 0}, {1, 1}, refused(23, {1}));
+  settle_list(merged, {3}, {1, 1}, refused(23, {1}));
+}
+
+// 26 may refuse one way alone: the last two have 2,048 rows together, and the first has their actions as outputs that it never takes.
+void one_way_alone() {
+  Text silent = "comp 2 0\n";
+  for (unsigned a = 0; a < 32; ++a) (silent += "act " + std::to_string(a)) += " out\n";
+  const Text two = hearer(8, 0, 16) + hearer(8, 16, 16);
+  Text first = "comp 16 0\n", all = "comp 128 0\n";
+  for (unsigned a = 0; a < 32; ++a) (first += "act " + std::to_string(a)) += " out\n";
+  for (unsigned a = 0; a < 32; ++a) (all += "act " + std::to_string(a)) += " out\n";
+  expect_refused("26: the last two", image(tabbed(silent + two)), 1, 26);
+  expect_merged("the first two", image(tabbed(silent + two)), 0, done(), image(tabbed(first + hearer(8, 16, 16))));
+  expect_merged("and the third", image(tabbed(first + hearer(8, 16, 16))), 0, done(), image(tabbed(all)));
+}
+
 }  // namespace
 
 void stated_merges() {
@@ -118,4 +159,6 @@ void stated_merges() {
   states();
   rows();
   bytes();
+  runs();
+  one_way_alone();
 }

@@ -6,11 +6,12 @@
 
 namespace {
 
-// Every loan goes into the digest of what was lent.
+// Every loan goes into the digest of what was lent; of a long one about a thousand places.
 template <class Loan>
 void note(const Loan& loan) {
   std::uint64_t sum = loan.size();
-  for (const auto& element : loan) sum = (sum ^ static_cast<std::uint64_t>(element)) * 0x100000001b3u + 1;
+  for (std::size_t at = 0; at < loan.size(); at += 1 + loan.size() / 1024)
+    sum = (sum ^ static_cast<std::uint64_t>(loan[at])) * 0x100000001b3u + 1;
   count_lent(sum);
 }
 

@@ -47,6 +47,27 @@ pub spread-same {ℓ} : {A : Type ℓ} (f g : ℕ → List A) (k n : ℕ) → ((
 spread-same f g k zero h = refl
 spread-same f g k (suc n) h = ap₂ _++_ (h k (omega arith) (omega arith)) (spread-same f g (suc k) n (λ j p q. h j (omega arith) (omega arith)))
 
+-- ---- one walk over the numbers s * n + t is two nested ones
+module _ {A : Type 0} (f : ℕ → List A) where
+  spread-shift : (d k n : ℕ) → spread f (d + k) n ≡ spread (λ j. f (d + j)) k n
+  spread-shift d k zero = refl
+  spread-shift d k (suc n) =
+      let e : suc (d + k) ≡ d + suc k = omega arith in
+      ap {B = List A} (λ l. f (d + k) ++ l) (ap (λ x. spread f x n) e ∙ spread-shift d (suc k) n)
+
+  pairs-from : (n s m : ℕ) → spread f (s * n) (m * n) ≡ spread (λ s. spread (λ t. f (s * n + t)) 0 n) s m
+  pairs-from n s zero = let e : 0 * n ≡ 0 = omega arith in rw e
+  pairs-from n s (suc m) =
+      let e : suc m * n ≡ n + m * n = omega arith in
+      let k : s * n + n ≡ suc s * n = omega arith in
+      let z : s * n ≡ s * n + 0 = omega arith in
+      ap (spread f (s * n)) e
+      ∙ spread-append f (s * n) n (m * n)
+      ∙ ap₂ _++_ (ap (λ x. spread f x n) z ∙ spread-shift (s * n) 0 n) (ap (λ x. spread f x (m * n)) k ∙ pairs-from n (suc s) m)
+
+  pub spread-pairs : (m n : ℕ) → spread f 0 (m * n) ≡ spread (λ s. spread (λ t. f (s * n + t)) 0 n) 0 m
+  spread-pairs m n = let e : 0 ≡ 0 * n = omega arith in ap (λ k. spread f k (m * n)) e ∙ pairs-from n 0 m
+
 -- ---- sums over a range
 module _ (f g : ℕ → ℕ) where
   pub sum-add : (k n : ℕ) → sum (tab (λ j. f j + g j) k n) ≡ sum (tab f k n) + sum (tab g k n)
