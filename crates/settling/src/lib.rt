@@ -111,6 +111,27 @@ pub fn by_rule(t: &[u64], x: State, budget: usize, trace: &mut [u8]) -> Settled
     ended(t, State { count: n, parts }, steps, resets)
 }
 
+// The same without a trace: a round of a simulation keeps none.
+pub fn untraced(t: &[u64], x: State, budget: usize) -> Settled
+    requires { ⌜ Ready (now t) x ⌝ }
+    ensures { λ r. ⌜ SettleGives (modelOf (now (t .entry))) budget x r ⌝ }
+{
+    let n = x.count;
+    let mut parts = x.parts;
+    let mut resets = 0u64;
+    let mut steps = 0usize;
+    while steps < budget {
+        let a = moves::lowest_of(t, &parts, n);
+        if answer::Model::ACTIONS as u64 <= a {
+            return ended(t, State { count: n, parts }, steps, resets);
+        }
+        let more = moves::move_in(t, &mut parts, n, a);
+        resets = sets::union(resets, more);
+        steps += 1;
+    }
+    ended(t, State { count: n, parts }, steps, resets)
+}
+
 // Settling by a list: the listed actions in order.
 pub fn by_list(t: &[u64], x: State, list: &[u8]) -> Settled
     requires { ⌜ Ready (now t) x ⌝ }
