@@ -3,7 +3,7 @@ use mathlib.Core.Path.{_≡_}
 use mathlib.Core.Option.{Option, none, some}
 use mathlib.Core.Bool.{not, cond}
 use mathlib.Core.List.{List, [], _∷_}
-use Prim.Native.Nat.{ℕ, suc}
+use Prim.Native.Nat.{ℕ}
 use lib.ListN.{length}
 use lib.Dec.{eqb}
 use lib.IntN.{ℤ}
@@ -17,7 +17,7 @@ use Rattle.iosa.specs.Model.{Model, declared}
 use Rattle.iosa.specs.Checks.{confluentOf}
 use Rattle.iosa.specs.Settle.{budgetFault}
 use Rattle.iosa.specs.TimedExactly.{valueOf}
-use Rattle.simulation.specs.Simulate.{Supply, Simulation, andThen, simulateOf}
+use Rattle.simulation.specs.Simulate.{Supply, Simulation, eachFrom, andThen, simulateOf}
 use Rattle.simulation.specs.Samples.{samplesOf, recorded}
 
 -- "It answers later rounds done and state and writes the declared clocks to 64 lent values"
@@ -26,13 +26,13 @@ pub record Simulating : Type 0 where
   pub state : List ℕ
   pub values : List ℤ
 
--- the values vs of the clocks in d put over lent ones, from clock k on; the others stay as they were
-unfoldable pub putFrom : ℕ → List ℤ → ℕ → List ℤ → List ℤ
-putFrom d vs k [] = []
-putFrom d vs k (z ∷ zs) = cond (has d k) (valueOf vs k) z ∷ putFrom d vs (suc k) zs
+-- the values vs of the clocks in d put over lent ones: at clock x, where z is lent
+unfoldable pub putAt : ℕ → List ℤ → ℕ → ℤ → ℤ
+putAt d vs x z = cond (has d x) (valueOf vs x) z
 
+-- "writes the declared clocks"; undeclared places stay as they were
 unfoldable pub putOut : Model → List ℤ → Simulation → Simulating
-putOut m was d = record { rounds = d .rounds; state = d .last .state; values = putFrom (declared m) (d .last .values) 0 was }
+putOut m was d = record { rounds = d .rounds; state = d .last .state; values = eachFrom (putAt (declared m) (d .last .values)) 0 was }
 
 -- 28 "if not 64 values", place 0
 unfoldable pub lentFault : List ℤ → Option Told

@@ -26,6 +26,11 @@ pub record Round : Type 0 where
   pub values : List ℤ
   pub taken : List ℕ
 
+-- what f makes of each place of a list, its places counted from k on
+unfoldable pub eachFrom : {A : Type 0} → (ℕ → A → A) → ℕ → List A → List A
+eachFrom f k [] = []
+eachFrom f k (z ∷ zs) = f k z ∷ eachFrom f (suc k) zs
+
 abbrev pub takenBy : List ℕ → ℕ → ℕ
 takenBy ts x = getD ts x 0
 
@@ -38,17 +43,15 @@ abbrev pub sampled : Option ℕ → ℤ → ℤ
 sampled none z = z
 sampled (some n) z = pos n
 
--- the values from clock k on, and how many samples each has taken then
-unfoldable pub fedFrom : Supply → ℕ → List ℕ → ℕ → List ℤ → List ℤ
-fedFrom p w ts k [] = []
-fedFrom p w ts k (z ∷ zs) = cond (has w k) (sampled (p .sample k (takenBy ts k)) z) z ∷ fedFrom p w ts (suc k) zs
+-- the value of clock x then, where z was its value, and how many samples it has taken, where these were t
+unfoldable pub fedAt : Supply → ℕ → List ℕ → ℕ → ℤ → ℤ
+fedAt p w ts x z = cond (has w x) (sampled (p .sample x (takenBy ts x)) z) z
 
-unfoldable pub countedFrom : ℕ → ℕ → List ℕ → List ℕ
-countedFrom w k [] = []
-countedFrom w k (t ∷ ts) = cond (has w k) (suc t) t ∷ countedFrom w (suc k) ts
+unfoldable pub countedAt : ℕ → ℕ → ℕ → ℕ
+countedAt w x t = cond (has w x) (suc t) t
 
 abbrev pub fed : Supply → ℕ → List ℕ → List ℤ → List ℕ → Round
-fed p w s vs ts = record { state = s; values = fedFrom p w ts 0 vs; taken = countedFrom w 0 ts }
+fed p w s vs ts = record { state = s; values = eachFrom (fedAt p w ts) 0 vs; taken = eachFrom (countedAt w) 0 ts }
 
 -- 41 "a list ran out (lowest such clock)", or the round's end in state s
 unfoldable pub endOf : Supply → ℕ → List ℕ → List ℤ → List ℕ → Answer Round
