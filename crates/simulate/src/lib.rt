@@ -1,0 +1,1 @@
+// The call `simulate`: a simulation over recorded samples.

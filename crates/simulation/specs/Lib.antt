@@ -1,0 +1,4 @@
+pub mod Simulate
+pub mod Samples
+pub mod Free
+pub mod Call
