@@ -1,0 +1,3 @@
+pub mod InPlace
+pub mod FeedLaws
+pub mod Filling
