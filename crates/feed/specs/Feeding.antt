@@ -43,3 +43,8 @@ pub record FedOne (t : List ℕ) (w x at : ℕ) (z : ℤ) (r : Taken) : Type 0 w
 pub record Moved (t : List ℕ) (w : ℕ) (f g : Feed) : Type 0 where
   pub count : length (g .at) ≡ maxClocks
   pub each : (x : ℕ) → x < maxClocks → MovedOne t w x (getD (f .at) x 0) (getD (g .at) x 0)
+
+-- the cursors stand at what is left of the lists, after the samples taken
+pub record Supplies (t : List ℕ) (ls : List (List ℕ)) (ts : List ℕ) (f : Feed) : Type 0 where
+  pub counted : length ts ≡ maxClocks
+  pub each : (x : ℕ) → x < maxClocks → Left (drop (getD (f .at) x 0) t) (drop (takenBy ts x) (getD ls x []))
