@@ -8,6 +8,8 @@ use lib.IntN.{ℤ}
 use Rattle.answer.specs.Limits.{noState}
 use Rattle.answer.specs.Told.{Told, told, Answer, answered, refused, asRefused, fired, quiet, saysEnded}
 use Rattle.answer.specs.State.{partsOf}
+use Rattle.answer.specs.declared.Refusal.{Refusal}
+use Rattle.answer.specs.declared.Ended.the-variants as OfEnded
 use Rattle.answer.specs.declared.State.{State}
 use Rattle.answer.specs.declared.Simulated.{Simulated}
 use Rattle.iosa.specs.Model.{Model, declared}
@@ -18,7 +20,7 @@ use Rattle.layout.specs.Image.{Image, modelOf}
 use Rattle.words.specs.Bytes.{stateOf}
 use Rattle.ticks.specs.Ticks.{Ticking}
 use Rattle.settling.specs.Gives.{Ready}
-use Rattle.simulation.specs.Simulate.{Supply, Round, endOf, closeOf, andThen, Simulation, simulateOf}
+use Rattle.simulation.specs.Simulate.{Supply, Round, endOf, closeOf, andThen, Simulation, roundZero, roundsFrom, simulateOf}
 use Rattle.simulation.specs.Samples.{recorded}
 use Rattle.samples.specs.declared.Feed.{Feed}
 use Rattle.samples.specs.Text.{Feeds}
@@ -100,6 +102,20 @@ pub record RunRefused (f : Told) (r : Simulated) : Type 0 where
 abbrev pub Runs : Answer Simulation → Simulated → List ℤ → Type 0
 Runs (answered d) r vs = RunGives d r vs
 Runs (refused f) r vs = RunRefused f r
+
+-- a refusal, beside which the state is zero
+abbrev pub refusedWith : Refusal → Simulated
+refusedWith f = record { ended = OfEnded.Refused f; state = noState }
+
+-- of `later_rounds`: n of them after round 0, which ended in this state with these values
+abbrev pub RoundsCall : List ℕ → List ℕ → ℕ → Stand → List ℤ → Simulated → List ℤ → Type 0
+RoundsCall t text n s was r vs = (ls : List (List ℕ)) (ts : List ℕ) → Supplies text ls ts (s .feed)
+    → Runs (roundsFrom (modelOf t) (recorded ls) n 0 (record { state = partsOf (s .state); values = was; taken = ts })) r vs
+
+-- of `first`
+pub record FirstCall (t text : List ℕ) (f : Feed) (r : Closed) (vs : List ℤ) : Type 0 where
+  pub closes : (ls : List (List ℕ)) → Feeds text ls f → Closes (roundZero (modelOf t) (recorded ls)) text ls r vs
+  pub posed : Posed t (r .state) vs
 
 -- of `run`: n later rounds, over the lists at whose first samples the cursors stand
 abbrev pub RunCall : List ℕ → List ℕ → ℕ → Feed → Simulated → List ℤ → Type 0

@@ -13,7 +13,7 @@ ghost use Prim.Native.Nat.{ℕ, _≤_, _<_};
 ghost use lib.ListN.{length};
 ghost use Rattle.answer.specs.Limits.{maxClocks, maxBudget};
 ghost use Rattle.simulation.specs.Simulate.{noValues};
-ghost use Rattle.rounds.specs.Rounds.{Posed, EndCall, CloseCall, LaterCall, RunCall, Runnable};
+ghost use Rattle.rounds.specs.Rounds.{Posed, EndCall, CloseCall, LaterCall, refusedWith, RoundsCall, FirstCall, Runnable, RunCall};
 
 // Where a round stands: the state, the cursors, and the clocks set or reset in it so far.
 pub struct Stand {
@@ -137,5 +137,105 @@ fn later(t: &[u64], text: &[u8], k: usize, s: Stand, values: &mut [i64]) -> Clos
             state: begun,
             feed: f,
         },
+    }
+}
+
+// A refusal, with no state beside it.
+fn refused(f: Refusal) -> Simulated
+    ensures { λ r. ⌜ r ≡ refusedWith f ⌝ }
+{
+    Simulated {
+        ended: Ended::Refused(f),
+        state: answer::no_state(),
+    }
+}
+
+// So many later rounds, after one that ended so.
+fn later_rounds(t: &[u64], text: &[u8], rounds: usize, s: Stand, values: &mut [i64]) -> Simulated
+    requires { ⌜ Posed (now t) (s .state) (now values) ⌝ }
+    ensures { λ r. ⌜ RoundsCall (now (t .entry)) (now (text .entry)) rounds s (now (values .entry)) r (now (values .exit)) ⌝ }
+{
+    let mut at = s;
+    let mut k = 0usize;
+    while k < rounds {
+        let here = at.state;
+        let c = later(t, text, k + 1, at, values);
+        let state = c.state;
+        let feed = c.feed;
+        let closing = c.closing;
+        match closing {
+            Closing::Done => {
+                let next = Stand {
+                    state,
+                    feed,
+                    resets: 0,
+                };
+                at = next;
+                k += 1;
+            }
+            Closing::Quiet => {
+                return Simulated {
+                    ended: Ended::Rounds(k),
+                    state: here,
+                };
+            }
+            Closing::Refused(f) => {
+                return refused(f);
+            }
+        }
+    }
+    let last = at.state;
+    Simulated {
+        ended: Ended::Rounds(k),
+        state: last,
+    }
+}
+
+// Round 0: the clocks set at the start are set, and the start settles.
+fn first(t: &[u64], text: &[u8], feed: Feed, values: &mut [i64]) -> Closed
+    requires { ⌜ Runnable (now t) × (now values ≡ noValues) ⌝ }
+    ensures { λ r. ⌜ FirstCall (now (t .entry)) (now (text .entry)) feed r (now (values .exit)) ⌝ }
+{
+    let state = outset::start_state(t);
+    let resets = layout::joined(t, layout::STARTED);
+    close(
+        t,
+        text,
+        0,
+        Stand {
+            state,
+            feed,
+            resets,
+        },
+        values,
+    )
+}
+
+// Round 0 and so many later rounds, over the samples at the cursors.
+pub fn run(t: &[u64], text: &[u8], rounds: usize, feed: Feed, values: &mut [i64]) -> Simulated
+    requires { ⌜ Runnable (now t) × (now values ≡ noValues) ⌝ }
+    ensures { λ r. ⌜ RunCall (now (t .entry)) (now (text .entry)) rounds feed r (now (values .exit)) ⌝ }
+{
+    let begun = first(t, text, feed, values);
+    let state = begun.state;
+    let next = begun.feed;
+    let closing = begun.closing;
+    match closing {
+        Closing::Done => later_rounds(
+            t,
+            text,
+            rounds,
+            Stand {
+                state,
+                feed: next,
+                resets: 0,
+            },
+            values,
+        ),
+        Closing::Quiet => Simulated {
+            ended: Ended::Rounds(0),
+            state,
+        },
+        Closing::Refused(f) => refused(f),
     }
 }

@@ -11,7 +11,6 @@ ghost use Prim.Native.Nat.{ℕ, _≤_, _<_};
 ghost use lib.ListN.{length};
 ghost use Rattle.answer.specs.State.{partsOf};
 ghost use Rattle.layout.specs.Image.{modelOf};
-ghost use Rattle.moves.specs.Standing.{Standing};
 ghost use Rattle.settling.specs.Gives.{Ready, StepsBy, EndsAt, StepGives, StepAnswers, SettleGives, SettleAnswers, byRuleOf, byNameOf, TraceHolds, notEnabledAt};
 ghost use Rattle.iosa.specs.Settle.{play};
 
@@ -115,7 +114,7 @@ pub fn by_rule(t: &[u64], x: State, budget: usize, trace: &mut [u8]) -> Settled
 // The same without a trace: a round of a simulation keeps none.
 pub fn untraced(t: &[u64], x: State, budget: usize) -> Settled
     requires { ⌜ Ready (now t) x ⌝ }
-    ensures { λ r. ⌜ SettleGives (modelOf (now (t .entry))) budget x r × Standing (now (t .entry)) (r .state) ⌝ }
+    ensures { λ r. ⌜ SettleGives (modelOf (now (t .entry))) budget x r ⌝ }
 {
     let n = x.count;
     let mut parts = x.parts;

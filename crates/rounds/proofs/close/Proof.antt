@@ -1,51 +1,51 @@
+-- `rounds::close` meets its contract.
+use mathlib.Core.Path.{_≡_, refl}
+use denote.Ref.{now}
 use borrow.Author.Needs.{needs}
+use Rattle.rounds.proofs.Ending.{closes-stable, closes-42, closes-not}
 use Rattle.rounds.proofs.close.Statement.{statement}
 use Rattle.rounds.proofs.close.Tie as tie
-use Rattle.rounds.proofs.close.Reads as reads
-use Rattle.rounds.proofs.close.Lts as lts
-use Rattle.rounds.proofs.end.Reads as end-reads
-use Rattle.sets.proofs.union.Reads as union-reads
-use Rattle.settling.proofs.untraced.Reads as untraced-reads
 
--- src/lib.rt:72:9
 untraced-requires : tie.Need-untraced-requires
 untraced-requires c κs = search needs
 
--- src/lib.rt:77:17
 enum-told : tie.Need-enum-told
 enum-told c = search needs
 
--- src/lib.rt:77:17
 union-requires : tie.Need-union-requires
 union-requires c κs = search needs
 
--- src/lib.rt:78:13
 end-requires : tie.Need-end-requires
 end-requires c κs = search needs
 
--- src/lib.rt:91:24
 enum-told-2 : tie.Need-enum-told-2
 enum-told-2 c = search needs
 
--- src/lib.rt:96:26
 enum-known-verdict : tie.Need-enum-known-verdict
 enum-known-verdict c = search needs
 
--- src/lib.rt:66:1
 same-length : tie.Need-same-length
 same-length c = search needs
 
--- src/lib.rt:66:1
 returns : tie.Need-returns
-returns c = ?
+returns c =
+    let e = c .before in
+    let v = e .before .before .before in
+    let d = v .before .before .before in
+    let s0 = d .before .before .before .before .before in
+    closes-stable _ _ _ (s0 .args .s) _ (s0 .pre) _ (d .untraced .ensures) (v .enum-told .given .1) _ (e .before .before .union .ensures) _ _ (e .end .ensures)
 
--- src/lib.rt:66:1
 returns-2 : tie.Need-returns-2
-returns-2 c = ?
+returns-2 c =
+    let d = c .before .before .before in
+    let s0 = d .before .before .before .before .before in
+    closes-42 _ _ _ (s0 .args .s) _ (s0 .pre) _ (d .untraced .ensures) (c .enum-told2 .given .1) _ refl
 
--- src/lib.rt:66:1
 returns-3 : tie.Need-returns-3
-returns-3 c = ?
+returns-3 c =
+    let d = c .before .before .before .before in
+    let s0 = d .before .before .before .before .before in
+    absurd (closes-not _ (now (s0 .args .text)) (s0 .args .k) (s0 .args .s) _ (s0 .pre) _ (d .untraced .ensures) _ (c .before .verdict .given .1))
 
 pub close-spec : {M : Type 1} → statement M
 close-spec =

@@ -43,7 +43,7 @@ returns c =
     let r = l .before .before .before .pre in
     let at = stands-at _ _ (v .2 .reached .standing) (v .0) in
     let st = rests _ _ (reached-ready _ _ _ r (v .2 .reached)) _ (lowest-of-state _ _ _ at _ (c .before .before .lowest-of .ensures)) (c .before .if1 .taken) in
-    (ends _ _ _ _ _ _ _ _ (v .2) (λ f. let z : _≡_ {A = ℕ} 0 1 = cc in absurd (omega arith)) _ (c .ended .ensures) .0, rw (c .ended .ensures .state) (v .2 .reached .standing))
+    ends _ _ _ _ _ _ _ _ (v .2) (λ f. let z : _≡_ {A = ℕ} 0 1 = cc in absurd (omega arith)) _ (c .ended .ensures) .0
 
 slice-aggregate-move-in : tie.Need-slice-aggregate-move-in Inv-loop μ-loop
 slice-aggregate-move-in c = search needs
@@ -79,9 +79,7 @@ ended-requires-2 : tie.Need-ended-requires-2 Inv-loop μ-loop
 ended-requires-2 c κs = reached-ready _ _ _ (c .before .before .before .before .pre) (c .before .loop .inv .2 .reached)
 
 returns-2 : tie.Need-returns-2 Inv-loop μ-loop
-returns-2 c =
-    let v = c .before .before .loop .inv in
-    (ends _ _ _ _ _ _ _ _ (v .2) (λ _. c .before .loop-test .left) _ (c .ended2 .ensures) .0, rw (c .ended2 .ensures .state) (v .2 .reached .standing))
+returns-2 c = ends _ _ _ _ _ _ _ _ (c .before .before .loop .inv .2) (λ _. c .before .loop-test .left) _ (c .ended2 .ensures) .0
 
 pub untraced-spec : {M : Type 1} → statement M
 untraced-spec =
