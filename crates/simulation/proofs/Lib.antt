@@ -1,1 +1,5 @@
 pub mod Each
+pub mod Fed
+pub mod Agree
+pub mod Counts
+pub mod Sound
