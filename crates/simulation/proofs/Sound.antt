@@ -1,37 +1,34 @@
--- What holds as every round ends: the state is stable, the values are in range, and no clock that is waited for is below zero. So of the timed step's own refusals
--- only 30 can stand in a simulation (000, Definition 4.1, condition (f)).
+-- What holds as every round ends: the state is stable, the values are in range, and every clock that is waited for has a tick left at least (by condition (f) of 000,
+-- Definition 4.1). So of the timed step's own refusals only 30 can stand in a simulation, and every firing takes a tick or more.
 use mathlib.Core.Path.{_≡_, refl, sym, _∙_, ap, subst}
-use mathlib.Core.Logic.{_⊎_, inl, inr}
+use mathlib.Core.Logic.{_≢_, _⊎_, inl, inr}
 use mathlib.Core.Option.{none}
 use mathlib.Core.Bool.{Bool, true, false, true≢false}
 use mathlib.Core.List.{List, _∷_}
-use Prim.Native.Nat.{ℕ, zero, suc, _≤_, _<_}
+use Prim.Native.Nat.{ℕ, zero, suc, _+_, _-_, _≤_, _<_}
 use native.Mathlib.Omega.{arith}
-use native.Mathlib.Decide.{ℕ-discrete}
-use borrow.Author.Tests.{le-ltb, le-leb}
-use lib.ListN.{length-replicate, replicate}
-use lib.IntN.{ℤ, pos}
+use borrow.Author.Tests.{ltb-true, le-ltb, le-leb}
+use lib.ListN.{length, length-replicate, replicate}
+use lib.IntN.{ℤ, pos, negsuc, _-ℤ_}
 use lib.Signed.{ltZ, leZ}
 use Rattle.laws.specs.Sets.{has, only, _∪_, _∖_, _∈_}
-use Rattle.laws.proofs.SetLaws.{in-or, or-in-l, or-in-r, in-without, not-or}
-use Rattle.laws.proofs.TestLaws.{not-so}
-use Rattle.laws.proofs.TickLaws.{less-irreflexive, less-transitive}
+use Rattle.laws.proofs.SetLaws.{in-or, or-in-l, or-in-r, in-without, not-or, in-one}
 use Rattle.answer.specs.Limits.{maxClocks, maxTicks}
-use Rattle.iosa.specs.Model.{Comp, declared}
+use Rattle.iosa.specs.Model.{Comp, Model, declared}
 use Rattle.iosa.specs.WellFormed.{WellFormed}
 use Rattle.iosa.specs.Automaton.{Automaton, Stable, Active, Conditions, Conforming, Joinable}
 use Rattle.iosa.specs.Product.{product, stateOf, Within, Series, over, next}
 use Rattle.iosa.specs.Checks.{acceptOf}
 use Rattle.iosa.specs.Start.{startAll, startedAll}
-use Rattle.iosa.specs.TimedExactly.{floor, valueOf, Waits, InTicks, BelowZero, Fires, Falls, Ready}
+use Rattle.iosa.specs.TimedExactly.{floor, greater, valueOf, Waits, InTicks, BelowZero, Fires, Falls, Ready}
 use Rattle.iosa.proofs.Acceptance.Accepted.{accepted-exactly}
 use Rattle.iosa.proofs.Settling.ProductOfMany.{wells, system-is-an-automaton, in-range-is-a-state}
 use Rattle.iosa.proofs.Settling.Start.{start-of-the-product}
 use Rattle.iosa.proofs.Timing.Enabling.{declared-below}
 use Rattle.iosa.proofs.Timing.Shots.{waits-declared}
-use Rattle.iosa.proofs.Timing.Values.{falls-in-ticks, falls-not-below}
+use Rattle.iosa.proofs.Timing.Values.{falls-in-ticks}
 use Rattle.simulation.specs.Simulate.{Supply, Round, noValues}
-use Rattle.simulation.specs.Free.{Takes, Closes, After, first, later, Fair}
+use Rattle.simulation.specs.Free.{Closes, After, first, later, Fair}
 
 -- ---- active clocks along a series
 module _ (A : Automaton) (active : A .State → ℕ) (f : Active A active) where
@@ -43,8 +40,26 @@ module _ (A : Automaton) (active : A .State → ℕ) (f : Active A active) where
   ]
 
 -- ---- signed values
-not-below : (n : ℕ) → ltZ (pos n) (pos 0) ≡ false
-not-below n = le-ltb n 0 (omega arith)
+-- a tick or more
+record Ticks (z : ℤ) : Type 0 where
+  pub ticks : ℕ
+  pub some : 1 ≤ ticks
+  pub is : z ≡ pos ticks
+
+more-than : (v : ℕ) (z : ℤ) → ltZ (pos v) z ≡ true → (n : ℕ) × (v < n) × (z ≡ pos n)
+more-than v (pos n) h = (n, ltb-true v n h, refl)
+more-than v (negsuc n) h = absurd (true≢false (sym h))
+
+ticks-less : (n v : ℕ) → v < n → pos n -ℤ pos v ≡ pos (n - v)
+ticks-less n zero h = let e : n + 0 ≡ n - 0 = omega arith in ap pos e
+ticks-less n (suc v) h = rw (le-ltb n (suc v) (omega arith))
+
+-- a clock with more than v falls by v, and has ticks left
+falls-to-ticks : (m : Model) (vs : List ℤ) (v : ℕ) (us : List ℤ) (x : ℕ) → x < length vs → x ∈ declared m → ltZ (pos v) (valueOf vs x) ≡ true → Falls m vs v us → Ticks (valueOf us x)
+falls-to-ticks m vs v us x l h e f =
+    let n = more-than v (valueOf vs x) e in
+    let d : valueOf vs x -ℤ pos v ≡ pos (n .0 - v) = ap (λ z. z -ℤ pos v) (n .2) ∙ ticks-less (n .0) v (n .1) in
+    record { ticks = n .0 - v; some = omega (arith, n .1); is = f .falls x l h ∙ ap (λ z. greater z floor) d }
 
 zero-at : (n x : ℕ) → valueOf (replicate n (pos 0)) x ≡ pos 0
 zero-at zero x = refl
@@ -68,17 +83,17 @@ module _ (c : Comp) (cs : List Comp) (well : WellFormed (c ∷ cs)) (acc : accep
   below : (x : ℕ) → x ∈ declared (c ∷ cs) → x < maxClocks
   below = declared-below (c ∷ cs) (wells (c ∷ cs) well)
 
-  -- while a round goes on, w being the clocks set or reset in it: an active clock is one of w, or not below zero
+  -- while a round goes on, w being the clocks set or reset in it: an active clock is one of w, or has ticks left
   record Awake (w : ℕ) (s : List ℕ) (vs : List ℤ) : Type 0 where
     pub ticks : InTicks (c ∷ cs) vs
-    pub awake : (x : ℕ) → x ∈ active (stateOf c cs s) → (x ∈ w) ⊎ (ltZ (valueOf vs x) (pos 0) ≡ false)
+    pub awake : (x : ℕ) → x ∈ active (stateOf c cs s) → (x ∈ w) ⊎ Ticks (valueOf vs x)
 
   -- as a round ends
   record Sound (q : Round) : Type 0 where
     pub within : Within (c ∷ cs) (q .state)
     pub stable : Stable (product c cs) (stateOf c cs (q .state))
     pub ticks : InTicks (c ∷ cs) (q .values)
-    pub awake : (x : ℕ) → x ∈ active (stateOf c cs (q .state)) → ltZ (valueOf (q .values) x) (pos 0) ≡ false
+    pub awake : (x : ℕ) → x ∈ active (stateOf c cs (q .state)) → Ticks (valueOf (q .values) x)
 
   -- in a stable state an active clock is one that is waited for, so it is declared
   active-declared : (s : List ℕ) → Within (c ∷ cs) s → Stable (product c cs) (stateOf c cs s) → (x : ℕ) → x ∈ active (stateOf c cs s) → x ∈ declared (c ∷ cs)
@@ -104,14 +119,14 @@ module _ (c : Comp) (cs : List Comp) (well : WellFormed (c ∷ cs)) (acc : accep
           ap (λ z. leZ z (pos maxTicks)) (t .value-is) ∙ le-leb (t .ticks) maxTicks (fair .most x _ (t .ticks) (t .next))
       high x h false i = ap (λ z. leZ z (pos maxTicks)) (k .takes .keeps x i .0) ∙ a .ticks .high x h
 
-      awake : (x : ℕ) → x < maxClocks → (b : Bool) → has (w ∪ k .resets) x ≡ b → x ∈ active (stateOf c cs (q .state)) → ltZ (valueOf (q .values) x) (pos 0) ≡ false
-      awake x l true i h = let t = k .takes .takes x l i in ap (λ z. ltZ z (pos 0)) (t .value-is) ∙ not-below (t .ticks)
+      awake : (x : ℕ) → x < maxClocks → (b : Bool) → has (w ∪ k .resets) x ≡ b → x ∈ active (stateOf c cs (q .state)) → Ticks (valueOf (q .values) x)
+      awake x l true i h = let t = k .takes .takes x l i in record { ticks = t .ticks; some = fair .least x _ (t .ticks) (t .next); is = t .value-is }
       awake x l false i h =
           let o = not-or w (k .resets) x i in
-          ap (λ z. ltZ z (pos 0)) (k .takes .keeps x i .0) ∙ elim (series-keeps (product c cs) active sets (k .settles .series) x h) [
+          subst Ticks (sym (k .takes .keeps x i .0)) (elim (series-keeps (product c cs) active sets (k .settles .series) x h) [
             | inr r ↦ absurd (true≢false (sym r ∙ o .1))
             | inl r ↦ elim (a .awake x r) [ inl v ↦ absurd (true≢false (sym v ∙ o .0)) | inr v ↦ v ]
-          ]
+          ])
 
   -- round 0 begins: "active(start) holds only clocks set at the start"
   awake-at-start : Awake (startedAll (c ∷ cs)) (startAll (c ∷ cs)) noValues
@@ -127,41 +142,44 @@ module _ (c : Comp) (cs : List Comp) (well : WellFormed (c ∷ cs)) (acc : accep
         awake = λ x h. inl (subst (λ w. x ∈ w) (sym (st .1)) (sets .first x (subst (λ y. x ∈ active y) (st .0) h)));
       }
 
-  -- the clock that fires has the least value of those that are waited for
-  at-least : {x v a R : ℕ} (q : Round) {s : List ℕ} → Fires c cs (q .state) (q .values) x v a R s → (y : ℕ) → Waits c cs (q .state) y
-      → ltZ (valueOf (q .values) y) (pos v) ≡ false
-  at-least {x} {v} q f y w = elim (ℕ-discrete y x) [
-    | yes i ↦ ap (λ n. ltZ (valueOf (q .values) n) (pos v)) i ∙ ap (λ z. ltZ z (pos v)) (f .value) ∙ less-irreflexive (pos v)
-    | no i ↦ not-so (ltZ (valueOf (q .values) y) (pos v)) (λ t.
-        true≢false (sym (less-transitive (pos v) (valueOf (q .values) y) (pos v) (f .least y i w) t) ∙ less-irreflexive (pos v)))
-  ]
-
-  -- a clock fires: what is active after it was waited for, and did not fall below zero, or is reset by the row
+  -- a clock fires: what is active after it was waited for, and had more ticks than the one that fired, or is reset by the row
   awake-after : {x v a R : ℕ} {q : Round} {s : List ℕ} {vs : List ℤ} → Sound q → Fires c cs (q .state) (q .values) x v a R s → Falls (c ∷ cs) (q .values) v vs → Awake R s vs
   awake-after {x} {v} {a} {R} {q} {s} {vs} k f g = record {
     ticks = falls-in-ticks (c ∷ cs) (q .values) v vs below (k .ticks) g;
     awake = λ y h. elim (in-or (active (stateOf c cs (q .state)) ∖ only x) R y (sets .kept (f .row) y h)) [
       | inr i ↦ inl i
-      | inl i ↦ inr (falls y (sets .equal (stateOf c cs (q .state)) (in-range-is-a-state c cs (q .state) (k .within)) (k .stable) y
-          (in-without (active (stateOf c cs (q .state))) (only x) y i .0)))
+      | inl i ↦ inr (other y (in-without (active (stateOf c cs (q .state))) (only x) y i))
     ];
   }
     where
-      falls : (y : ℕ) → Waits c cs (q .state) y → ltZ (valueOf vs y) (pos 0) ≡ false
-      falls y w =
+      other : (y : ℕ) → (y ∈ active (stateOf c cs (q .state))) × (has (only x) y ≡ false) → Ticks (valueOf vs y)
+      other y h =
+          let w : Waits c cs (q .state) y = sets .equal (stateOf c cs (q .state)) (in-range-is-a-state c cs (q .state) (k .within)) (k .stable) y (h .0) in
           let d = waits-declared c cs well (met .0) (met .1) (q .state) (k .within) y w in
-          falls-not-below (c ∷ cs) (q .values) v vs y (omega (arith, k .ticks .count, below y d)) d (at-least q f y w) g
+          let differs : y ≢ x = λ e. true≢false (sym (subst (λ n. n ∈ only x) (sym e) (in-one x)) ∙ h .1) in
+          falls-to-ticks (c ∷ cs) (q .values) v vs y (omega (arith, k .ticks .count, below y d)) d (f .least y differs w) g
 
   after-sound : {k : ℕ} {q : Round} → After c cs p k q → Sound q
   after-sound (first k) = closes-sound awake-at-start k
   after-sound (later h f g k) = closes-sound (awake-after (after-sound h) f g) k
 
+  -- every clock that is waited for as a round ends has a tick left at least
+  waits-ticks : {k : ℕ} {q : Round} → After c cs p k q → (y : ℕ) → Waits c cs (q .state) y → Ticks (valueOf (q .values) y)
+  waits-ticks {q = q} h y w = let k = after-sound h in k .awake y (sets .enabled (stateOf c cs (q .state)) (in-range-is-a-state c cs (q .state) (k .within)) y w)
+
+  -- "samples are 1 to 2^40": every firing takes a tick or more
+  pub firing-takes-a-tick : {k x v a R : ℕ} {q : Round} {s : List ℕ} → After c cs p k q → Fires c cs (q .state) (q .values) x v a R s → 1 ≤ v
+  firing-takes-a-tick {x = x} {v = v} h f =
+      let t = waits-ticks h x (f .waits) in
+      let e : pos v ≡ pos (t .ticks) = sym (f .value) ∙ t .is in
+      let n : v ≡ t .ticks = cc in
+      omega (arith, n, t .some)
+
   -- no clock that is waited for is below zero: 29 never arises
   pub none-below-zero : {k : ℕ} {q : Round} → After c cs p k q → (y : ℕ) → BelowZero (Waits c cs (q .state)) (q .values) y → ⊥
-  none-below-zero {q = q} h y b =
-      let k = after-sound h in
-      let a = sets .enabled (stateOf c cs (q .state)) (in-range-is-a-state c cs (q .state) (k .within)) y (b .waits) in
-      true≢false (sym (b .negative) ∙ k .awake y a)
+  none-below-zero h y b =
+      let t = waits-ticks h y (b .waits) in
+      true≢false (sym (b .negative) ∙ ap (λ z. ltZ z (pos 0)) (t .is) ∙ le-ltb (t .ticks) 0 (omega arith))
 
   -- nor do 21, 27 and 28
   pub always-ready : {k : ℕ} {q : Round} → After c cs p k q → Ready c cs (q .state) (q .values)
