@@ -3,3 +3,5 @@ pub mod Fed
 pub mod Agree
 pub mod Counts
 pub mod Sound
+pub mod Closing
+pub mod Ours
