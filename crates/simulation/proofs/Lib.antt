@@ -5,3 +5,4 @@ pub mod Counts
 pub mod Sound
 pub mod Closing
 pub mod Ours
+pub mod Lines
