@@ -6,3 +6,4 @@ pub mod Sound
 pub mod Closing
 pub mod Ours
 pub mod Lines
+pub mod ReadExactly
