@@ -7,3 +7,4 @@ pub mod Closing
 pub mod Ours
 pub mod Lines
 pub mod ReadExactly
+pub mod Answers

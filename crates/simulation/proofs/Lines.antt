@@ -122,6 +122,8 @@ line-scanned x bs g e =
         → cond b (samplesAt (length (h .rest)) (h .rest)) (stops bs) ≡ is g → (bs ≡ (decimal x ++ fieldsAfter (texts (g .value))) ++ g .rest) × AllTicks (g .value)
     go h n false q e = absurd (no-is refl e)
     go h n true q e =
-        let s = samples-scanned (length (h .rest)) (h .rest) g e in
-        (n .0 ∙ ap (λ y. decimal y ++ h .rest) (eqb-true (h .value) x q) ∙ ap (λ (r : List ℕ). decimal x ++ r) (s .0)
-        ∙ sym (append-assoc (decimal x) (fieldsAfter (texts (g .value))) (g .rest)), s .1)
+        let s = samples-scanned (length (h .rest)) (h .rest) g e in (
+          n .0 ∙ ap (λ y. decimal y ++ h .rest) (eqb-true (h .value) x q) ∙ ap (λ (r : List ℕ). decimal x ++ r) (s .0)
+              ∙ sym (append-assoc (decimal x) (fieldsAfter (texts (g .value))) (g .rest)),
+          s .1,
+        )

@@ -142,8 +142,8 @@ module _ (d : ℕ) where
           subst (λ (r : List ℕ). FromHere (suc n) x k r (listsFrom d (suc n) x k r)) (ap (λ (l : List ℕ). l ++ g .rest) (declared-part x (g .value) e) ∙ sym (r .0)) (subst (FromHere (suc n) x k (part x (g .value) ++ g .rest)) (sym same) on)
       go true e (stops cs) q rec =
           let none : ((l ds : List ℕ) → AllTicks l → bs ≡ lineOf (x + 0) l ++ ds → ⊥) = λ l ds h t.
-              let at : x + 0 ≡ x = omega arith in
-              no-is q (subst (λ r. lineAt x r ≡ got l ds) (sym (t ∙ ap (λ y. lineOf y l ++ ds) at)) (line-printed x l ds (omega arith) h)) in
+          let at : x + 0 ≡ x = omega arith in
+          no-is q (subst (λ r. lineAt x r ≡ got l ds) (sym (t ∙ ap (λ y. lineOf y l ++ ds) at)) (line-printed x l ds (omega arith) h)) in
           let here : x ≡ x + 0 = omega arith in
           let o : k + 0 ≡ k = omega arith in
           rw (e, q, listsFrom) (subst (λ y. FromHere (suc n) x k bs (refused (tell 40 (y ∷ [])))) o (bad (no-line [] bs (omega arith) tt refl (subst (λ y. y ∈ d) here e) none)))

@@ -2,3 +2,4 @@ pub mod Simulate
 pub mod Samples
 pub mod Free
 pub mod Call
+pub mod Exactly
