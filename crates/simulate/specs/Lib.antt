@@ -1,1 +1,2 @@
 pub mod Simulate
+pub mod SimulateExactly
