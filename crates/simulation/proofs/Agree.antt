@@ -102,7 +102,7 @@ module _ (c : Comp) (cs : List Comp) (well : WellFormed (c ∷ cs)) (acc : accep
       closes-once (f .within) ok k (subst (λ n. Closes c cs p n s vs (q .taken) q₂) (sym (h .resets)) k₃)
 
   -- "two simulations over the same lists, urgent steps freely chosen and neither refused, end each round with equal state and clock values"
-  pub rounds-agree : {k : ℕ} {q q′ : Round} → After c cs p k q → After c cs p k q′ → q ≡ q′
-  rounds-agree (first k) (first k′) = closes-once (start-in-range (c ∷ cs) well) (count .start) k k′
-  rounds-agree (later h f g k) (later h′ f′ g′ k′) =
-      later-once (rounds-agree h h′) (count .fires (after-counts h) (after-within c cs p h) (after-stable c cs p h) f) f g k f′ g′ k′
+  pub rounds-agree-over : {k : ℕ} {q q′ : Round} → After c cs p k q → After c cs p k q′ → q ≡ q′
+  rounds-agree-over (first k) (first k′) = closes-once (start-in-range (c ∷ cs) well) (count .start) k k′
+  rounds-agree-over (later h f g k) (later h′ f′ g′ k′) =
+      later-once (rounds-agree-over h h′) (count .fires (after-counts h) (after-within c cs p h) (after-stable c cs p h) f) f g k f′ g′ k′

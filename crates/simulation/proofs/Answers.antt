@@ -112,6 +112,10 @@ module _ (c : Comp) (cs : List Comp) (well : WellFormed (c ∷ cs)) (t : List �
     rounds-there s (answered d) e = gives s (exact s (answered d) .0 e) (put-out m was d)
     rounds-there s (refused f) e = refused-in s (exact s (refused f) .0 e)
 
+    -- where nothing stands before the rounds, they answer
+    pub rounds-answered : {ls : List (List ℕ)} → SamplesAnswer (declared m) t (answered ls) → (a : Answer Simulating) × RoundsAnswer c cs t n was a
+    rounds-answered {ls} s = (leave (simulateOf m (recorded ls) n), rounds-there s (simulateOf m (recorded ls) n) refl)
+
     rounds-back : {a : Answer Simulating} → RoundsAnswer c cs t n was a → overLists (samplesOf (declared m) t) ≡ a
     unfolding putOut
     rounds-back (gives {ls = ls} {d = d} {now = now} s r p) =

@@ -8,3 +8,4 @@ pub mod Ours
 pub mod Lines
 pub mod ReadExactly
 pub mod Answers
+pub mod Whole
