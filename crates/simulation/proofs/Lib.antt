@@ -9,3 +9,4 @@ pub mod Lines
 pub mod ReadExactly
 pub mod Answers
 pub mod Whole
+pub mod Examples

@@ -3,3 +3,4 @@ pub mod Samples
 pub mod Free
 pub mod Call
 pub mod Exactly
+pub mod Examples
