@@ -1,7 +1,7 @@
 -- The rounds of free simulations stand behind whatever the contract of `simulate` allows; and in the rounds it is refused with 30, 42 or 41 only.
-use mathlib.Core.Path.{_≡_, refl, sym, _∙_, ap, subst}
+use mathlib.Core.Path.{_≡_, sym, _∙_, subst}
 use mathlib.Core.Logic.{_⊎_}
-use mathlib.Core.Option.{Option, none, some}
+use mathlib.Core.Option.{Option, some}
 use mathlib.Core.List.{List, _∷_}
 use Prim.Native.Nat.{ℕ, _≤_}
 use native.Mathlib.Omega.{arith}
@@ -10,8 +10,7 @@ use lib.IntN.{ℤ}
 use Rattle.answer.specs.Limits.{maxBudget, maxClocks}
 use Rattle.answer.specs.Told.{Told, Answer, answered, refused, saysEnded}
 use Rattle.answer.specs.declared.Simulated.{Simulated}
-use Rattle.iosa.specs.Model.{Comp, Model, declared}
-use Rattle.iosa.specs.WellFormed.{WellFormed}
+use Rattle.iosa.specs.Model.{Comp, declared}
 use Rattle.iosa.specs.Automaton.{Joinable, AllConfluent}
 use Rattle.iosa.specs.Thesis.{AllDefinition41}
 use Rattle.iosa.specs.InOrder.{refuses, passes}
@@ -19,10 +18,10 @@ use Rattle.iosa.proofs.Acceptance.ConfluentExactly.{confluent-exactly}
 use Rattle.iosa.proofs.Thesis.Proposition41.{accepted-is-definition-4-1}
 use Rattle.table.proofs.OnImageExactly.{on-table-exactly}
 use Rattle.layout.specs.OnImage.{Holds, OnImage, is20, of-model}
-use Rattle.simulation.specs.Samples.{LinesOf, recorded, SamplesAnswer, are}
-use Rattle.simulation.specs.Free.{After, Simulates, is-done}
+use Rattle.simulation.specs.Samples.{LinesOf, recorded, are}
+use Rattle.simulation.specs.Free.{After, is-done}
 use Rattle.simulation.specs.Call.{Simulating, simulateText, SimulationAnswers}
-use Rattle.simulation.specs.Exactly.{PutsOut, SimulateAnswer, RoundsAnswer, gives, refuses as refused-in}
+use Rattle.simulation.specs.Exactly.{SimulateAnswer, RoundsAnswer, gives, refuses as refused-in}
 use Rattle.simulation.proofs.Answers.{rounds-answered, simulate-model-exactly}
 use Rattle.simulation.proofs.Whole.{rounds-agree, refused-why}
 use Rattle.simulate.specs.Simulate.{SimulateCall}
@@ -61,7 +60,8 @@ module _ (t samples : List ℕ) (n : ℕ) (was : List ℤ) (r : Simulated) (vs :
           values = rw (l .values) put;
         }
 
-    of-image : {a : Answer Simulating} → OnImage t (λ c cs. SimulateAnswer c cs samples n was) a → SimulationAnswers a was r vs → SimulatedFrom t samples n was k r vs
+    of-image : {a : Answer Simulating} → OnImage t (λ c cs. SimulateAnswer c cs samples n was) a → SimulationAnswers a was r vs
+        → SimulatedFrom t samples n was k r vs
     of-image (is20 x) l = refusal l
     of-image (of-model h (refuses x)) l = refusal l
     of-image (of-model h (passes d (refuses x))) l = refusal l
@@ -75,7 +75,8 @@ module _ (t samples : List ℕ) (n : ℕ) (was : List ℤ) (r : Simulated) (vs :
 
   -- ---- a refusal where nothing stands before the rounds
   module _ (f : Told) (says : saysEnded (r .ended) ≡ some (refused f)) where
-    why : {c : Comp} {cs : List Comp} {a : Answer Simulating} → RoundsAnswer c cs samples n was a → SimulationAnswers a was r vs → (f .number ≡ 30) ⊎ ((f .number ≡ 42) ⊎ (f .number ≡ 41))
+    why : {c : Comp} {cs : List Comp} {a : Answer Simulating} → RoundsAnswer c cs samples n was a → SimulationAnswers a was r vs
+        → (f .number ≡ 30) ⊎ ((f .number ≡ 42) ⊎ (f .number ≡ 41))
     why (gives {d = d} s x put) l =
         let e : _≡_ {A = Option (Answer ℕ)} (some (answered (d .rounds))) (some (refused f)) = sym (l .ended) ∙ says in
         let z : _≡_ {A = ℕ} 0 1 = cc in absurd (omega arith)
@@ -85,7 +86,8 @@ module _ (t samples : List ℕ) (n : ℕ) (was : List ℤ) (r : Simulated) (vs :
         subst (λ u. (u .number ≡ 30) ⊎ ((u .number ≡ 42) ⊎ (u .number ≡ 41))) same (refused-why x)
 
     -- the table holds an accepted and confluent model, no more than 4,096 rounds are asked for, 64 values are lent, and the text is that of lists
-    pub simulate-refused-why : SimulateCall t samples n was r vs → (c : Comp) (cs : List Comp) → Holds t (c ∷ cs) → AllDefinition41 (c ∷ cs) → Joinable (c ∷ cs) → AllConfluent (c ∷ cs)
+    pub simulate-refused-why : SimulateCall t samples n was r vs → (c : Comp) (cs : List Comp) → Holds t (c ∷ cs) → AllDefinition41 (c ∷ cs)
+        → Joinable (c ∷ cs) → AllConfluent (c ∷ cs)
         → n ≤ maxBudget → length was ≡ maxClocks → (ls : List (List ℕ)) → LinesOf (declared (c ∷ cs)) maxClocks 0 samples ls
         → (f .number ≡ 30) ⊎ ((f .number ≡ 42) ⊎ (f .number ≡ 41))
     simulate-refused-why call c cs h d join al b g ls text =

@@ -1,4 +1,5 @@
--- What `simulate` answers, said of the product and its clocks: every refusal with its reason, in the paper's order, then the answer; and what the lent values are then.
+-- What `simulate` answers, said of the product and its clocks: every refusal with its reason, in the paper's order, then the answer;
+-- and what the lent values are then.
 use mathlib.Core.List.{List}
 use Prim.Native.Nat.{ℕ}
 use lib.IntN.{ℤ}

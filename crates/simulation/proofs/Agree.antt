@@ -15,7 +15,6 @@ use Rattle.iosa.specs.WellFormed.{WellFormed}
 use Rattle.iosa.specs.Automaton.{Stable, Conditions}
 use Rattle.iosa.specs.Product.{product, stateOf, Within}
 use Rattle.iosa.specs.Checks.{acceptOf}
-use Rattle.iosa.specs.Start.{startAll}
 use Rattle.iosa.specs.TimedExactly.{valueOf, Fires, Falls}
 use Rattle.iosa.proofs.Acceptance.Accepted.{accepted-exactly}
 use Rattle.iosa.proofs.Settling.Parts.{within-length}
@@ -24,7 +23,7 @@ use Rattle.iosa.proofs.Settling.Start.{start-in-range}
 use Rattle.iosa.proofs.Settling.Steps.{state-is-one-list}
 use Rattle.iosa.proofs.Timing.Values.{falls-once}
 use Rattle.simulation.specs.Simulate.{Supply, Round}
-use Rattle.simulation.specs.Free.{Takes, Settles, Closes, After, first, later, Counting}
+use Rattle.simulation.specs.Free.{Takes, Closes, After, first, later, Counting}
 use Rattle.simulation.proofs.Fed.{takes-once}
 
 -- one list of numbers for one state of the product
@@ -72,9 +71,11 @@ module _ (c : Comp) (cs : List Comp) (p : Supply) where
   after-stable (later h f g k) = k .settles .stable
 
 -- ---- over any states that count
-module _ (c : Comp) (cs : List Comp) (well : WellFormed (c ∷ cs)) (acc : acceptOf (c ∷ cs) ≡ none) (P : List ℕ → Type 0) (count : Counting c cs P) (p : Supply) where
+module _ (c : Comp) (cs : List Comp) (well : WellFormed (c ∷ cs)) (acc : acceptOf (c ∷ cs) ≡ none) (P : List ℕ → Type 0) (count : Counting c cs P)
+    (p : Supply) where
   -- a round's end does not depend on the choice of urgent steps
-  closes-once : {w : ℕ} {s : List ℕ} {vs : List ℤ} {ts : List ℕ} {q q′ : Round} → Within (c ∷ cs) s → P s → Closes c cs p w s vs ts q → Closes c cs p w s vs ts q′ → q ≡ q′
+  closes-once : {w : ℕ} {s : List ℕ} {vs : List ℤ} {ts : List ℕ} {q q′ : Round} → Within (c ∷ cs) s → P s → Closes c cs p w s vs ts q
+      → Closes c cs p w s vs ts q′ → q ≡ q′
   closes-once {w} {s} {vs} {ts} {q} {q′} i ok k k′ =
       let d = count .settles s i ok in
       let same = d .stops (k .settles .series) (k .settles .stable) .same (k′ .settles .series) (k′ .settles .stable) in

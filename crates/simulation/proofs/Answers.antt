@@ -2,7 +2,7 @@
 use mathlib.Core.Path.{_≡_, refl, sym, _∙_, ap, subst}
 use mathlib.Core.Logic.{_↔_}
 use mathlib.Core.Bool.{Bool, true, false, not}
-use mathlib.Core.Option.{Option, none, some, Option·some-inj}
+use mathlib.Core.Option.{none, some, Option·some-inj}
 use mathlib.Core.List.{List, [], _∷_}
 use Prim.Native.Nat.{ℕ, zero, suc, _≤_, _<_}
 use native.Mathlib.Omega.{arith}
@@ -12,24 +12,22 @@ use lib.Dec.{eqb}
 use lib.ListN.{length, getD}
 use lib.Seq.{ext-getD}
 use lib.IntN.{ℤ, pos}
-use Rattle.laws.specs.Sets.{has, _∈_}
+use Rattle.laws.specs.Sets.{has}
 use Rattle.laws.specs.Search.{orElse}
 use Rattle.laws.proofs.SearchLaws.{no-some}
 use Rattle.answer.specs.Limits.{maxBudget, maxClocks, maxTicks}
-use Rattle.answer.specs.Told.{Told, Answer, answered, refused}
+use Rattle.answer.specs.Told.{Answer, answered, refused}
 use Rattle.iosa.specs.Model.{Comp, Model, declared}
 use Rattle.iosa.specs.WellFormed.{WellFormed}
 use Rattle.iosa.specs.Product.{Reached}
-use Rattle.iosa.specs.Automaton.{AllConfluent}
 use Rattle.iosa.specs.Checks.{acceptOf, clashAmong, confluentOf}
 use Rattle.iosa.specs.Settle.{budgetFault}
-use Rattle.iosa.specs.InOrder.{_▹_, refuses, passes, needs, accepted, confluent}
+use Rattle.iosa.specs.InOrder.{_▹_, refuses, passes, needs, confluent}
 use Rattle.iosa.specs.TimedExactly.{valueOf}
 use Rattle.iosa.proofs.Acceptance.ConfluentExactly.{confluent-accepted, confluent-exactly}
 use Rattle.iosa.proofs.Answers.InOrder.{Decided, refusedOr, either, or-refused, check-exactly, needs-decided}
 use Rattle.iosa.proofs.Answers.Models.{check-accepted, confluent-decided, budget-decided}
 use Rattle.iosa.proofs.Acceptance.Accepted.{accepted-exactly}
-use Rattle.iosa.proofs.Settling.Called.{no-answer, same-answer}
 use Rattle.simulation.specs.Simulate.{Simulation, andThen, simulateOf}
 use Rattle.simulation.specs.Samples.{nth, recorded, samplesOf, AllTicks, GoodFrom, SamplesAnswer, are}
 use Rattle.simulation.specs.Free.{Fair, Simulates}
@@ -80,7 +78,8 @@ module _ (m : Model) (was : List ℤ) (d : Simulation) where
       let f = put-out in
       ext-getD (pos 0) (putOut m was d .values) now (f .count ∙ sym (g .count)) (λ x h. go f x (omega (arith, f .count)) (has (declared m) x) refl)
     where
-      go : PutsOut m (d .last .values) was (putOut m was d .values) → (x : ℕ) → x < length was → (b : Bool) → has (declared m) x ≡ b → valueOf (putOut m was d .values) x ≡ valueOf now x
+      go : PutsOut m (d .last .values) was (putOut m was d .values) → (x : ℕ) → x < length was → (b : Bool) → has (declared m) x ≡ b
+          → valueOf (putOut m was d .values) x ≡ valueOf now x
       go f x h true i = f .put x h i ∙ sym (g .put x h i)
       go f x h false i = f .stays x i ∙ sym (g .stays x i)
 
@@ -104,10 +103,12 @@ module _ (c : Comp) (cs : List Comp) (well : WellFormed (c ∷ cs)) (t : List �
   overLists o = andThen (andThen o (λ ls. answered (recorded ls))) (λ p. leave (simulateOf m p n))
 
   module _ (fine : confluentOf m ≡ none) where
-    exact : {ls : List (List ℕ)} → SamplesAnswer (declared m) t (answered ls) → (a : Answer Simulation) → (simulateOf m (recorded ls) n ≡ a) ↔ Simulates c cs (recorded ls) n a
+    exact : {ls : List (List ℕ)} → SamplesAnswer (declared m) t (answered ls) → (a : Answer Simulation)
+        → (simulateOf m (recorded ls) n ≡ a) ↔ Simulates c cs (recorded ls) n a
     exact {ls} s = simulates-exactly c cs well (confluent-accepted m fine) (Reached m) (reached-parts-count c cs well fine) (recorded ls) (recorded-fair s) n
 
-    rounds-there : {ls : List (List ℕ)} → SamplesAnswer (declared m) t (answered ls) → (o : Answer Simulation) → simulateOf m (recorded ls) n ≡ o → RoundsAnswer c cs t n was (leave o)
+    rounds-there : {ls : List (List ℕ)} → SamplesAnswer (declared m) t (answered ls) → (o : Answer Simulation) → simulateOf m (recorded ls) n ≡ o
+        → RoundsAnswer c cs t n was (leave o)
     unfolding putOut
     rounds-there s (answered d) e = gives s (exact s (answered d) .0 e) (put-out m was d)
     rounds-there s (refused f) e = refused-in s (exact s (refused f) .0 e)

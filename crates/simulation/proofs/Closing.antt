@@ -27,7 +27,8 @@ use Rattle.simulation.specs.Free.{Settles, Closes, Lacks, Counting}
 use Rattle.simulation.proofs.Fed.{end-exactly, runs-out-exactly}
 use Rattle.simulation.proofs.Agree.{one-list}
 
-module _ (c : Comp) (cs : List Comp) (well : WellFormed (c ∷ cs)) (acc : acceptOf (c ∷ cs) ≡ none) (P : List ℕ → Type 0) (count : Counting c cs P) (p : Supply) where
+module _ (c : Comp) (cs : List Comp) (well : WellFormed (c ∷ cs)) (acc : acceptOf (c ∷ cs) ≡ none) (P : List ℕ → Type 0) (count : Counting c cs P)
+    (p : Supply) where
   -- settling by our rule
   abbrev ours : List ℕ → Settling (List ℕ)
   ours s = settle (urgentStep (c ∷ cs)) maxBudget s
@@ -82,12 +83,14 @@ module _ (c : Comp) (cs : List Comp) (well : WellFormed (c ∷ cs)) (acc : accep
         end : ours s .stable ≡ true → (o : Answer Round) → endOf p (w ∪ ours s .resets) (ours s .state) vs ts ≡ o → CloseAnswer r w s vs ts o
         end b (answered q) h =
             let t = end-exactly p (w ∪ ours s .resets) ts (ours s .state) vs (k .values) (k .taken) q .0 h in
-            closes (record { resets = ours s .resets; settles = subst (Settles c cs s (ours s .resets)) (sym (t .0)) (ours-settles s (k .within) b); takes = t .1 })
+            let done = subst (Settles c cs s (ours s .resets)) (sym (t .0)) (ours-settles s (k .within) b) in
+            closes (record { resets = ours s .resets; settles = done; takes = t .1 })
         end b (refused u) h =
             let t = runs-out-exactly p (w ∪ ours s .resets) ts (ours s .state) vs (k .values) (k .taken) u .0 h in
             rw (t .2) (ran-out (ours-settles s (k .within) b) (t .1))
 
-        go : (b : Bool) → ours s .stable ≡ b → (o : Answer Round) → endOf p (w ∪ ours s .resets) (ours s .state) vs ts ≡ o → Or b o ≡ a → CloseAnswer r w s vs ts a
+        go : (b : Bool) → ours s .stable ≡ b → (o : Answer Round) → endOf p (w ∪ ours s .resets) (ours s .state) vs ts ≡ o → Or b o ≡ a
+            → CloseAnswer r w s vs ts a
         go false b o h e = rw (← e) (unsettled (λ R t x. true≢false (sym (settles-ours s (k .within) (k .counts) x .stable) ∙ b)))
         go true b o h e = rw (← e) (end b o h)
 

@@ -35,10 +35,12 @@ module _ (c : Comp) (cs : List Comp) (well : WellFormed (c ∷ cs)) (conf : Conf
       let e : s ≡ n .list = one-list c cs {s = s} {t = n .list} w (reached-within (c ∷ cs) (n .list) (wells (c ∷ cs) well) (n .parts)) (n .state) in
       subst (Reached (c ∷ cs)) {x = n .list} {y = s} (sym e) (n .parts)
 
-  urgent-reached : (s s′ : List ℕ) {l : List ℕ} {R : ℕ} → Reached (c ∷ cs) s → Within (c ∷ cs) s′ → Series (product c cs) (stateOf c cs s) l R (stateOf c cs s′) → Reached (c ∷ cs) s′
+  urgent-reached : (s s′ : List ℕ) {l : List ℕ} {R : ℕ} → Reached (c ∷ cs) s → Within (c ∷ cs) s′
+      → Series (product c cs) (stateOf c cs s) l R (stateOf c cs s′) → Reached (c ∷ cs) s′
   urgent-reached s s′ r w run = parts-of s′ w (series-keeps-reached-parts c cs well conf join (made s r) run)
 
-  fires-reached : (s s′ : List ℕ) {vs : List ℤ} {x v a R : ℕ} → Reached (c ∷ cs) s → Stable (product c cs) (stateOf c cs s) → Fires c cs s vs x v a R s′ → Reached (c ∷ cs) s′
+  fires-reached : (s s′ : List ℕ) {vs : List ℤ} {x v a R : ℕ} → Reached (c ∷ cs) s → Stable (product c cs) (stateOf c cs s)
+      → Fires c cs s vs x v a R s′ → Reached (c ∷ cs) s′
   fires-reached s s′ {x = x} {a = a} {R = R} r st f =
       parts-of s′ (f .within) (row-keeps-reached-parts c cs well conf join (only x) a R (stateOf c cs s) (stateOf c cs s′) (inr st) (f .row) (made s r))
 

@@ -4,7 +4,7 @@ use mathlib.Core.Logic.{_↔_}
 use mathlib.Core.Option.{Option, none, some, Option·some-inj}
 use mathlib.Core.Bool.{Bool, true, false, not, true≢false}
 use mathlib.Core.List.{List, [], _∷_}
-use Prim.Native.Nat.{ℕ, suc, _<_}
+use Prim.Native.Nat.{ℕ, _<_}
 use native.Mathlib.Omega.{arith}
 use native.Mathlib.Decide.{decLt}
 use borrow.Author.Tests.{not-true}
@@ -14,7 +14,7 @@ use lib.IntN.{ℤ, pos}
 use Rattle.laws.specs.Sets.{has, _∈_}
 use Rattle.laws.specs.Search.{isSome, least}
 use Rattle.laws.specs.Lowest.{Lowest}
-use Rattle.laws.proofs.SearchLaws.{no-some, is-none, least-none, none-least, least-some, some-least}
+use Rattle.laws.proofs.SearchLaws.{no-some, is-none, least-none, least-some, some-least}
 use Rattle.laws.proofs.TestLaws.{and-true, not-so}
 use Rattle.answer.specs.Limits.{maxClocks}
 use Rattle.answer.specs.Told.{Told, Answer, answered, refused, tell}
@@ -43,7 +43,11 @@ module _ (p : Supply) (w : ℕ) (ts : List ℕ) where
   pub of-lowest : (x : ℕ) → Lowest (Lacks p w ts) x → least (lacks p w ts) maxClocks ≡ some x
   of-lowest x l =
       let b : x < maxClocks = l .here .below in
-      some-least (lacks p w ts) maxClocks x (record { below = b; here = of-lacks x (l .here); before = λ y h. not-so (lacks p w ts y) (λ e. l .before y h (lacks-of y (omega arith) e)) })
+      some-least (lacks p w ts) maxClocks x (record {
+        below = b;
+        here = of-lacks x (l .here);
+        before = λ y h. not-so (lacks p w ts y) (λ e. l .before y h (lacks-of y (omega arith) e));
+      })
 
   -- ---- the end
   -- a clock that is due, and that no one found to lack its sample, takes it
@@ -80,8 +84,10 @@ module _ (p : Supply) (w : ℕ) (ts : List ℕ) where
   -- what a round ends with is one
   pub takes-once : {vs : List ℤ} {q o : Round} → q .state ≡ o .state → Takes p w vs ts q → Takes p w vs ts o → q ≡ o
   takes-once {vs} {q} {o} st k l =
-      let values = ext-getD (pos 0) (q .values) (o .values) (k .count-values ∙ sym (l .count-values)) (λ x h. value x (omega (arith, k .count-values)) (has w x) refl) in
-      let taken = ext-getD 0 (q .taken) (o .taken) (k .count-taken ∙ sym (l .count-taken)) (λ x h. counted x (omega (arith, k .count-taken)) (has w x) refl) in
+      let values = ext-getD (pos 0) (q .values) (o .values) (k .count-values ∙ sym (l .count-values))
+      (λ x h. value x (omega (arith, k .count-values)) (has w x) refl) in
+      let taken = ext-getD 0 (q .taken) (o .taken) (k .count-taken ∙ sym (l .count-taken))
+      (λ x h. counted x (omega (arith, k .count-taken)) (has w x) refl) in
       λ i. record { state = st i; values = values i; taken = taken i }
     where
       value : (x : ℕ) → x < maxClocks → (b : Bool) → has w x ≡ b → valueOf (q .values) x ≡ valueOf (o .values) x

@@ -1,6 +1,6 @@
 -- A sample, and a line of samples, is read exactly where it is printed.
-use mathlib.Core.Path.{_≡_, refl, sym, _∙_, ap, ap₂, subst}
-use mathlib.Core.Bool.{Bool, true, false, cond, true≢false}
+use mathlib.Core.Path.{_≡_, refl, sym, _∙_, ap, ap₂}
+use mathlib.Core.Bool.{Bool, true, false, cond}
 use mathlib.Core.List.{List, [], _∷_, _++_, append-assoc}
 use Prim.Native.Nat.{ℕ, zero, suc, _+_, _-_, _^_, _≤_, _<_}
 use native.Mathlib.Omega.{arith}
@@ -8,11 +8,11 @@ use lib.ListN.{length, length-append}
 use lib.Dec.{eqb, leb}
 use borrow.Author.Tests.{le-leb, leb-true, eq-eqb, eqb-true, eqb-false, ne-eqb}
 use Rattle.answer.specs.Limits.{maxDigits, maxTicks, maxTickDigits}
-use Rattle.iosa.specs.Text.{tab, lf, byte0, digitsOf, decimal, fieldsAfter}
+use Rattle.iosa.specs.Text.{lf, byte0, digitsOf, decimal, fieldsAfter}
 use Rattle.iosa.specs.Reading.{Got, Scan, is, stops, got, then, exactly, theByte, field, isDigit, moreDigits, number}
 use Rattle.iosa.specs.Line.{Ends, Exact}
 use Rattle.iosa.proofs.Reading.Scans.{is-inj, no-is, then-is}
-use Rattle.iosa.proofs.Reading.Number.{NoDigit, digit-is, is-digit, digits-of, Digits, digits-taken, digits-end, taken, behind-least, digits-back}
+use Rattle.iosa.proofs.Reading.Number.{digit-is, is-digit, digits-of, Digits, digits-taken, digits-end, taken, behind-least, digits-back}
 use Rattle.iosa.proofs.Reading.Fields.{exactly-scanned, ends-no-digit, number-exact}
 use Rattle.iosa.proofs.Reading.Lines.{fields-end, field-printed, field-scanned, field-before}
 use Rattle.simulation.specs.Samples.{ticking, sampleAt, samplesAt, lineAt, texts, lineOf, Ticks, AllTicks}
@@ -71,7 +71,8 @@ unfolding samplesAt fieldsAfter exactly
 samples-printed k [] cs h b = samples-end k cs
 samples-printed zero (n ∷ ns) cs h b = absurd (omega arith)
 samples-printed (suc k) (n ∷ ns) cs h b =
-    ap (λ s. then s (λ m ds. then (samplesAt k ds) (λ ms es. got (m ∷ ms) es))) (field-printed sampleAt (digitsOf maxTickDigits) Ticks sample-exact n (h .0) (texts ns) cs)
+    ap (λ s. then s (λ m ds. then (samplesAt k ds) (λ ms es. got (m ∷ ms) es)))
+    (field-printed sampleAt (digitsOf maxTickDigits) Ticks sample-exact n (h .0) (texts ns) cs)
     ∙ ap (λ s. then s (λ ms es. got (n ∷ ms) es)) (samples-printed k ns cs (h .1) (omega arith))
 
 samples-scanned : (k : ℕ) (bs : List ℕ) (g : Got (List ℕ)) → samplesAt k bs ≡ is g → (bs ≡ fieldsAfter (texts (g .value)) ++ g .rest) × AllTicks (g .value)
@@ -83,7 +84,10 @@ samples-scanned (suc k) bs g e = go (samples-scanned k) (theByte lf bs) refl e
   where
     go : ((ds : List ℕ) (h : Got (List ℕ)) → samplesAt k ds ≡ is h → (ds ≡ fieldsAfter (texts (h .value)) ++ h .rest) × AllTicks (h .value))
         → (o : Scan (Unit {0})) → theByte lf bs ≡ o
-        → (elim o as (λ _. Scan (List ℕ)) [ is h ↦ got [] (h .rest) | stops cs ↦ then (field sampleAt bs) (λ n ds. then (samplesAt k ds) (λ ns es. got (n ∷ ns) es)) ]) ≡ is g
+        → (elim o as (λ _. Scan (List ℕ)) [
+          | is h ↦ got [] (h .rest)
+          | stops cs ↦ then (field sampleAt bs) (λ n ds. then (samplesAt k ds) (λ ns es. got (n ∷ ns) es))
+        ]) ≡ is g
         → (bs ≡ fieldsAfter (texts (g .value)) ++ g .rest) × AllTicks (g .value)
     go rec (is h) q e = rw (← is-inj e) (exactly-scanned (lf ∷ []) bs h q, tt)
     go rec (stops cs) q e =
@@ -99,7 +103,8 @@ unfolding fieldsAfter
 enough [] cs = omega arith
 enough (n ∷ ns) cs =
     let e : length ((digitsOf maxTickDigits n ++ fieldsAfter (texts ns)) ++ cs) ≡ length (digitsOf maxTickDigits n) + length (fieldsAfter (texts ns) ++ cs) =
-    ap (λ (r : List ℕ). length r) (append-assoc (digitsOf maxTickDigits n) (fieldsAfter (texts ns)) cs) ∙ length-append (digitsOf maxTickDigits n) (fieldsAfter (texts ns) ++ cs) in
+    ap (λ (r : List ℕ). length r) (append-assoc (digitsOf maxTickDigits n) (fieldsAfter (texts ns)) cs)
+    ∙ length-append (digitsOf maxTickDigits n) (fieldsAfter (texts ns) ++ cs) in
     omega (arith, e, enough ns cs)
 
 pub line-printed : (x : ℕ) (l cs : List ℕ) → x < 10 ^ maxDigits → AllTicks l → lineAt x (lineOf x l ++ cs) ≡ got l cs
@@ -119,7 +124,8 @@ line-scanned x bs g e =
     go (t .0) n (eqb (t .0 .value) x) refl (t .2)
   where
     go : (h : Got ℕ) → (bs ≡ decimal (h .value) ++ h .rest) × (h .value < 10 ^ maxDigits) → (b : Bool) → eqb (h .value) x ≡ b
-        → cond b (samplesAt (length (h .rest)) (h .rest)) (stops bs) ≡ is g → (bs ≡ (decimal x ++ fieldsAfter (texts (g .value))) ++ g .rest) × AllTicks (g .value)
+        → cond b (samplesAt (length (h .rest)) (h .rest)) (stops bs) ≡ is g
+        → (bs ≡ (decimal x ++ fieldsAfter (texts (g .value))) ++ g .rest) × AllTicks (g .value)
     go h n false q e = absurd (no-is refl e)
     go h n true q e =
         let s = samples-scanned (length (h .rest)) (h .rest) g e in (

@@ -1,10 +1,11 @@
--- The simulation that the engine runs is one of those with free choice, and goes as far as any of them; so what it answers, or is refused with, is exactly what they say.
+-- The simulation that the engine runs is one of those with free choice, and goes as far as any of them;
+-- so what it answers, or is refused with, is exactly what they say.
 use mathlib.Core.Path.{_≡_, refl, sym, _∙_, ap, subst}
 use mathlib.Core.Logic.{_↔_}
 use mathlib.Core.Option.{none}
 use mathlib.Core.Bool.{not}
 use mathlib.Core.List.{List, [], _∷_}
-use Prim.Native.Nat.{ℕ, zero, suc, _+_, _-_, _≤_, _<_}
+use Prim.Native.Nat.{ℕ, zero, suc, _+_, _-_, _≤_}
 use native.Mathlib.Nat.{zero-add}
 use native.Mathlib.Omega.{arith}
 use lib.ListN.{length, length-replicate}
@@ -18,7 +19,7 @@ use Rattle.iosa.specs.Checks.{acceptOf}
 use Rattle.iosa.specs.Start.{startAll, startedAll}
 use Rattle.iosa.specs.Step.{stateFault}
 use Rattle.iosa.specs.Timed.{enablingAll, unstableFault, valuesFault, timedFrom, timedOf, quietly}
-use Rattle.iosa.specs.TimedExactly.{Waits, Timing, Ready, TimedAnswer, is-quiet, is-fired, is21, is27, is28, is29, is30, Fires, Falls}
+use Rattle.iosa.specs.TimedExactly.{Timing, Ready, TimedAnswer, is-quiet, is-fired, is21, is27, is28, is29, is30, Fires, Falls}
 use Rattle.iosa.proofs.Acceptance.Accepted.{accepted-exactly}
 use Rattle.iosa.proofs.Settling.Called.{not-refused, state-faultless}
 use Rattle.iosa.proofs.Settling.ProductOfMany.{wells}
@@ -45,7 +46,9 @@ rest n k h = omega arith
 module _ (c : Comp) (cs : List Comp) (well : WellFormed (c ∷ cs)) (acc : acceptOf (c ∷ cs) ≡ none) {s : List ℕ} {vs : List ℤ} (k : Ready c cs s vs) where
   steady : unstableFault (c ∷ cs) s ≡ none
   unfolding unstableFault
-  steady = let a = accepted-exactly (c ∷ cs) well .0 acc in ap (λ b. when (not b) (tell 27 (0 ∷ []))) (stable-exactly c cs well (a .0) (a .1) s (k .within) .1 (k .stable))
+  steady =
+      let a = accepted-exactly (c ∷ cs) well .0 acc in
+      ap (λ b. when (not b) (tell 27 (0 ∷ []))) (stable-exactly c cs well (a .0) (a .1) s (k .within) .1 (k .stable))
 
   ticking : valuesFault (c ∷ cs) vs ≡ none
   unfolding valuesFault
@@ -74,14 +77,20 @@ module _ (c : Comp) (cs : List Comp) (p : Supply) where
   after-taken (first k) = k .takes .count-taken
   after-taken (later h f g k) = k .takes .count-taken
 
-module _ (c : Comp) (cs : List Comp) (well : WellFormed (c ∷ cs)) (acc : acceptOf (c ∷ cs) ≡ none) (P : List ℕ → Type 0) (count : Counting c cs P) (p : Supply) (fair : Fair p) where
+module _ (c : Comp) (cs : List Comp) (well : WellFormed (c ∷ cs)) (acc : acceptOf (c ∷ cs) ≡ none) (P : List ℕ → Type 0) (count : Counting c cs P)
+    (p : Supply) (fair : Fair p) where
   ready : {k : ℕ} {q : Round} → After c cs p k q → Ready c cs (q .state) (q .values)
   ready h = always-ready c cs well acc p fair h
 
   -- where a round begins to settle
   stands : {k w : ℕ} {s : List ℕ} {vs : List ℤ} {ts : List ℕ} → Opens c cs p k w s vs ts → Standing c cs well acc P count p s vs ts
   unfolding noValues noneTaken
-  stands at-start = record { within = start-in-range (c ∷ cs) well; counts = count .start; values = length-replicate maxClocks (pos 0); taken = length-replicate {A = ℕ} maxClocks 0 }
+  stands at-start = record {
+    within = start-in-range (c ∷ cs) well;
+    counts = count .start;
+    values = length-replicate maxClocks (pos 0);
+    taken = length-replicate {A = ℕ} maxClocks 0;
+  }
   stands (by-firing h f g) = record {
     within = f .within;
     counts = count .fires (after-counts c cs well acc P count p h) (after-within c cs p h) (after-stable c cs p h) f;
@@ -92,7 +101,8 @@ module _ (c : Comp) (cs : List Comp) (well : WellFormed (c ∷ cs)) (acc : accep
   abbrev Close : ℕ → ℕ → List ℕ → List ℤ → List ℕ → Answer Round
   Close k w s vs ts = closeOf (c ∷ cs) p k w s vs ts
 
-  closes-ours : {k w : ℕ} {s : List ℕ} {vs : List ℤ} {ts : List ℕ} {q : Round} → Opens c cs p k w s vs ts → Closes c cs p w s vs ts q → Close k w s vs ts ≡ answered q
+  closes-ours : {k w : ℕ} {s : List ℕ} {vs : List ℤ} {ts : List ℕ} {q : Round} → Opens c cs p k w s vs ts → Closes c cs p w s vs ts q
+      → Close k w s vs ts ≡ answered q
   closes-ours {k} {w} {s} {vs} {ts} {q} o z = close-exactly c cs well acc P count p k w s vs ts (stands o) (answered q) .1 (closes z)
 
   -- ---- a simulation with free choice is ours, as far as it goes
@@ -103,7 +113,8 @@ module _ (c : Comp) (cs : List Comp) (well : WellFormed (c ∷ cs)) (acc : accep
     | fired v a R ↦ andThen (Close (suc k) R (τ .state) (τ .values) (q .taken)) (roundsFrom (c ∷ cs) p n (suc k))
   ]
 
-  fires-ours : {k x v a R : ℕ} {q : Round} {s : List ℕ} {vs : List ℤ} (n : ℕ) → After c cs p k q → Fires c cs (q .state) (q .values) x v a R s → Falls (c ∷ cs) (q .values) v vs
+  fires-ours : {k x v a R : ℕ} {q : Round} {s : List ℕ} {vs : List ℤ} (n : ℕ) → After c cs p k q → Fires c cs (q .state) (q .values) x v a R s
+      → Falls (c ∷ cs) (q .values) v vs
       → roundsFrom (c ∷ cs) p (suc n) k q ≡ andThen (Close (suc k) R s vs (q .taken)) (roundsFrom (c ∷ cs) p n (suc k))
   unfolding roundsFrom
   fires-ours {k} {v = v} {a} {R} {q} {s} {vs} n h f g =
@@ -113,9 +124,11 @@ module _ (c : Comp) (cs : List Comp) (well : WellFormed (c ∷ cs)) (acc : accep
   -- if some choice of urgent steps comes to the end of round k with q, ours, asked for n rounds more, stands there with the same q
   pub ours-goes-along : {k : ℕ} {q : Round} → After c cs p k q → (n : ℕ) → simulateOf (c ∷ cs) p (n + k) ≡ roundsFrom (c ∷ cs) p n k q
   unfolding simulateOf roundZero
-  ours-goes-along {q = q} (first z) n = ap (λ o. andThen o (roundsFrom (c ∷ cs) p (n + 0) 0)) (closes-ours at-start z) ∙ ap (λ j. roundsFrom (c ∷ cs) p j 0 q) (right n)
+  ours-goes-along {q = q} (first z) n =
+      ap (λ o. andThen o (roundsFrom (c ∷ cs) p (n + 0) 0)) (closes-ours at-start z) ∙ ap (λ j. roundsFrom (c ∷ cs) p j 0 q) (right n)
   ours-goes-along {q = q} (later {k = k} h f g z) n =
-      ap (simulateOf (c ∷ cs) p) (moved n k) ∙ ours-goes-along h (suc n) ∙ fires-ours n h f g ∙ ap (λ o. andThen o (roundsFrom (c ∷ cs) p n (suc k))) (closes-ours (by-firing h f g) z)
+      ap (simulateOf (c ∷ cs) p) (moved n k) ∙ ours-goes-along h (suc n) ∙ fires-ours n h f g
+      ∙ ap (λ o. andThen o (roundsFrom (c ∷ cs) p n (suc k))) (closes-ours (by-firing h f g) z)
 
   -- and to where it begins to settle in round k
   opens-along : {k w : ℕ} {s : List ℕ} {vs : List ℤ} {ts : List ℕ} → Opens c cs p k w s vs ts → (n : ℕ)
@@ -135,8 +148,10 @@ module _ (c : Comp) (cs : List Comp) (well : WellFormed (c ∷ cs)) (acc : accep
   simulates-from (suc n) k q h a e =
       go (timedFrom (c ∷ cs) (q .state) (q .values) (enablingAll (c ∷ cs) (q .state))) (timed-as c cs well acc (ready h)) (simulates-from n) e
     where
-      close : {x v b R : ℕ} {s : List ℕ} {vs : List ℤ} (f : Fires c cs (q .state) (q .values) x v b R s) (g : Falls (c ∷ cs) (q .values) v vs) (o : Answer Round)
-          → CloseAnswer c cs well acc P count p (suc k) R s vs (q .taken) o → Holds n → andThen o (roundsFrom (c ∷ cs) p n (suc k)) ≡ a → Simulates c cs p (k + suc n) a
+      close : {x v b R : ℕ} {s : List ℕ} {vs : List ℤ} (f : Fires c cs (q .state) (q .values) x v b R s)
+          (g : Falls (c ∷ cs) (q .values) v vs) (o : Answer Round)
+          → CloseAnswer c cs well acc P count p (suc k) R s vs (q .taken) o → Holds n → andThen o (roundsFrom (c ∷ cs) p n (suc k)) ≡ a
+          → Simulates c cs p (k + suc n) a
       close f g (answered r) (closes z) rec e = subst (λ j. Simulates c cs p j a) (sym (moved k n)) (rec (suc k) r (later h f g z) a e)
       close f g o (unsettled z) rec e = rw (← e) (unending (by-firing h f g) (omega arith) z)
       close f g o (ran-out z l) rec e = rw (← e) (out (by-firing h f g) (omega arith) z l)

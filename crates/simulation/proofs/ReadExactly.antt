@@ -13,10 +13,9 @@ use Rattle.laws.specs.Sets.{has, _∈_}
 use Rattle.answer.specs.Limits.{maxClocks, maxDigits, maxTickDigits}
 use Rattle.answer.specs.Told.{tell, Answer, answered, refused}
 use Rattle.iosa.specs.Text.{lf, byte0, digitsOf, decimal, fieldsAfter}
-use Rattle.iosa.specs.Reading.{Got, Scan, is, stops, got}
+use Rattle.iosa.specs.Reading.{Scan, is, stops, got}
 use Rattle.iosa.specs.Product.{count}
 use Rattle.iosa.proofs.Reading.Scans.{no-is}
-use Rattle.iosa.proofs.Settling.Called.{no-answer, same-answer}
 use Rattle.simulation.specs.Simulate.{andThen}
 use Rattle.simulation.specs.Samples.{lineAt, listsFrom, samplesOf, texts, lineOf, linesFrom, AllTicks, GoodFrom, LinesOf, BadFrom, no-line, line-too-many, SamplesAnswer, are, is40}
 use Rattle.simulation.proofs.Lines.{line-printed, line-scanned}
@@ -27,8 +26,10 @@ unfolding count
 count-both b [] ys = sym (zero-add (count b ys))
 count-both b (x ∷ xs) ys = go (eqb x b) (count-both b xs ys)
   where
-    go : (t : Bool) → count b (xs ++ ys) ≡ count b xs + count b ys
-        → (elim t as (λ _. ℕ) [ true ↦ suc (count b (xs ++ ys)) | false ↦ count b (xs ++ ys) ]) ≡ (elim t as (λ _. ℕ) [ true ↦ suc (count b xs) | false ↦ count b xs ]) + count b ys
+    more : Bool → ℕ → ℕ
+    more t n = elim t as (λ _. ℕ) [ true ↦ suc n | false ↦ n ]
+
+    go : (t : Bool) → count b (xs ++ ys) ≡ count b xs + count b ys → more t (count b (xs ++ ys)) ≡ more t (count b xs) + count b ys
     go true e = omega (arith, e)
     go false e = e
 
@@ -56,6 +57,10 @@ line-one-lf : (x : ℕ) (l : List ℕ) → count lf (lineOf x l) ≡ 1
 unfolding lineOf decimal
 line-one-lf x l = omega (arith, count-both lf (decimal x) (fieldsAfter (texts l)), digits-no-lf maxDigits x, fields-one-lf l)
 
+-- the bytes do not begin with a line of clock x
+abbrev NoLine : List ℕ → ℕ → Type 0
+NoLine bs x = (l cs : List ℕ) → AllTicks l → bs ≡ lineOf x l ++ cs → ⊥
+
 module _ (d : ℕ) where
   -- the line of clock x, if it is declared
   part : ℕ → List ℕ → List ℕ
@@ -79,26 +84,34 @@ module _ (d : ℕ) where
     bad : {j : ℕ} → BadFrom d n x bs j → FromHere n x k bs (refused (tell 40 ((k + j) ∷ [])))
 
   -- a good line, or a clock that is not declared, ahead
-  lists-ahead : {n x : ℕ} {bs : List ℕ} {ls : List (List ℕ)} (l : List ℕ) → AllTicks l → (has d x ≡ false → l ≡ []) → LinesOf d n (suc x) bs ls → LinesOf d (suc n) x (part x l ++ bs) (l ∷ ls)
-  lists-ahead {n} {x} {bs} {ls} l h u k = record { count = ap suc (k .count); good = (h, u, k .good); text = ap (λ (r : List ℕ). part x l ++ r) (k .text) ∙ sym (lines-cons x l ls) }
+  lists-ahead : {n x : ℕ} {bs : List ℕ} {ls : List (List ℕ)} (l : List ℕ) → AllTicks l → (has d x ≡ false → l ≡ []) → LinesOf d n (suc x) bs ls
+      → LinesOf d (suc n) x (part x l ++ bs) (l ∷ ls)
+  lists-ahead {n} {x} {bs} {ls} l h u k = record {
+    count = ap suc (k .count);
+    good = (h, u, k .good);
+    text = ap (λ (r : List ℕ). part x l ++ r) (k .text) ∙ sym (lines-cons x l ls);
+  }
 
-  text-ahead : (x : ℕ) (l : List ℕ) (ls : List (List ℕ)) (bs rest : List ℕ) → bs ≡ linesFrom d (suc x) ls ++ rest → part x l ++ bs ≡ linesFrom d x (l ∷ ls) ++ rest
+  text-ahead : (x : ℕ) (l : List ℕ) (ls : List (List ℕ)) (bs rest : List ℕ) → bs ≡ linesFrom d (suc x) ls ++ rest
+      → part x l ++ bs ≡ linesFrom d x (l ∷ ls) ++ rest
   text-ahead x l ls bs rest t =
-      ap (λ (r : List ℕ). part x l ++ r) t ∙ sym (append-assoc (part x l) (linesFrom d (suc x) ls) rest) ∙ ap (λ (r : List ℕ). r ++ rest) (sym (lines-cons x l ls))
+      ap (λ (r : List ℕ). part x l ++ r) t ∙ sym (append-assoc (part x l) (linesFrom d (suc x) ls) rest)
+      ∙ ap (λ (r : List ℕ). r ++ rest) (sym (lines-cons x l ls))
 
   lf-ahead : (x : ℕ) (l : List ℕ) (ls : List (List ℕ)) → count lf (linesFrom d x (l ∷ ls)) ≡ count lf (part x l) + count lf (linesFrom d (suc x) ls)
   lf-ahead x l ls = ap (count lf) (lines-cons x l ls) ∙ count-both lf (part x l) (linesFrom d (suc x) ls)
 
-  bad-ahead : {n x j : ℕ} {bs : List ℕ} (l : List ℕ) → AllTicks l → (has d x ≡ false → l ≡ []) → BadFrom d n (suc x) bs j → BadFrom d (suc n) x (part x l ++ bs) (count lf (part x l) + j)
+  bad-ahead : {n x j : ℕ} {bs : List ℕ} (l : List ℕ) → AllTicks l → (has d x ≡ false → l ≡ []) → BadFrom d n (suc x) bs j
+      → BadFrom d (suc n) x (part x l ++ bs) (count lf (part x l) + j)
   bad-ahead {n} {x} {bs = bs} l h u (no-line ls rest b g t i f) =
       let e : suc x + length ls ≡ x + suc (length ls) = omega arith in
-      let none : ((m cs : List ℕ) → AllTicks m → rest ≡ lineOf (x + suc (length ls)) m ++ cs → ⊥) = subst (λ y. (m cs : List ℕ) → AllTicks m → rest ≡ lineOf y m ++ cs → ⊥) e f in
       subst (BadFrom d (suc n) x (part x l ++ bs)) (lf-ahead x l ls)
-      (no-line (l ∷ ls) rest (omega arith) (h, u, g) (text-ahead x l ls bs rest t) (subst (λ y. y ∈ d) e i) none)
+      (no-line (l ∷ ls) rest (omega arith) (h, u, g) (text-ahead x l ls bs rest t) (subst (λ y. y ∈ d) e i) (subst (NoLine rest) e f))
   bad-ahead {n} {x} {bs = bs} l h u (line-too-many ls b rest c g t) =
       subst (BadFrom d (suc n) x (part x l ++ bs)) (lf-ahead x l ls) (line-too-many (l ∷ ls) b rest (ap suc c) (h, u, g) (text-ahead x l ls bs (b ∷ rest) t))
 
-  from-ahead : {n x k : ℕ} {bs : List ℕ} (l : List ℕ) → AllTicks l → (has d x ≡ false → l ≡ []) → (o : Answer (List (List ℕ))) → FromHere n (suc x) (k + count lf (part x l)) bs o
+  from-ahead : {n x k : ℕ} {bs : List ℕ} (l : List ℕ) → AllTicks l → (has d x ≡ false → l ≡ []) → (o : Answer (List (List ℕ)))
+      → FromHere n (suc x) (k + count lf (part x l)) bs o
       → FromHere (suc n) x k (part x l ++ bs) (andThen o (λ ls. answered (l ∷ ls)))
   from-ahead l h u (answered ls) (lists t) = lists (lists-ahead l h u t)
   from-ahead {n} {x} {k} {bs} l h u o (bad {j = j} t) =
@@ -111,48 +124,64 @@ module _ (d : ℕ) where
   unfolding listsFrom count
   goes-on n x k l bs b h u = go (has d x) refl
     where
-      go : (t : Bool) → has d x ≡ t → listsFrom d (suc n) x k (part x l ++ bs) ≡ andThen (listsFrom d n (suc x) (k + count lf (part x l)) bs) (λ ls. answered (l ∷ ls))
+      on : ℕ → Answer (List (List ℕ))
+      on y = andThen (listsFrom d n (suc x) y bs) (λ ls. answered (l ∷ ls))
+
+      go : (t : Bool) → has d x ≡ t → listsFrom d (suc n) x k (part x l ++ bs) ≡ on (k + count lf (part x l))
       go false e =
-          let p = other-part x l e in
           let o : k ≡ k + 0 = omega arith in
-          rw (p, u e) (rw (e, listsFrom) (ap (λ y. andThen (listsFrom d n (suc x) y bs) (λ ls. answered ([] ∷ ls))) o))
+          rw (other-part x l e, u e) (rw (e, listsFrom) (ap (λ y. andThen (listsFrom d n (suc x) y bs) (λ ls. answered ([] ∷ ls))) o))
       go true e =
-          let p = declared-part x l e in
           let o : suc k ≡ k + 1 = omega arith in
-          rw (p, line-one-lf x l) (rw (e, line-printed x l bs (omega arith) h, listsFrom) (ap (λ y. andThen (listsFrom d n (suc x) y bs) (λ ls. answered (l ∷ ls))) o))
+          rw (declared-part x l e, line-one-lf x l) (rw (e, line-printed x l bs (omega arith) h, listsFrom) (ap on o))
 
   -- ---- both ways
   from-is : (n x k : ℕ) (bs : List ℕ) → x + n ≤ maxClocks → FromHere n x k bs (listsFrom d n x k bs)
   unfolding listsFrom linesFrom count
   from-is zero x k [] b = lists (record { count = refl; good = tt; text = refl })
-  from-is zero x k (c ∷ bs) b = let e : k + 0 ≡ k = omega arith in subst (λ y. FromHere zero x k (c ∷ bs) (refused (tell 40 (y ∷ [])))) e (bad (line-too-many [] c bs refl tt refl))
+  from-is zero x k (c ∷ bs) b =
+      let e : k + 0 ≡ k = omega arith in
+      subst (λ y. FromHere zero x k (c ∷ bs) (refused (tell 40 (y ∷ [])))) e (bad (line-too-many [] c bs refl tt refl))
   from-is (suc n) x k bs b = go (has d x) refl (lineAt x bs) refl (from-is n)
     where
-      go : (t : Bool) → has d x ≡ t → (s : Scan (List ℕ)) → lineAt x bs ≡ s → ((x k : ℕ) (bs : List ℕ) → x + n ≤ maxClocks → FromHere n x k bs (listsFrom d n x k bs))
-          → FromHere (suc n) x k bs (listsFrom d (suc n) x k bs)
-      go false e s q rec =
-          let on = from-ahead {n = n} {x = x} {k = k} {bs = bs} [] tt (λ h. refl) (listsFrom d n (suc x) (k + count lf (part x [])) bs) (rec (suc x) (k + count lf (part x [])) bs (omega arith)) in
-          let same = goes-on n x k [] bs (omega arith) tt (λ h. refl) in
-          subst (λ (r : List ℕ). FromHere (suc n) x k r (listsFrom d (suc n) x k r)) (ap (λ (r : List ℕ). r ++ bs) (other-part x [] e)) (subst (FromHere (suc n) x k (part x [] ++ bs)) (sym same) on)
+      -- a good line, or a clock that is not declared, and what is read behind it
+      on : (l rest : List ℕ) → AllTicks l → (has d x ≡ false → l ≡ [])
+          → ((x k : ℕ) (bs : List ℕ) → x + n ≤ maxClocks → FromHere n x k bs (listsFrom d n x k bs))
+          → part x l ++ rest ≡ bs → FromHere (suc n) x k bs (listsFrom d (suc n) x k bs)
+      on l rest h u rec e =
+          let j = k + count lf (part x l) in
+          let later = from-ahead {n = n} {x = x} {k = k} {bs = rest} l h u (listsFrom d n (suc x) j rest) (rec (suc x) j rest (omega arith)) in
+          subst (λ (r : List ℕ). FromHere (suc n) x k r (listsFrom d (suc n) x k r)) e
+          (subst (FromHere (suc n) x k (part x l ++ rest)) (sym (goes-on n x k l rest (omega arith) h u)) later)
+
+      -- no line of this clock
+      at : x + 0 ≡ x
+      at = omega arith
+
+      here : k + 0 ≡ k
+      here = omega arith
+
+      none : {cs : List ℕ} → lineAt x bs ≡ stops cs → NoLine bs (x + 0)
+      none q l ds h t = no-is q (subst (λ r. lineAt x r ≡ got l ds) (sym (t ∙ ap (λ y. lineOf y l ++ ds) at)) (line-printed x l ds (omega arith) h))
+
+      go : (t : Bool) → has d x ≡ t → (s : Scan (List ℕ)) → lineAt x bs ≡ s
+          → ((x k : ℕ) (bs : List ℕ) → x + n ≤ maxClocks → FromHere n x k bs (listsFrom d n x k bs)) → FromHere (suc n) x k bs (listsFrom d (suc n) x k bs)
+      go false e s q rec = on [] bs tt (λ h. refl) rec (ap (λ (r : List ℕ). r ++ bs) (other-part x [] e))
       go true e (is g) q rec =
           let r = line-scanned x bs g q in
-          let u : (has d x ≡ false → g .value ≡ []) = λ h. absurd (true≢false (sym e ∙ h)) in
-          let on = from-ahead {n = n} {x = x} {k = k} {bs = g .rest} (g .value) (r .1) u (listsFrom d n (suc x) (k + count lf (part x (g .value))) (g .rest)) (rec (suc x) (k + count lf (part x (g .value))) (g .rest) (omega arith)) in
-          let same = goes-on n x k (g .value) (g .rest) (omega arith) (r .1) u in
-          subst (λ (r : List ℕ). FromHere (suc n) x k r (listsFrom d (suc n) x k r)) (ap (λ (l : List ℕ). l ++ g .rest) (declared-part x (g .value) e) ∙ sym (r .0)) (subst (FromHere (suc n) x k (part x (g .value) ++ g .rest)) (sym same) on)
+          let text = ap (λ (l : List ℕ). l ++ g .rest) (declared-part x (g .value) e) ∙ sym (r .0) in
+          on (g .value) (g .rest) (r .1) (λ h. absurd (true≢false (sym e ∙ h))) rec text
       go true e (stops cs) q rec =
-          let none : ((l ds : List ℕ) → AllTicks l → bs ≡ lineOf (x + 0) l ++ ds → ⊥) = λ l ds h t.
-          let at : x + 0 ≡ x = omega arith in
-          no-is q (subst (λ r. lineAt x r ≡ got l ds) (sym (t ∙ ap (λ y. lineOf y l ++ ds) at)) (line-printed x l ds (omega arith) h)) in
-          let here : x ≡ x + 0 = omega arith in
-          let o : k + 0 ≡ k = omega arith in
-          rw (e, q, listsFrom) (subst (λ y. FromHere (suc n) x k bs (refused (tell 40 (y ∷ [])))) o (bad (no-line [] bs (omega arith) tt refl (subst (λ y. y ∈ d) here e) none)))
+          rw (e, q, listsFrom) (subst (λ y. FromHere (suc n) x k bs (refused (tell 40 (y ∷ [])))) here
+          (bad (no-line [] bs (omega arith) tt refl (subst (λ y. y ∈ d) (sym at) e) (none q))))
 
   -- bytes that begin with a good line, or with a clock that is not declared
-  cons-back : (n x k : ℕ) (l : List ℕ) (ls : List (List ℕ)) (bs rest : List ℕ) → x < maxClocks → AllTicks l → (has d x ≡ false → l ≡ []) → bs ≡ linesFrom d x (l ∷ ls) ++ rest
+  cons-back : (n x k : ℕ) (l : List ℕ) (ls : List (List ℕ)) (bs rest : List ℕ) → x < maxClocks → AllTicks l → (has d x ≡ false → l ≡ [])
+      → bs ≡ linesFrom d x (l ∷ ls) ++ rest
       → listsFrom d (suc n) x k bs ≡ andThen (listsFrom d n (suc x) (k + count lf (part x l)) (linesFrom d (suc x) ls ++ rest)) (λ ms. answered (l ∷ ms))
   cons-back n x k l ls bs rest b h u t =
-      ap (listsFrom d (suc n) x k) (t ∙ sym (text-ahead x l ls (linesFrom d (suc x) ls ++ rest) rest refl)) ∙ goes-on n x k l (linesFrom d (suc x) ls ++ rest) b h u
+      ap (listsFrom d (suc n) x k) (t ∙ sym (text-ahead x l ls (linesFrom d (suc x) ls ++ rest) rest refl))
+      ∙ goes-on n x k l (linesFrom d (suc x) ls ++ rest) b h u
 
   lists-back : (n x k : ℕ) (ls : List (List ℕ)) → x + n ≤ maxClocks → length ls ≡ n → GoodFrom d x ls → listsFrom d n x k (linesFrom d x ls ++ []) ≡ answered ls
   unfolding listsFrom linesFrom
@@ -184,7 +213,8 @@ module _ (d : ℕ) where
       ∙ ap (λ y. refused (tell 40 (y ∷ []))) o
 
   -- no line of the next declared clock, and a byte behind the last line
-  stuck : (n x k : ℕ) (rest : List ℕ) → 1 ≤ n → x ∈ d → ((l cs : List ℕ) → AllTicks l → rest ≡ lineOf x l ++ cs → ⊥) → listsFrom d n x k rest ≡ refused (tell 40 (k ∷ []))
+  stuck : (n x k : ℕ) (rest : List ℕ) → 1 ≤ n → x ∈ d → ((l cs : List ℕ) → AllTicks l → rest ≡ lineOf x l ++ cs → ⊥)
+      → listsFrom d n x k rest ≡ refused (tell 40 (k ∷ []))
   unfolding listsFrom
   stuck zero x k rest b i f = absurd (omega arith)
   stuck (suc n) x k rest b i f = rw (i, listsFrom) (go (lineAt x rest) refl)
@@ -219,5 +249,6 @@ samples-read-exactly d t a = (λ e. subst (SamplesAnswer d t) e (go (listsFrom d
     go o (bad {j = j} k) = let e : suc j ≡ 1 + j = omega arith in subst (λ y. SamplesAnswer d t (refused (tell 40 (y ∷ [])))) e (is40 k)
 
     back : (o : Answer (List (List ℕ))) → SamplesAnswer d t o → listsFrom d maxClocks 0 1 t ≡ o
-    back (answered ls) (are k) = ap (listsFrom d maxClocks 0 1) (k .text ∙ sym (append-nil (linesFrom d 0 ls))) ∙ lists-back d maxClocks 0 1 ls (omega arith) (k .count) (k .good)
+    back (answered ls) (are k) =
+        ap (listsFrom d maxClocks 0 1) (k .text ∙ sym (append-nil (linesFrom d 0 ls))) ∙ lists-back d maxClocks 0 1 ls (omega arith) (k .count) (k .good)
     back o (is40 {j = j} k) = let e : 1 + j ≡ suc j = omega arith in is-bad d maxClocks 0 1 t (omega arith) k ∙ ap (λ y. refused (tell 40 (y ∷ []))) e

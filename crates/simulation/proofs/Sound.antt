@@ -1,5 +1,5 @@
--- What holds as every round ends: the state is stable, the values are in range, and every clock that is waited for has a tick left at least (by condition (f) of 000,
--- Definition 4.1). So of the timed step's own refusals only 30 can stand in a simulation, and every firing takes a tick or more.
+-- What holds as every round ends: the state is stable, the values are in range, and every clock that is waited for has a tick left at least
+-- (by condition (f) of 000, Definition 4.1). So of the timed step's own refusals only 30 can stand in a simulation, and every firing takes a tick or more.
 use mathlib.Core.Path.{_≡_, refl, sym, _∙_, ap, subst}
 use mathlib.Core.Logic.{_≢_, _⊎_, inl, inr}
 use mathlib.Core.Option.{none}
@@ -55,7 +55,8 @@ ticks-less n zero h = let e : n + 0 ≡ n - 0 = omega arith in ap pos e
 ticks-less n (suc v) h = rw (le-ltb n (suc v) (omega arith))
 
 -- a clock with more than v falls by v, and has ticks left
-falls-to-ticks : (m : Model) (vs : List ℤ) (v : ℕ) (us : List ℤ) (x : ℕ) → x < length vs → x ∈ declared m → ltZ (pos v) (valueOf vs x) ≡ true → Falls m vs v us → Ticks (valueOf us x)
+falls-to-ticks : (m : Model) (vs : List ℤ) (v : ℕ) (us : List ℤ) (x : ℕ) → x < length vs → x ∈ declared m → ltZ (pos v) (valueOf vs x) ≡ true
+    → Falls m vs v us → Ticks (valueOf us x)
 falls-to-ticks m vs v us x l h e f =
     let n = more-than v (valueOf vs x) e in
     let d : valueOf vs x -ℤ pos v ≡ pos (n .0 - v) = ap (λ z. z -ℤ pos v) (n .2) ∙ ticks-less (n .0) v (n .1) in
@@ -105,7 +106,11 @@ module _ (c : Comp) (cs : List Comp) (well : WellFormed (c ∷ cs)) (acc : accep
       record {
         within = st .within;
         stable = st .stable;
-        ticks = record { count = k .takes .count-values; low = λ x h. low x h (has (w ∪ k .resets) x) refl; high = λ x h. high x h (has (w ∪ k .resets) x) refl };
+        ticks = record {
+          count = k .takes .count-values;
+          low = λ x h. low x h (has (w ∪ k .resets) x) refl;
+          high = λ x h. high x h (has (w ∪ k .resets) x) refl;
+        };
         awake = λ x h. awake x (below x (active-declared (q .state) (st .within) (st .stable) x h)) (has (w ∪ k .resets) x) refl h;
       }
     where
@@ -143,7 +148,8 @@ module _ (c : Comp) (cs : List Comp) (well : WellFormed (c ∷ cs)) (acc : accep
       }
 
   -- a clock fires: what is active after it was waited for, and had more ticks than the one that fired, or is reset by the row
-  awake-after : {x v a R : ℕ} {q : Round} {s : List ℕ} {vs : List ℤ} → Sound q → Fires c cs (q .state) (q .values) x v a R s → Falls (c ∷ cs) (q .values) v vs → Awake R s vs
+  awake-after : {x v a R : ℕ} {q : Round} {s : List ℕ} {vs : List ℤ} → Sound q → Fires c cs (q .state) (q .values) x v a R s
+      → Falls (c ∷ cs) (q .values) v vs → Awake R s vs
   awake-after {x} {v} {a} {R} {q} {s} {vs} k f g = record {
     ticks = falls-in-ticks (c ∷ cs) (q .values) v vs below (k .ticks) g;
     awake = λ y h. elim (in-or (active (stateOf c cs (q .state)) ∖ only x) R y (sets .kept (f .row) y h)) [
@@ -165,7 +171,9 @@ module _ (c : Comp) (cs : List Comp) (well : WellFormed (c ∷ cs)) (acc : accep
 
   -- every clock that is waited for as a round ends has a tick left at least
   waits-ticks : {k : ℕ} {q : Round} → After c cs p k q → (y : ℕ) → Waits c cs (q .state) y → Ticks (valueOf (q .values) y)
-  waits-ticks {q = q} h y w = let k = after-sound h in k .awake y (sets .enabled (stateOf c cs (q .state)) (in-range-is-a-state c cs (q .state) (k .within)) y w)
+  waits-ticks {q = q} h y w =
+      let k = after-sound h in
+      k .awake y (sets .enabled (stateOf c cs (q .state)) (in-range-is-a-state c cs (q .state) (k .within)) y w)
 
   -- "samples are 1 to 2^40": every firing takes a tick or more
   pub firing-takes-a-tick : {k x v a R : ℕ} {q : Round} {s : List ℕ} → After c cs p k q → Fires c cs (q .state) (q .values) x v a R s → 1 ≤ v

@@ -2,7 +2,7 @@
 use mathlib.Core.Path.{_≡_, refl}
 use mathlib.Core.Logic.{_⊎_, inl, inr}
 use mathlib.Core.Option.{none}
-use mathlib.Core.List.{List, [], _∷_}
+use mathlib.Core.List.{List, _∷_}
 use Prim.Native.Nat.{ℕ, _≤_}
 use Rattle.answer.specs.Told.{Told, refused}
 use Rattle.iosa.specs.Model.{Comp}
@@ -31,14 +31,16 @@ module _ (c : Comp) (cs : List Comp) (well : WellFormed (c ∷ cs)) (d : AllDefi
       rounds-agree-over c cs well acc (Reached (c ∷ cs)) (reached-parts-count c cs well e) p h h′
 
   -- as a round ends the timed step is ready: none of 21, 27 and 28, nor 29
-  pub rounds-are-ready : Fair p → {k : ℕ} {q : Round} → After c cs p k q → Ready c cs (q .state) (q .values) × ((x : ℕ) → BelowZero (Waits c cs (q .state)) (q .values) x → ⊥)
+  pub rounds-are-ready : Fair p → {k : ℕ} {q : Round} → After c cs p k q
+      → Ready c cs (q .state) (q .values) × ((x : ℕ) → BelowZero (Waits c cs (q .state)) (q .values) x → ⊥)
   rounds-are-ready fair h = (always-ready c cs well acc p fair h, none-below-zero c cs well acc p fair h)
 
   pub firings-take-a-tick : Fair p → {k x v a R : ℕ} {q : Round} {s : List ℕ} → After c cs p k q → Fires c cs (q .state) (q .values) x v a R s → 1 ≤ v
   firings-take-a-tick fair h f = firing-takes-a-tick c cs well acc p fair h f
 
 -- "then round by round 30, 42 .., 41", and nothing else
-pub refused-why : {c : Comp} {cs : List Comp} {p : Supply} {n : ℕ} {f : Told} → Simulates c cs p n (refused f) → (f .number ≡ 30) ⊎ ((f .number ≡ 42) ⊎ (f .number ≡ p .ranOut))
+pub refused-why : {c : Comp} {cs : List Comp} {p : Supply} {n : ℕ} {f : Told} → Simulates c cs p n (refused f)
+    → (f .number ≡ 30) ⊎ ((f .number ≡ 42) ⊎ (f .number ≡ p .ranOut))
 refused-why (is30 h l t) = inl refl
 refused-why (is42 o l z) = inr (inl refl)
 refused-why (is41 o l z t) = inr (inr refl)

@@ -30,7 +30,8 @@ readable m t = record { Refuses = λ f. SamplesAnswer (declared m) t (refused f)
 pub data RoundsAnswer (c : Comp) (cs : List Comp) (t : List ℕ) (n : ℕ) (was : List ℤ) : Answer Simulating → Type 0 where
   gives : {ls : List (List ℕ)} {d : Simulation} {now : List ℤ} → SamplesAnswer (declared (c ∷ cs)) t (answered ls) → Simulates c cs (recorded ls) n (answered d)
       → PutsOut (c ∷ cs) (d .last .values) was now → RoundsAnswer c cs t n was (answered (record { rounds = d .rounds; state = d .last .state; values = now }))
-  refuses : {ls : List (List ℕ)} {f : Told} → SamplesAnswer (declared (c ∷ cs)) t (answered ls) → Simulates c cs (recorded ls) n (refused f) → RoundsAnswer c cs t n was (refused f)
+  refuses : {ls : List (List ℕ)} {f : Told} → SamplesAnswer (declared (c ∷ cs)) t (answered ls) → Simulates c cs (recorded ls) n (refused f)
+      → RoundsAnswer c cs t n was (refused f)
 
 -- "after the table's, 22 for more rounds, 28 if not 64 values, 40 .., then round by round"
 abbrev pub SimulateAnswer : Comp → List Comp → List ℕ → ℕ → List ℤ → Answer Simulating → Type 0
