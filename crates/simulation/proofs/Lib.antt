@@ -10,3 +10,4 @@ pub mod ReadExactly
 pub mod Answers
 pub mod Whole
 pub mod Examples
+pub mod Witness
