@@ -37,7 +37,9 @@ static void store_samples(uint64_t resets) {
 
 static int refused(const struct floodneedle_answer *answer) {
   if (answer->kind != FLOODNEEDLE_REFUSED) return 0;
-  printf("refused\t%llu at %llu\n", (unsigned long long)answer->number, (unsigned long long)answer->place[0]);
+  printf("refused\t%llu at ", (unsigned long long)answer->number);
+  for (uint64_t i = 0; i < answer->places; ++i) printf("%s%llu", i == 0 ? "" : ",", (unsigned long long)answer->place[i]);
+  printf("\n");
   return 1;
 }
 

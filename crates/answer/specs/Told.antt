@@ -33,7 +33,7 @@ pub data Shape : Type 0 where
   nowhere whole line row bytes index clock component cell clash shared-action shared-clock spot : Shape
   deriving Discrete as same-shape
 
--- the shape of place of each number, from 0; which is none, nor do 31 to 39 have one yet; 2, 4 and 5 "carry line and column" since request 2.
+-- the shape of place of each number, from 0, which is none, nor do 31 to 39 have one yet; 2, 4 and 5 "carry line and column" since request 2.
 -- Of a simulation (02, 4/13): 40 "first bad line, or one past the last", 41 "lowest such clock", 42 "the round"
 abbrev pub shapes : List Shape
 shapes =

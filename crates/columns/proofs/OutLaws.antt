@@ -1,7 +1,7 @@
 -- The first number that is no member, looked for byte by byte: one turn of the search.
 use mathlib.Core.Path.{_≡_, refl, sym, _∙_, ap}
 use mathlib.Core.Bool.{true, false}
-use mathlib.Core.List.{List, [], _∷_}
+use mathlib.Core.List.{List, []}
 use Prim.Native.Nat.{ℕ, zero, suc, _+_, _-_, _≤_, _<_}
 use native.Mathlib.Nat.{le-refl}
 use native.Mathlib.Omega.{arith}
@@ -9,7 +9,7 @@ use lib.ListN.{length, getD, drop, length-drop, drop-of-length-le}
 use lib.Seq.{drop-drop}
 use borrow.Author.Tests.{eq-eqb, ne-eqb}
 use Rattle.iosa.specs.Text.{comma, dash}
-use Rattle.iosa.specs.Reading.{stops, got, number, theByte}
+use Rattle.iosa.specs.Reading.{stops, got, number}
 use Rattle.fields.proofs.ScanLaws.{front, byte-here, byte-other, byte-end}
 use Rattle.fields.proofs.NumberLaws.{number-shortens}
 use Rattle.columns.specs.Columns.{memberOf, behindOne, numbersOut, resetsOut}

@@ -1,5 +1,5 @@
 -- Where the first value of a line stands that may not be there, as the code looks for it: by the line's numbers, how wide they are, and the bytes of its resets.
-use mathlib.Core.Bool.{Bool, true, false, _&&_, not, cond}
+use mathlib.Core.Bool.{Bool, false, _&&_, not, cond}
 use mathlib.Core.List.{List, [], _∷_}
 use Prim.Native.Nat.{ℕ, zero, suc, _+_}
 use lib.ListN.{length, drop}
@@ -8,7 +8,7 @@ use Rattle.laws.specs.Sets.{has}
 use Rattle.sets.specs.Members.{wordBits}
 use Rattle.answer.specs.Limits.{maxStates}
 use Rattle.iosa.specs.Text.{comma, dash, decimal}
-use Rattle.iosa.specs.Reading.{Got, is, stops, number, theByte, stopColumn, Value, states-value, state-value, action-value, clock-value, set-value, dash-value}
+use Rattle.iosa.specs.Reading.{is, stops, number, theByte, stopColumn, Value, states-value, state-value, action-value, clock-value, set-value, dash-value}
 use Rattle.fields.specs.declared.Guard.{Guard}
 use Rattle.fields.specs.declared.Guard.the-variants as OfGuard
 use Rattle.lines.specs.declared.Line.{Line}

@@ -18,6 +18,13 @@ pub struct Allowed {
     pub clocks: u64,
 }
 
+// The values of a row that stand before its resets.
+struct Front {
+    from: u64,
+    guard: Guard,
+    action: u64,
+}
+
 // "A set .. is one 64-bit number".
 const WORD: u64 = 64;
 
@@ -104,22 +111,23 @@ fn resets_out(text: &[u8], at: usize, set: u64) -> Cursor
 }
 
 // The first value of a row that may not be, from left to right; where none is found before it, the target.
-fn row_column(text: &[u8], at: usize, a: Allowed, from: u64, guard: Guard, action: u64) -> usize
+fn row_column(text: &[u8], at: usize, a: Allowed, row: Front) -> usize
     requires { ⌜ at ≤ length (now text) ⌝ }
-    ensures { λ r. ⌜ r ≡ rowColumn (now (text .entry)) at a from guard action ⌝ }
+    ensures { λ r. ⌜ r ≡ rowColumn (now (text .entry)) at a (row .from) (row .guard) (row .action) ⌝ }
 {
-    if a.states <= from {
+    if a.states <= row.from {
         return 5;
     }
-    let g = 6 + measure::width(from);
+    let g = 6 + measure::width(row.from);
+    let guard = row.guard;
     if guard_out(a.clocks, guard) {
         return g;
     }
     let n = g + 1 + guard_width(guard);
-    if !is_in(a.acts, action) {
+    if !is_in(a.acts, row.action) {
         return n;
     }
-    let resets = n + measure::width(action);
+    let resets = n + measure::width(row.action);
     let first = resets_out(text, at + resets, a.clocks);
     column_at(text, at, first)
 }
@@ -152,6 +160,15 @@ pub fn value_column(text: &[u8], at: usize, a: Allowed, l: Line) -> usize
             action,
             resets: _,
             target: _,
-        } => row_column(text, at, a, from, guard, action),
+        } => row_column(
+            text,
+            at,
+            a,
+            Front {
+                from,
+                guard,
+                action,
+            },
+        ),
     }
 }

@@ -1,14 +1,14 @@
 -- A guard, a kind: which of its words stands there decides.
-use mathlib.Core.Path.{_≡_, refl, sym, _∙_, ap}
+use mathlib.Core.Path.{_≡_, sym, _∙_, ap}
 use mathlib.Core.Option.{none, some}
-use mathlib.Core.List.{List, [], _∷_}
+use mathlib.Core.List.{List, []}
 use Prim.Native.Nat.{ℕ, _≤_, _<_}
 use native.Mathlib.Omega.{arith}
 use native.Mathlib.Decide.{decLt}
 use lib.ListN.{length, drop, length-drop, drop-of-length-le}
 use borrow.Author.Tests.{lt-ltb, le-ltb}
-use Rattle.iosa.specs.Text.{dash, Kind, in-kind, out-kind, uin-kind, uout-kind, kindWord}
-use Rattle.iosa.specs.Reading.{is, stops, got, then, shorter, exactly, theByte, number, guardOrDash, numbers, numbersOrDash, kind}
+use Rattle.iosa.specs.Text.{dash, in-kind, out-kind, uin-kind, uout-kind, kindWord}
+use Rattle.iosa.specs.Reading.{stops, got, then, shorter, exactly, theByte, number, guardOrDash, numbers, numbersOrDash, kind}
 
 module _ (bs : List ℕ) where
   pub guard-dash : {cs : List ℕ} → theByte dash bs ≡ got tt cs → guardOrDash bs ≡ got none cs

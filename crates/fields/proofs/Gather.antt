@@ -6,7 +6,7 @@ use native.Mathlib.Nat.{le-refl}
 use native.Mathlib.Omega.{arith}
 use lib.ListN.{length, getD, drop, length-drop}
 use Rattle.iosa.specs.Text.{comma}
-use Rattle.iosa.specs.Reading.{Got, Scan, stops, got, number, moreNumbers}
+use Rattle.iosa.specs.Reading.{Scan, stops, got, number, moreNumbers}
 use Rattle.fields.specs.declared.Cursor.{Cursor}
 use Rattle.fields.specs.declared.NumberScan.{NumberScan}
 use Rattle.fields.specs.declared.NumberScan.the-variants as OfNumber

@@ -1,19 +1,19 @@
 -- A scan at a cursor goes by the byte there: the bytes from a cursor on are that byte and the bytes from the next cursor on.
 use mathlib.Core.Path.{_≡_, refl, sym, _∙_, ap}
 use mathlib.Core.List.{List, [], _∷_}
-use mathlib.Core.Bool.{Bool, true, false}
+use mathlib.Core.Bool.{true, false}
 use Prim.Native.Nat.{ℕ, zero, suc, _+_, _*_, _-_, _^_, _≤_, _<_}
 use native.Mathlib.Numerals.{add-one}
 use native.Mathlib.Nat.{pow-le-pow-right}
 use native.Mathlib.Omega.{arith}
 use lib.ListN.{length, getD, drop, drop-of-length-le}
 use lib.Seq.{drop-cons}
-use lib.Dec.{eqb, leb, ltb}
+use lib.Dec.{leb, ltb}
 use borrow.Author.Tests.{eq-eqb, ne-eqb, leb-true, ltb-true}
 use Rattle.laws.proofs.TestLaws.{and-true}
 use Rattle.iosa.specs.Text.{byte0}
 use Rattle.answer.specs.Limits.{maxDigits}
-use Rattle.iosa.specs.Reading.{Got, Scan, is, stops, got, then, shorter, exactly, theByte, isDigit, moreDigits, number}
+use Rattle.iosa.specs.Reading.{Scan, is, stops, got, then, exactly, theByte, isDigit, moreDigits, number}
 
 pub front : (t : List ℕ) (at : ℕ) → at < length t → drop at t ≡ getD t at 0 ∷ drop (at + 1) t
 front t at h = rw (add-one) (drop-cons t at 0 h)

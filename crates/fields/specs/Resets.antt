@@ -1,5 +1,5 @@
 -- What reading needs of the numbers of a resets field ("`-`, or clocks strictly ascending, joined by commas"), gathered from left to right.
-use mathlib.Core.Bool.{Bool, true, false, _&&_, cond}
+use mathlib.Core.Bool.{true, false, _&&_, cond}
 use mathlib.Core.List.{List, [], _∷_}
 use Prim.Native.Nat.{ℕ}
 use lib.ListN.{drop}

@@ -1,10 +1,10 @@
 -- A line's scan goes field by field.
 use mathlib.Core.Path.{_≡_, refl, sym, _∙_, ap}
 use mathlib.Core.Option.{Option}
-use mathlib.Core.List.{List, [], _∷_}
+use mathlib.Core.List.{List, []}
 use Prim.Native.Nat.{ℕ}
-use Rattle.iosa.specs.Text.{tab, lf, compWord, actWord, clkWord, rowWord, Kind as TheKind}
-use Rattle.iosa.specs.Reading.{Got, Scan, is, stops, got, then, shorter, exactly, theByte, number, guardOrDash, numbersOrDash, kind, Entry, comp-entry, act-entry, clk-entry, row-entry, field, ended, compEntry, actEntry, clkEntry, rowEntry, entry}
+use Rattle.iosa.specs.Text.{lf, compWord, actWord, clkWord, rowWord}
+use Rattle.iosa.specs.Reading.{Scan, is, stops, got, then, shorter, exactly, theByte, number, guardOrDash, numbersOrDash, Entry, row-entry, field, ended, compEntry, actEntry, clkEntry, rowEntry, entry}
 use Rattle.iosa.proofs.Reading.Scans.{is-inj, stops-inj, no-is}
 use Rattle.fields.specs.declared.Guard.{Guard}
 use Rattle.fields.specs.declared.Guard.the-variants as OfGuard

@@ -1,4 +1,5 @@
--- What the call `simulate` answers of a model (02, 4/13): "after the table's, 22 for more rounds, 28 if not 64 values, 40 .., then round by round"; and the 64 lent values then.
+-- What the call `simulate` answers of a model (02, 4/13): "after the table's, 22 for more rounds, 28 if not 64 values, 40 .., then round by round";
+-- and the 64 lent values then.
 use mathlib.Core.Path.{_≡_}
 use mathlib.Core.Option.{Option, none, some}
 use mathlib.Core.Bool.{not, cond}

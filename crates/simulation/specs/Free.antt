@@ -77,7 +77,8 @@ pub data Simulates (c : Comp) (cs : List Comp) (p : Supply) (n : ℕ) : Answer S
   -- "A quiet timed step ends it, uncounted": with fewer rounds than asked for, no clock is waited for
   is-done : {k : ℕ} {q : Round} → After c cs p k q → k ≤ n → (k < n → (x : ℕ) → Waits c cs (q .state) x → ⊥)
       → Simulates c cs p n (answered (record { rounds = k; last = q }))
-  is30 : {k x : ℕ} {q : Round} → After c cs p k q → k < n → Lowest (Shares (Waits c cs (q .state)) (q .values)) x → Simulates c cs p n (refused (tell 30 (x ∷ [])))
+  is30 : {k x : ℕ} {q : Round} → After c cs p k q → k < n → Lowest (Shares (Waits c cs (q .state)) (q .values)) x
+      → Simulates c cs p n (refused (tell 30 (x ∷ [])))
   is42 : {k w : ℕ} {s ts : List ℕ} {vs : List ℤ} → Opens c cs p k w s vs ts → k ≤ n → ((R : ℕ) (t : List ℕ) → Settles c cs s R t → ⊥)
       → Simulates c cs p n (refused (tell 42 (k ∷ [])))
   is41 : {k w R x : ℕ} {s t ts : List ℕ} {vs : List ℤ} → Opens c cs p k w s vs ts → k ≤ n → Settles c cs s R t → Lowest (Lacks p (w ∪ R) ts) x

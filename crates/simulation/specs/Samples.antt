@@ -1,15 +1,17 @@
 -- The sample text (02, 4/13): "a line per declared clock, ascending: number, then samples, if any, parted by tabs; samples are 1 to 2^40".
+use mathlib.Core.Path.{_≡_}
 use mathlib.Core.Option.{Option, none, some}
 use mathlib.Core.Bool.{true, false, cond}
 use mathlib.Core.List.{List, [], _∷_, _++_}
-use Prim.Native.Nat.{ℕ, zero, suc, _-_, _≤_}
+use Prim.Native.Nat.{ℕ, zero, suc, _+_, _-_, _≤_, _<_}
 use lib.ListN.{length, getD}
 use lib.Dec.{eqb, leb}
-use Rattle.laws.specs.Sets.{has}
+use Rattle.laws.specs.Sets.{has, _∈_}
 use Rattle.answer.specs.Limits.{maxClocks, maxTicks, maxTickDigits}
 use Rattle.answer.specs.Told.{tell, Answer, answered, refused}
 use Rattle.iosa.specs.Text.{byte0, lf, digitsOf, decimal, fieldsAfter}
 use Rattle.iosa.specs.Reading.{Got, Scan, is, stops, got, then, theByte, field, isDigit, moreDigits, number}
+use Rattle.iosa.specs.Product.{count}
 use Rattle.simulation.specs.Simulate.{Supply, andThen}
 
 -- ---- reading
@@ -73,6 +75,32 @@ unfoldable pub linesFrom : ℕ → ℕ → List (List ℕ) → List ℕ
 linesFrom d x [] = []
 linesFrom d x (l ∷ ls) = cond (has d x) (lineOf x l) [] ++ linesFrom d (suc x) ls
 
+abbrev pub Ticks : ℕ → Type 0
+Ticks n = (1 ≤ n) × (n ≤ maxTicks)
+
 abbrev pub AllTicks : List ℕ → Type 0
 AllTicks [] = Unit {0}
-AllTicks (n ∷ ns) = (1 ≤ n) × (n ≤ maxTicks) × AllTicks ns
+AllTicks (n ∷ ns) = Ticks n × AllTicks ns
+
+-- lists of the clocks from x on: all samples are in range, and clocks that are not declared have none
+abbrev pub GoodFrom : ℕ → ℕ → List (List ℕ) → Type 0
+GoodFrom d x [] = Unit {0}
+GoodFrom d x (l ∷ ls) = AllTicks l × (has d x ≡ false → l ≡ []) × GoodFrom d (suc x) ls
+
+-- these bytes are the lines of the lists ls, for n clocks from x on
+pub record LinesOf (d n x : ℕ) (bs : List ℕ) (ls : List (List ℕ)) : Type 0 where
+  pub count : length ls ≡ n
+  pub good : GoodFrom d x ls
+  pub text : bs ≡ linesFrom d x ls
+
+-- "first bad line, or one past the last": so many good lines stand before it. It is not the line of the next declared clock, or there is none left
+pub data BadFrom (d n x : ℕ) (bs : List ℕ) : ℕ → Type 0 where
+  no-line : (ls : List (List ℕ)) (rest : List ℕ) → length ls < n → GoodFrom d x ls → bs ≡ linesFrom d x ls ++ rest → x + length ls ∈ d
+      → ((l cs : List ℕ) → AllTicks l → rest ≡ lineOf (x + length ls) l ++ cs → ⊥) → BadFrom d n x bs (count lf (linesFrom d x ls))
+  line-too-many : (ls : List (List ℕ)) (b : ℕ) (rest : List ℕ) → length ls ≡ n → GoodFrom d x ls → bs ≡ linesFrom d x ls ++ (b ∷ rest)
+      → BadFrom d n x bs (count lf (linesFrom d x ls))
+
+-- what the text of the declared clocks d is: 64 lists, or 40 and its line
+pub data SamplesAnswer (d : ℕ) (t : List ℕ) : Answer (List (List ℕ)) → Type 0 where
+  are : {ls : List (List ℕ)} → LinesOf d maxClocks 0 t ls → SamplesAnswer d t (answered ls)
+  is40 : {j : ℕ} → BadFrom d maxClocks 0 t j → SamplesAnswer d t (refused (tell 40 (suc j ∷ [])))

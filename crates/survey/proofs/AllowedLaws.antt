@@ -9,23 +9,21 @@ use native.Mathlib.Decide.{decLt}
 use lib.ListN.{length}
 use lib.Dec.{ltb}
 use borrow.Author.Tests.{lt-ltb, le-ltb, eq-eqb, ne-eqb}
-use Rattle.laws.specs.Sets.{bit, has, _∈_}
+use Rattle.laws.specs.Sets.{bit, has}
 use Rattle.laws.proofs.SetLaws.{bit-ones}
 use Rattle.laws.proofs.ListLaws.{All}
 use Rattle.sets.specs.Members.{wordBits}
-use Rattle.answer.specs.Limits.{maxActions, maxClocks}
+use Rattle.answer.specs.Limits.{maxClocks}
 use Rattle.iosa.specs.Model.{Comp, acts}
 use Rattle.iosa.specs.Reading.{got, Entry, comp-entry, act-entry, clk-entry, row-entry, entry, Progress, current, outOfRange, faultOf}
 use Rattle.iosa.specs.Reading.{Value, states-value, state-value, action-value, clock-value, set-value, dash-value, valueText, guardValue, resetValues, lastValues, valuesOf, firstBad, firstColumn, outside, unnamed, statesBy}
 use Rattle.iosa.specs.Faulty.{Each, GuardIs, InRange, Named, LineFault, wrong-shape, out-of-turn, out-of-range, not-named, out-of-order, too-many}
-use Rattle.iosa.specs.Column.{Ranged}
 use Rattle.iosa.proofs.Reading.Lines.{line-exactly}
 use Rattle.iosa.proofs.Reading.Scans.{is-inj}
 use Rattle.iosa.proofs.Reading.Tests.{range-decided}
 use Rattle.iosa.proofs.Reading.LowestFault.{fault-some, fault-number}
 use Rattle.columns.specs.declared.Allowed.{Allowed}
 use Rattle.columns.specs.Columns.{memberOf, beyond}
-use Rattle.answer.specs.declared.Place.{Place}
 use Rattle.answer.specs.declared.Place.the-variants.{Line, Spot}
 use Rattle.judge.specs.declared.Progress.{Progress as CodeProgress}
 use Rattle.survey.specs.Places.{allowedOf, placeOf}

@@ -2,7 +2,6 @@
 use mathlib.Core.Path.{_≡_, refl, sym, _∙_, ap}
 use mathlib.Core.Option.{Option, none, some}
 use mathlib.Core.List.{List, [], _∷_}
-use mathlib.Core.Bool.{Bool, true, false}
 use Prim.Native.Nat.{ℕ, zero, suc, _+_, _-_, _≤_, _<_}
 use native.Mathlib.Numerals.{add-one}
 use native.Mathlib.Nat.{le-refl}
@@ -10,11 +9,11 @@ use native.Mathlib.Omega.{arith}
 use borrow.Author.Tests.{ne-eqb}
 use Rattle.laws.proofs.SearchLaws.{no-some}
 use lib.ListN.{length, drop, drop-of-length-le, length-drop}
-use Rattle.answer.specs.declared.Place.the-variants.{Line, Whole, Spot}
+use Rattle.answer.specs.declared.Place.the-variants.{Whole, Spot}
 use Rattle.answer.specs.declared.Checked.the-variants.{Fine, Refused}
-use Rattle.answer.specs.Told.{Told, told, tell, Answer, answered, refused, asRefused, saysChecked, doneOf}
+use Rattle.answer.specs.Told.{told, tell, Answer, refused, asRefused, saysChecked, doneOf}
 use Rattle.iosa.specs.Model.{Model, Comp, rowCount}
-use Rattle.iosa.specs.Reading.{Got, stops, got, Entry, comp-entry, act-entry, clk-entry, row-entry, entry, Progress, current, turn, outOfTurn, faultOf, columnOf, stopColumn, statesBy, firstColumn, outside, unnamed, rowOf, withAct, withClk, withRow, onLast, takeIn, finish, linesFrom, atStart}
+use Rattle.iosa.specs.Reading.{stops, got, Entry, comp-entry, act-entry, clk-entry, row-entry, entry, Progress, current, turn, outOfTurn, faultOf, columnOf, stopColumn, statesBy, firstColumn, outside, unnamed, rowOf, withAct, withClk, withRow, onLast, takeIn, finish, linesFrom, atStart}
 use Rattle.iosa.proofs.Reading.LinesFrom.{entry-shortens, lines-end, lines-shapeless, lines-fault, lines-next}
 use Rattle.fields.specs.Resets.{valued}
 use Rattle.lines.specs.declared.Line.{Line as CodeLine}
@@ -23,7 +22,6 @@ use Rattle.lines.proofs.LineLaws.{valued-is}
 use Rattle.columns.specs.Columns.{valueColumn, beyond}
 use Rattle.columns.proofs.ValueColumn.{value-column-is}
 use Rattle.judge.specs.declared.Progress.{Progress as CodeProgress}
-use Rattle.judge.specs.declared.Judged.{Judged}
 use Rattle.judge.specs.declared.Judged.the-variants.{Fault, Taken}
 use Rattle.judge.specs.Judged.{standing, beginning, stepOf}
 use Rattle.judge.proofs.StepIs.{next, judgedOf, Begun, step-is}

@@ -1,14 +1,12 @@
 -- `columns::numbers_out` meets its contract. The loop's invariant: the search from here on finds what the search from the start finds.
-use mathlib.Core.Path.{_≡_, sym, _∙_, ap}
-use mathlib.Core.Bool.{true}
-use Prim.Native.Nat.{ℕ, _-_}
+use mathlib.Core.Path.{sym, _∙_, ap}
+use Prim.Native.Nat.{_-_}
 use native.Mathlib.Omega.{arith}
 use borrow.Author.Tests.{not-true, not-false}
-use lib.ListN.{length, drop}
+use lib.ListN.{length}
 use denote.Ref.{now}
-use Rattle.iosa.specs.Reading.{got, number}
+use Rattle.iosa.specs.Reading.{number}
 use Rattle.fields.specs.Fields.{gotNumber}
-use Rattle.columns.specs.Columns.{memberOf}
 use Rattle.columns.proofs.OutLaws.{Looking, looking-first, out-end, out-stops, out-here, out-last, out-behind, out-more, out-less}
 use borrow.Author.Needs.{needs}
 use Rattle.columns.proofs.numbers_out.Statement.{statement}

@@ -1,5 +1,5 @@
 -- `columns::value_column` meets its contract.
-use mathlib.Core.Path.{_≡_, sym, _∙_, ap}
+use mathlib.Core.Path.{sym, _∙_, ap}
 use Prim.Native.Nat.{_+_}
 use native.Mathlib.Omega.{arith}
 use borrow.Author.Tests.{not-true, not-false}
@@ -64,8 +64,9 @@ row-column-requires c κs = search needs
 
 returns-4 : tie.Need-returns-4
 returns-4 c =
-    let a = c .before .before .before .before .before .before .before .args in
-    let v = c .before .before .before .before .l .given in
+    let d = c .before .before .before .before in
+    let a = d .before .before .before .args in
+    let v = d .l .given in
     ap (λ n. 7 + n) (c .width .ensures)
     ∙ sym (ap (valueColumn (now (a .text)) (a .at) (a .a)) (v .1) ∙ comp-right (now (a .text)) (a .at) (a .a) (v .0 .0) (v .0 .1 .0)
     (c .before .before .if1 .left) (c .before .if2 .left))
@@ -75,8 +76,9 @@ returns-5 c = search needs
 
 returns-6 : tie.Need-returns-6
 returns-6 c =
-    let a = c .before .before .before .before .before .before .before .args in
-    let v = c .before .before .before .before .l2 .given in
+    let d = c .before .before .before .before in
+    let a = d .before .before .before .args in
+    let v = d .l2 .given in
     let p = c .before .before .is-in in
     ap (λ n. 6 + n) (c .width2 .ensures)
     ∙ sym (ap (valueColumn (now (a .text)) (a .at) (a .a)) (v .1) ∙ clk-in (now (a .text)) (a .at) (a .a) (v .0 .0) (v .0 .1 .0) (sym (p .ensures) ∙ not-false

@@ -1,5 +1,5 @@
 -- `fields::guard_of` meets its contract.
-use mathlib.Core.Path.{_≡_, sym, _∙_, ap}
+use mathlib.Core.Path.{sym, _∙_, ap}
 use mathlib.Core.Option.{some}
 use lib.ListN.{drop}
 use denote.Ref.{now}

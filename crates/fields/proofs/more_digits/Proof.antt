@@ -5,7 +5,7 @@ use mathlib.Core.Bool.{true}
 use Prim.Native.Nat.{ℕ, _+_, _-_, _^_, _≤_, _<_}
 use native.Mathlib.Omega.{arith}
 use borrow.Author.Tests.{not-true, not-false}
-use lib.ListN.{length, drop, getD}
+use lib.ListN.{drop, getD}
 use denote.Ref.{now}
 use Rattle.iosa.specs.Reading.{is, moreDigits, isDigit}
 use Rattle.fields.proofs.ScanLaws.{more-full, digits-end, digits-stop, digits-on, is-digit, digits-room, digits-few}

@@ -1,5 +1,5 @@
 -- `fields::number_field` meets its contract.
-use mathlib.Core.Path.{_≡_, sym, _∙_, ap}
+use mathlib.Core.Path.{sym, _∙_, ap}
 use denote.Ref.{now}
 use Rattle.iosa.specs.Reading.{number}
 use Rattle.fields.specs.Fields.{past}

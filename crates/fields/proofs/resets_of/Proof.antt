@@ -1,5 +1,5 @@
 -- `fields::resets_of` meets its contract.
-use mathlib.Core.Path.{_≡_, sym, _∙_, ap}
+use mathlib.Core.Path.{sym, _∙_, ap}
 use lib.ListN.{length, drop}
 use denote.Ref.{now}
 use Rattle.iosa.specs.Reading.{numbersOrDash, moreNumbers}

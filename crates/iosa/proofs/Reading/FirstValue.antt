@@ -2,19 +2,16 @@
 use mathlib.Core.Path.{_≡_, refl, sym, _∙_, ap, subst}
 use mathlib.Core.Logic.{_⊎_, inl, inr, _↔_}
 use mathlib.Core.Option.{Option, none, some}
-use mathlib.Core.Bool.{Bool, true, false, not, _&&_, cond, true≢false}
-use mathlib.Core.List.{List, [], _∷_, _++_, append-assoc, append-nil}
-use Prim.Native.Nat.{ℕ, zero, suc, _+_, _≤_, _<_}
+use mathlib.Core.Bool.{Bool, true, false, cond, true≢false}
+use mathlib.Core.List.{List, [], _∷_, _++_, append-assoc}
+use Prim.Native.Nat.{ℕ, suc, _+_, _≤_, _<_}
 use native.Mathlib.Omega.{arith}
 use lib.ListN.{length, length-append}
-use lib.Dec.{ltb, leb}
-use borrow.Author.Tests.{ltb-true, ltb-false, leb-true, leb-false, lt-ltb, le-leb, not-false}
-use Rattle.laws.specs.Sets.{has, _∈_}
-use Rattle.laws.proofs.TestLaws.{and-true}
-use Rattle.answer.specs.Limits.{maxStates, maxActions, maxClocks}
-use Rattle.iosa.specs.Model.{Comp, acts}
-use Rattle.iosa.specs.Text.{tab, lf, comma, dash, compWord, actWord, clkWord, rowWord, Kind, kindWord, decimal, guardField, joined, fieldsAfter}
-use Rattle.iosa.specs.Reading.{Entry, comp-entry, act-entry, clk-entry, row-entry, guardOf, outOfRange, lacks}
+use Rattle.laws.specs.Sets.{_∈_}
+use Rattle.answer.specs.Limits.{maxClocks}
+use Rattle.iosa.specs.Model.{Comp}
+use Rattle.iosa.specs.Text.{tab, comma, dash, rowWord, kindWord, decimal, guardField, fieldsAfter}
+use Rattle.iosa.specs.Reading.{Entry, comp-entry, act-entry, clk-entry, row-entry, guardOf}
 use Rattle.iosa.specs.Reading.{Value, states-value, state-value, action-value, clock-value, set-value, dash-value, valueText, guardValue, resetValues, lastValues, valuesOf, wordOf, firstBad, outside, unnamed, statesBy, firstColumn}
 use Rattle.iosa.specs.Line.{listField, lineOf}
 use Rattle.iosa.specs.Column.{fieldsUpTo, clocksUpTo, Stands, states-at, start-at, act-at, clk-at, set-at, from-at, guard-at, action-at, reset-at, target-at, FirstValue, Ranged, Owned}

@@ -3,8 +3,8 @@ use mathlib.Core.Path.{_≡_, refl, sym, _∙_, ap, subst}
 use mathlib.Core.Logic.{_↔_}
 use mathlib.Core.Option.{Option, none, some}
 use mathlib.Core.Bool.{Bool, true, false}
-use mathlib.Core.List.{List, [], _∷_, _++_, append-assoc, append-nil, append-cancel-left, append-cancel-right}
-use Prim.Native.Nat.{ℕ, zero, suc, _-_, _≤_, _<_}
+use mathlib.Core.List.{List, [], _∷_, _++_, append-assoc, append-nil}
+use Prim.Native.Nat.{ℕ, zero, suc, _-_, _<_}
 use native.Mathlib.Omega.{arith}
 use lib.ListN.{length, length-append}
 use lib.Dec.{eqb}
@@ -12,14 +12,14 @@ use borrow.Author.Tests.{eqb-true}
 use Rattle.laws.proofs.TestLaws.{apart-cases}
 use Rattle.answer.specs.Limits.{maxDigits}
 use Rattle.iosa.specs.Text.{byte0, tab, lf, comma, dash, compWord, actWord, clkWord, rowWord, Kind, in-kind, out-kind, uin-kind, uout-kind, kindWord, decimal, guardField, joined, fieldsAfter}
-use Rattle.iosa.specs.Reading.{Got, Scan, is, stops, got, then, shorter, furthest, exactly, theByte, isDigit, moreDigits, number, moreNumbers, numbers, guardOrDash, numbersOrDash, kind, guardOf, field, ended}
+use Rattle.iosa.specs.Reading.{Scan, is, stops, got, then, shorter, furthest, exactly, theByte, isDigit, moreDigits, number, moreNumbers, numbers, guardOrDash, numbersOrDash, kind, guardOf, field, ended}
 use Rattle.iosa.specs.Reading.{Entry, comp-entry, act-entry, clk-entry, row-entry, compEntry, actEntry, clkEntry, rowEntry, entry, stopColumn}
-use Rattle.iosa.specs.Line.{Fits, AllFit, GuardFits, listField, lineOf, LineFits, Ends, Any, Exact}
+use Rattle.iosa.specs.Line.{Fits, AllFit, GuardFits, listField, lineOf, LineFits, Exact}
 use Rattle.iosa.specs.Column.{Begins, NoneWith, WrongByte}
 use Rattle.iosa.proofs.Reading.Scans.{stops-inj, no-is}
 use Rattle.iosa.proofs.Reading.Fields.{exactly-scanned, number-exact, kind-exact, guard-exact, list-exact, further, joined-first}
 use Rattle.iosa.proofs.Reading.Lines.{field-scanned, entry-exact}
-use Rattle.iosa.proofs.Reading.Local.{restOf, leaving, Local, StopLocal, stop-local, behind, then-local, exactly-local, number-local, guard-local, list-local, kind-local, field-local, ended-local, both-stop, furthest-local, shorter-either}
+use Rattle.iosa.proofs.Reading.Local.{Local, StopLocal, stop-local, behind, then-local, exactly-local, number-local, guard-local, list-local, kind-local, field-local, ended-local, both-stop, furthest-local, shorter-either}
 
 -- ---- the bytes up to where a scan stops can be gone on with
 -- of one field: they begin what is printed of some good value

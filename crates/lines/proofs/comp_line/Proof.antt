@@ -1,5 +1,5 @@
 -- `lines::comp_line` meets its contract.
-use mathlib.Core.Path.{_≡_, refl, sym, _∙_, ap}
+use mathlib.Core.Path.{refl, sym, _∙_, ap}
 use lib.ListN.{drop}
 use denote.Ref.{now}
 use Rattle.iosa.specs.Reading.{number, comp-entry, compEntry}

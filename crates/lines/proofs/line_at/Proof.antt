@@ -114,9 +114,10 @@ no-row c = sym (c .before .before .before .word4 .ensures) ∙ ap (past (text (t
 
 returns : tie.Need-returns
 returns c =
-    let a = c .before .before .before .before .before .before .before .args in
+    let d = c .before .before .before .before in
+    let a = d .before .before .before .args in
     let t = now (a .text) in
-    c .comp-line .ensures ∙ sym (ap (valued lineOf) (entry-comp (drop (a .c .at) t) (sym (c .before .before .before .before .word .ensures) ∙ ap (past t)
+    c .comp-line .ensures ∙ sym (ap (valued lineOf) (entry-comp (drop (a .c .at) t) (sym (d .word .ensures) ∙ ap (past t)
     (c .before .before .d .given .1))))
 
 returns-2 : tie.Need-returns-2

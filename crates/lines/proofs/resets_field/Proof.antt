@@ -1,5 +1,5 @@
 -- `lines::resets_field` meets its contract.
-use mathlib.Core.Path.{_≡_, refl, sym, _∙_, ap}
+use mathlib.Core.Path.{sym, _∙_, ap}
 use denote.Ref.{now}
 use Rattle.iosa.specs.Reading.{numbersOrDash}
 use Rattle.fields.specs.Fields.{past}

@@ -1,7 +1,7 @@
 -- `survey::check_lines` meets its contract. The loop's invariant: what the code keeps stands for what the definition keeps before this line.
-use mathlib.Core.Path.{_≡_, sym, _∙_, ap}
+use mathlib.Core.Path.{sym, _∙_, ap}
 use mathlib.Core.List.{List, [], _∷_}
-use Prim.Native.Nat.{ℕ, _+_, _≤_}
+use Prim.Native.Nat.{ℕ}
 use native.Mathlib.Omega.{arith}
 use borrow.Author.Needs.{needs}
 use lib.ListN.{length, drop, length-drop}
@@ -9,7 +9,6 @@ use denote.Ref.{now}
 use Rattle.answer.specs.declared.Checked.the-variants.{Refused}
 use Rattle.answer.specs.Told.{tell, refused, saysChecked}
 use Rattle.iosa.specs.Reading.{Progress, current, entry, linesFrom, atStart}
-use Rattle.fields.specs.Resets.{valued}
 use Rattle.lines.specs.Lines.{lineOf, gotLine}
 use Rattle.lines.specs.declared.Line.{Line}
 use Rattle.lines.proofs.LineLaws.{valued-stops}

@@ -1,6 +1,4 @@
 -- `survey::place_of` meets its contract.
-use mathlib.Core.Path.{_≡_, refl, sym}
-use Rattle.survey.specs.Places.{placeOf}
 use Rattle.survey.proofs.AllowedLaws.{place-4, place-5, place-other}
 use Rattle.survey.proofs.place_of.Statement.{statement}
 use Rattle.survey.proofs.place_of.Tie as tie

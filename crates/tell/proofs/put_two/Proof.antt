@@ -33,10 +33,11 @@ same-length c = search needs
 
 returns : tie.Need-returns
 returns c =
-    let s = c .before .before .before .before .before .before .before .before .before in
+    let d = c .before .before .before .before .before .before in
+    let s = d .before .before .before in
     let a = s .args in
     let l0 = left-parts (now (a .out)) (a .at) (decimal (a .i) ++ second (a .j)) (two-parts (a .i) (a .j)) (s .pre) in
-    let l1 = part-put (decimal (a .i)) (second (a .j)) l0 (c .before .before .before .before .before .before .put-decimal .ensures) in
+    let l1 = part-put (decimal (a .i)) (second (a .j)) l0 (d .put-decimal .ensures) in
     left-none (part-put (comma ∷ decimal (a .j)) [] l1 (c .before .before .put-behind .ensures)) refl
 
 pub put-two-spec : {M : Type 1} → statement M
