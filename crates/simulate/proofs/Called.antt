@@ -1,5 +1,5 @@
 -- From the answer of the checks to that of the call, and from the last round to the lent values.
-use mathlib.Core.Path.{_≡_, refl, sym, _∙_, ap, subst}
+use mathlib.Core.Path.{_≡_, refl, sym, _∙_, ap, ap₂, subst}
 use mathlib.Core.Bool.{Bool, true, false, not, cond}
 use mathlib.Core.Option.{Option, none, some}
 use mathlib.Core.List.{List, [], _∷_}
@@ -9,7 +9,7 @@ use borrow.Author.Tests.{lt-ltb, le-ltb, eq-eqb, ne-eqb}
 use lib.ListN.{length}
 use lib.IntN.{ℤ}
 use lib.Dec.{eqb, ltb}
-use Rattle.laws.specs.Search.{orElse}
+use Rattle.laws.specs.Search.{when, orElse}
 use Rattle.answer.specs.Limits.{maxClocks, maxBudget, noState}
 use Rattle.answer.specs.Told.{Told, tell, told, Answer, answered, refused, asRefused, saysChecked, saysEnded}
 use Rattle.answer.specs.declared.Refusal.{Refusal}
@@ -32,7 +32,7 @@ use Rattle.samples.specs.declared.Scanned.{Scanned}
 use Rattle.samples.specs.declared.Feed.{Feed}
 use Rattle.samples.specs.Text.{Scans}
 use Rattle.rounds.specs.Rounds.{Runnable, Runs, RunCall}
-use Rattle.simulation.specs.Simulate.{Simulation, eachFrom, andThen, simulateOf}
+use Rattle.simulation.specs.Simulate.{Supply, Simulation, eachFrom, andThen, simulateOf}
 use Rattle.simulation.specs.Samples.{samplesOf, recorded}
 use Rattle.simulation.specs.Call.{Simulating, putAt, putOut, lentFault, simulateWith, supplied, simulateText, SimulationAnswers}
 use Rattle.simulate.specs.Simulate.{refusedWith, PlayCall, SimulateCall}
@@ -47,10 +47,15 @@ refuses a f e q h was r i = subst (λ b. SimulationAnswers b was r was) (sym e) 
 })
 
 -- ---- 20 and 10 to 18
+-- the first of three faults, or what stands behind them
+abbrev behind : Option Told → Option Told → Option Told → Answer Simulating → Answer Simulating
+behind a b d x = elim (orElse a (orElse b d)) as (λ _. Answer Simulating) [ some t ↦ refused t | none ↦ x ]
+
 -- what `confluent` refuses the call refuses alike
 follows : (m : Model) (text : List ℕ) (n : ℕ) (was : List ℤ) (f : Told) → confluentOf m ≡ some f → simulateText m text n was ≡ refused f
 unfolding simulateText simulateWith
-follows m text n was f e = rw e
+follows m text n was f e =
+    ap (λ o. behind o (budgetFault n) (lentFault was) (andThen (supplied m text) (λ q. andThen (simulateOf m q n) (λ d. answered (putOut m was d))))) e
 
 module _ (t text : List ℕ) (n : ℕ) (was : List ℤ) (c : Checked) (check : Confluently t c) where
   pub refused-before : (q : Refusal) → c ≡ OfChecked.Refused q → (r : Simulated) → r ≡ refusedWith q → SimulateCall t text n was r was
@@ -66,25 +71,42 @@ module _ (t text : List ℕ) (n : ℕ) (was : List ℤ) (c : Checked) (check : C
   goes-on e r vs a = rw (on-image t (λ m. simulateText m text n was) (image-exactly t .1 (runnable e .0 .image))) a
 
 -- ---- 22, 28 and 40
+budget-fine : (n : ℕ) → n ≤ maxBudget → budgetFault n ≡ none
+unfolding budgetFault
+budget-fine n h = ap (λ b. when b (tell 22 (0 ∷ []))) (le-ltb maxBudget n h)
+
 module _ (m : Model) (text : List ℕ) (n : ℕ) (was : List ℤ) (e : confluentOf m ≡ none) where
+  abbrev played : Answer Supply → Answer Simulating
+  played p = andThen p (λ q. andThen (simulateOf m q n) (λ d. answered (putOut m was d)))
+
+  by-faults : (a b : Option Told) → budgetFault n ≡ a → lentFault was ≡ b → simulateText m text n was ≡ behind none a b (played (supplied m text))
+  unfolding simulateText simulateWith
+  by-faults a b ea eb =
+      ap (λ o. behind o (budgetFault n) (lentFault was) (played (supplied m text))) e
+      ∙ ap₂ (λ o k. behind none o k (played (supplied m text))) ea eb
+
   is-22 : maxBudget < n → simulateText m text n was ≡ refused (tell 22 (0 ∷ []))
-  unfolding simulateText simulateWith budgetFault
-  is-22 h = rw (e, lt-ltb maxBudget n h)
+  unfolding budgetFault
+  is-22 h = by-faults (some (tell 22 (0 ∷ []))) (lentFault was) (ap (λ b. when b (tell 22 (0 ∷ []))) (lt-ltb maxBudget n h)) refl
 
   module _ (h : n ≤ maxBudget) where
     is-28 : (length was ≡ maxClocks → ⊥) → simulateText m text n was ≡ refused (tell 28 (0 ∷ []))
-    unfolding simulateText simulateWith budgetFault lentFault
-    is-28 k = rw (e, le-ltb maxBudget n h, ne-eqb (length was) maxClocks k)
+    unfolding lentFault
+    is-28 k = by-faults none (some (tell 28 (0 ∷ []))) (budget-fine n h) (ap (λ b. when (not b) (tell 28 (0 ∷ []))) (ne-eqb (length was) maxClocks k))
 
     module _ (k : length was ≡ maxClocks) where
+      no-fault : simulateText m text n was ≡ played (supplied m text)
+      unfolding lentFault
+      no-fault = by-faults none none (budget-fine n h) (ap (λ b. when (not b) (tell 28 (0 ∷ []))) (eq-eqb (length was) maxClocks k))
+
       is-40 : (f : Told) → samplesOf (declared m) text ≡ refused f → simulateText m text n was ≡ refused f
-      unfolding simulateText simulateWith budgetFault lentFault supplied
-      is-40 f s = rw (e, le-ltb maxBudget n h, eq-eqb (length was) maxClocks k, s)
+      unfolding supplied
+      is-40 f s = no-fault ∙ ap (λ o. played (andThen o (λ ls. answered (recorded ls)))) s
 
       is-simulated : (ls : List (List ℕ)) → samplesOf (declared m) text ≡ answered ls
           → simulateText m text n was ≡ andThen (simulateOf m (recorded ls) n) (λ d. answered (putOut m was d))
-      unfolding simulateText simulateWith budgetFault lentFault supplied
-      is-simulated ls s = rw (e, le-ltb maxBudget n h, eq-eqb (length was) maxClocks k, s)
+      unfolding supplied
+      is-simulated ls s = no-fault ∙ ap (λ o. played (andThen o (λ ls. answered (recorded ls)))) s
 
   pub told-22 : maxBudget < n → (r : Simulated) → r ≡ refusedWith (record { number = 22; place = OfPlace.Whole }) → SimulationAnswers (simulateText m text n was) was r was
   unfolding told
@@ -126,12 +148,13 @@ module _ (m : Model) (text : List ℕ) (n : ℕ) (was : List ℤ) (e : confluent
 
 -- ---- the rounds played, and the values put out
 module _ (t text : List ℕ) (n : ℕ) (f : Feed) (was us : List ℤ) (r : Simulated) (run : RunCall t text n f r us) where
-  pub put-out : (k : ℕ) → r .ended ≡ OfEnded.Rounds k → (vs : List ℤ) → vs ≡ eachFrom (putAt (declared (modelOf t)) us) 0 was → PlayCall t text n f was r vs
+  pub put-out : (k : ℕ) → r .ended ≡ OfEnded.Rounds k → (d : ℕ) → d ≡ declared (modelOf t) → (vs : List ℤ) → vs ≡ eachFrom (putAt d us) 0 was
+      → PlayCall t text n f was r vs
   unfolding saysEnded putOut
-  put-out k e vs v ls b = go (simulateOf (modelOf t) (recorded ls) n) (run ls b)
+  put-out k e d h vs v ls b = go (simulateOf (modelOf t) (recorded ls) n) (run ls b)
     where
       go : (o : Answer Simulation) → Runs o r us → SimulationAnswers (andThen o (λ d. answered (putOut (modelOf t) was d))) was r vs
-      go (answered d) i = record { ended = i .ended; state = i .state; values = v ∙ ap (λ l. eachFrom (putAt (declared (modelOf t)) l) 0 was) (i .values) }
+      go (answered o) i = record { ended = i .ended; state = i .state; values = v ∙ ap₂ (λ k l. eachFrom (putAt k l) 0 was) h (i .values) }
       go (refused g) i = let q : some (answered k) ≡ some (refused g) = ap saysEnded (sym e) ∙ i .ended in let z : _≡_ {A = ℕ} 0 1 = cc in absurd (omega arith)
 
   pub put-none : (q : Refusal) → r .ended ≡ OfEnded.Refused q → PlayCall t text n f was r was
