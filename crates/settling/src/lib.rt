@@ -1,4 +1,5 @@
 // Steps and settling in a model that is accepted, from a state of it: the checks are the caller's.
+use answer::Model;
 use answer::Outcome;
 use answer::Place;
 use answer::Refusal;
@@ -119,17 +120,17 @@ pub fn untraced(t: &[u64], x: State, budget: usize) -> Settled
     let n = x.count;
     let mut parts = x.parts;
     let mut resets = 0u64;
-    let mut steps = 0usize;
-    while steps < budget {
+    let mut taken = 0usize;
+    while taken < budget {
         let a = moves::lowest_of(t, &parts, n);
-        if answer::Model::ACTIONS as u64 <= a {
-            return ended(t, State { count: n, parts }, steps, resets);
+        if Model::ACTIONS as u64 <= a {
+            return ended(t, State { count: n, parts }, taken, resets);
         }
-        let more = moves::move_in(t, &mut parts, n, a);
-        resets = sets::union(resets, more);
-        steps += 1;
+        let reset = moves::move_in(t, &mut parts, n, a);
+        resets = sets::union(resets, reset);
+        taken += 1;
     }
-    ended(t, State { count: n, parts }, steps, resets)
+    ended(t, State { count: n, parts }, taken, resets)
 }
 
 // Settling by a list: the listed actions in order.

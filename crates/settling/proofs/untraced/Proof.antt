@@ -14,11 +14,11 @@ use Rattle.settling.proofs.untraced.Statement.{statement}
 use Rattle.settling.proofs.untraced.Tie as tie
 
 abbrev Inv-loop : tie.InvT-loop
-Inv-loop t budget n parts₀ resets₀ steps₀ parts resets steps =
-    (length parts ≡ maxComponents) × (trace : List ℕ) × Runs t budget (holding n parts₀) (replicate budget 0) (holding n parts) resets steps trace
+Inv-loop t budget n parts₀ resets₀ taken₀ parts resets taken =
+    (length parts ≡ maxComponents) × (trace : List ℕ) × Runs t budget (holding n parts₀) (replicate budget 0) (holding n parts) resets taken trace
 
 abbrev μ-loop : tie.MeasureT-loop
-μ-loop t budget n parts₀ resets₀ steps₀ parts resets steps = budget - steps
+μ-loop t budget n parts₀ resets₀ taken₀ parts resets taken = budget - taken
 
 loop-holds : tie.Need-loop-holds Inv-loop μ-loop
 loop-holds c =
@@ -54,8 +54,8 @@ move-in-requires c κs = let l = c .before .before .before .before .before .loop
 union-requires : tie.Need-union-requires Inv-loop μ-loop
 union-requires c κs = search needs
 
-add-steps : tie.Need-add-steps Inv-loop μ-loop
-add-steps c = search needs
+add-taken : tie.Need-add-taken Inv-loop μ-loop
+add-taken c = search needs
 
 loop-less : tie.Need-loop-less Inv-loop μ-loop
 loop-less c = search needs
@@ -95,7 +95,7 @@ untraced-spec =
     slice-aggregate-move-in
     move-in-requires
     union-requires
-    add-steps
+    add-taken
     loop-less
     loop-again
     ended-requires-2
