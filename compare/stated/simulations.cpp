@@ -425,6 +425,21 @@ void without_end() {
   expect_refused("and with a sample too few before it", counting, "5" + repeated(" 7", most - 1) + ";", most, 41, 5);
 }
 
+// A round of 1,016 urgent steps settles: eight components that go through 128 states each, and reset their clock with every step.
+void a_long_round() {
+  Text text, samples;
+  Values values;
+  for (unsigned c = 0; c < 8; ++c) {
+    const Text number = std::to_string(c);
+    text += "comp 128 0\nact " + number + " uout\nclk " + number + " 0\n";
+    for (unsigned s = 0; s < 127; ++s) text += "row " + std::to_string(s) + " - " + number + " " + number + " " + std::to_string(s + 1) + "\n";
+    samples += number + " " + std::to_string(c + 1) + ";";
+    values.push_back({c, c + 1});
+  }
+  expect_done("1,016 steps in round 0", image(tabbed(text)), samples, most, 0, Bytes(8, 127), values);
+  expect_refused("and a sample lacks", image(tabbed(text)), samples.substr(0, samples.size() - 3) + ";", 0, 41, 7);
+}
+
 // Quiet ends a simulation, and its round does not count.
 void quiet_rounds() {
   const Table rests = image(tabbed("comp 3 0\nact 0 out\nclk 8 1\nrow 0 8 0 8 1\nrow 1 8 0 - 2\n"));
@@ -496,6 +511,7 @@ void stated_simulations() {
   samples_of_a_round();
   ties();
   without_end();
+  a_long_round();
   quiet_rounds();
   ends_of_the_range();
   full_size();
