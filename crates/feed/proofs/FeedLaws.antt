@@ -44,7 +44,7 @@ module _ (t : List ℕ) (w x at : ℕ) where
 
   module _ (member : has w x ≡ true) (r : NumberScan) (scan : gotNumber t r ≡ field sampleAt (drop at t)) where
     -- ---- a sample stands there
-    module _ (n : ℕ) (next : Cursor) (e : r ≡ OfNumber.Is n next) where
+    module _ (n : ℕ) (next : Cursor) (e : r ≡ OfNumber.Is next n) where
       read : field sampleAt (drop at t) ≡ got n (drop (next .at) t)
       read = sym scan ∙ ap (gotNumber t) e
 
@@ -66,7 +66,7 @@ module _ (t : List ℕ) (w x at : ℕ) where
       }
 
     -- ---- none stands there
-    module _ (m : Cursor) (e : r ≡ OfNumber.Missing m) where
+    module _ (m : Cursor) (v : ℕ) (e : r ≡ OfNumber.Missing m v) where
       nothing : field sampleAt (drop at t) ≡ stops (drop (m .at) t)
       nothing = sym scan ∙ ap (gotNumber t) e
 

@@ -21,7 +21,7 @@ fn lacks_one(text: &[u8], w: u64, x: u64, at: usize) -> bool
     if sets::has(w, x) {
         match samples::next(text, Cursor { at }) {
             NumberScan::Is(_, _) => false,
-            NumberScan::Missing(_) => true,
+            NumberScan::Missing(_, _) => true,
         }
     } else {
         false
@@ -53,11 +53,11 @@ fn fed_one(text: &[u8], w: u64, x: u64, at: usize, z: i64) -> Taken
 {
     if sets::has(w, x) {
         match samples::next(text, Cursor { at }) {
-            NumberScan::Is(n, d) => Taken {
+            NumberScan::Is(d, n) => Taken {
                 value: n as i64,
                 at: d.at,
             },
-            NumberScan::Missing(_) => Taken { value: z, at },
+            NumberScan::Missing(_, _) => Taken { value: z, at },
         }
     } else {
         Taken { value: z, at }

@@ -76,15 +76,15 @@ module _ (t : List ℕ) (at₀ at : ℕ) (w : Turns t at₀ at) where
   turns-lf h e = sym (ap done (at-lf (w .turns) (drop at t) (drop (at + 1) t) (byte-here t at lf h e))) ∙ w .same
 
   module _ (h : at < length t) (e : getD t at 0 ≡ lf → ⊥) (r : NumberScan) (scan : gotNumber t r ≡ field sampleAt (drop at t)) where
-    pub turns-missing : (m : Cursor) → r ≡ OfNumber.Missing m → stops (drop (m .at) t) ≡ done (samplesAt (length (drop at₀ t)) (drop at₀ t))
-    turns-missing m q = go (w .turns) (w .enough) (w .same)
+    pub turns-missing : (m : Cursor) (v : ℕ) → r ≡ OfNumber.Missing m v → stops (drop (m .at) t) ≡ done (samplesAt (length (drop at₀ t)) (drop at₀ t))
+    turns-missing m v q = go (w .turns) (w .enough) (w .same)
       where
         go : (k : ℕ) → length (drop at t) ≤ k → done (samplesAt k (drop at t)) ≡ done (samplesAt (length (drop at₀ t)) (drop at₀ t))
             → stops (drop (m .at) t) ≡ done (samplesAt (length (drop at₀ t)) (drop at₀ t))
         go zero l s = absurd (omega (arith, length-drop at t))
         go (suc k) l s = sym (ap done (at-stop k (drop at t) (drop at t) (drop (m .at) t) (byte-other t at lf h e) (sym scan ∙ ap (gotNumber t) q))) ∙ s
 
-    module _ (n : ℕ) (next : Cursor) (q : r ≡ OfNumber.Is n next) where
+    module _ (n : ℕ) (next : Cursor) (q : r ≡ OfNumber.Is next n) where
       read : field sampleAt (drop at t) ≡ got n (drop (next .at) t)
       read = sym scan ∙ ap (gotNumber t) q
 

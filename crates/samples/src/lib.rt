@@ -27,14 +27,14 @@ fn ticking(scan: NumberScan, c: Cursor) -> NumberScan
     ensures { λ r. ⌜ ((t : List ℕ) → gotNumber t r ≡ gotTicks (gotNumber t scan) (drop (c .at) t)) ⌝ }
 {
     match scan {
-        NumberScan::Is(n, d) => {
+        NumberScan::Is(d, n) => {
             if n <= State::TICKS as u64 {
-                NumberScan::Is(n, d)
+                NumberScan::Is(d, n)
             } else {
-                NumberScan::Missing(c)
+                NumberScan::Missing(c, 0)
             }
         }
-        NumberScan::Missing(e) => NumberScan::Missing(e),
+        NumberScan::Missing(e, _) => NumberScan::Missing(e, 0),
     }
 }
 
@@ -44,14 +44,14 @@ fn sample(text: &[u8], c: Cursor) -> NumberScan
 {
     let at = c.at;
     if text.len() <= at {
-        return NumberScan::Missing(c);
+        return NumberScan::Missing(c, 0);
     }
     let b = text[at];
     if !fields::is_digit(b) {
-        return NumberScan::Missing(c);
+        return NumberScan::Missing(c, 0);
     }
     if b == Sign::ZERO {
-        return NumberScan::Missing(c);
+        return NumberScan::Missing(c, 0);
     }
     let digits = fields::more_digits(text, (b - Sign::ZERO) as u64, Cursor { at: at + 1 }, DIGITS);
     ticking(digits, c)
@@ -63,7 +63,7 @@ pub fn next(text: &[u8], c: Cursor) -> NumberScan
 {
     match fields::byte(text, c, Sign::TAB) {
         Step::Past(d) => sample(text, d),
-        Step::Missing(e) => NumberScan::Missing(e),
+        Step::Missing(e) => NumberScan::Missing(e, 0),
     }
 }
 
@@ -77,10 +77,10 @@ fn all_samples(text: &[u8], c: Cursor) -> Step
             return Step::Past(Cursor { at: at + 1 });
         }
         match next(text, Cursor { at }) {
-            NumberScan::Is(_, d) => {
+            NumberScan::Is(d, _) => {
                 at = d.at;
             }
-            NumberScan::Missing(e) => {
+            NumberScan::Missing(e, _) => {
                 return Step::Missing(e);
             }
         }
@@ -99,7 +99,7 @@ fn line_of(text: &[u8], x: u64, c: Cursor) -> Line
     ensures { λ r. ⌜ LineGives x (now (text .entry)) (c .at) r ⌝ }
 {
     match fields::number(text, c) {
-        NumberScan::Is(n, d) => {
+        NumberScan::Is(d, n) => {
             if n == x {
                 match all_samples(text, d) {
                     Step::Past(e) => Line::Is(d, e),
@@ -109,7 +109,7 @@ fn line_of(text: &[u8], x: u64, c: Cursor) -> Line
                 Line::Missing
             }
         }
-        NumberScan::Missing(_) => Line::Missing,
+        NumberScan::Missing(_, _) => Line::Missing,
     }
 }
 

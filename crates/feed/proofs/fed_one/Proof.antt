@@ -14,15 +14,15 @@ has-requires c κs = search needs
 next-requires : tie.Need-next-requires
 next-requires c κs = search needs
 
-enum-known-n : tie.Need-enum-known-n
-enum-known-n c = search needs
+enum-known-d : tie.Need-enum-known-d
+enum-known-d c = search needs
 
 cast-t13 : tie.Need-cast-t13
 cast-t13 c =
     let n = c .before .before .before in
     let h = n .before .before in
     let a = h .before .before .args in
-    record { sfits = sample-small (now (a .text)) (a .w) (a .x) (a .at) (sym (h .has .ensures) ∙ n .before .if1 .taken) _ (n .next .ensures) _ _ (c .before .n .given .1) }
+    record { sfits = sample-small (now (a .text)) (a .w) (a .x) (a .at) (sym (h .has .ensures) ∙ n .before .if1 .taken) _ (n .next .ensures) _ _ (c .before .d .given .1) }
 
 enum-told : tie.Need-enum-told
 enum-told c = search needs
@@ -33,15 +33,15 @@ returns c =
     let h = n .before .before in
     let i = sym (h .has .ensures) ∙ n .before .if1 .taken in
     let a = h .before .before .args in
-    fed-in _ _ _ _ i _ (n .next .ensures) _ _ (c .before .n .given .1) _ _
-    (toZ-pos w64 _ (sample-small (now (a .text)) (a .w) (a .x) (a .at) i _ (n .next .ensures) _ _ (c .before .n .given .1)))
+    fed-in _ _ _ _ i _ (n .next .ensures) _ _ (c .before .d .given .1) _ _
+    (toZ-pos w64 _ (sample-small (now (a .text)) (a .w) (a .x) (a .at) i _ (n .next .ensures) _ _ (c .before .d .given .1)))
 
 returns-2 : tie.Need-returns-2
 returns-2 c =
     let n = c .before .before in
     let h = n .before .before in
     let s0 = h .before .before in
-    fed-none _ _ _ _ (sym (h .has .ensures) ∙ n .before .if1 .taken) _ (n .next .ensures) _ (c .enum-told .given .1) _ _ (toZ-ofZ w64 (s0 .args .z) (s0 .fits .z))
+    fed-none _ _ _ _ (sym (h .has .ensures) ∙ n .before .if1 .taken) _ (n .next .ensures) _ _ (c .enum-told .given .1) _ _ (toZ-ofZ w64 (s0 .args .z) (s0 .fits .z))
 
 returns-3 : tie.Need-returns-3
 returns-3 c =
@@ -54,7 +54,7 @@ fed-one-spec =
     (tie.spec
     has-requires
     next-requires
-    enum-known-n
+    enum-known-d
     cast-t13
     enum-told
     returns

@@ -27,7 +27,7 @@ returns-2 : tie.Need-returns-2
 returns-2 c =
     let n = c .before .before in
     let h = n .before .before in
-    lacks-so _ _ _ _ (sym (h .has .ensures) ∙ n .before .if1 .taken) _ (n .next .ensures) _ (c .enum-told2 .given .1)
+    lacks-so _ _ _ _ (sym (h .has .ensures) ∙ n .before .if1 .taken) _ (n .next .ensures) _ _ (c .enum-told2 .given .1)
 
 returns-3 : tie.Need-returns-3
 returns-3 c = lacks-out _ _ _ _ (sym (c .before .has .ensures) ∙ c .if1 .left)

@@ -50,7 +50,7 @@ returns-2 : tie.Need-returns-2 Inv-loop μ-loop
 returns-2 c =
     let n = c .before .before .before in
     let b = n .before in
-    turns-missing _ _ _ (b .before .before .before .loop .inv) (b .before .before .loop-test .taken) (b .if1 .left) _ (n .next .ensures) _ (c .before .e .given .1)
+    turns-missing _ _ _ (b .before .before .before .loop .inv) (b .before .before .loop-test .taken) (b .if1 .left) _ (n .next .ensures) _ _ (c .before .e .given .1)
 
 returns-3 : tie.Need-returns-3 Inv-loop μ-loop
 returns-3 c = turns-end _ _ _ (c .before .loop .inv) (c .loop-test .left)

@@ -10,8 +10,8 @@ use Rattle.samples.proofs.line_of.Tie as tie
 number-requires : tie.Need-number-requires
 number-requires c κs = search needs
 
-enum-known-n : tie.Need-enum-known-n
-enum-known-n c = search needs
+enum-known-d : tie.Need-enum-known-d
+enum-known-d c = search needs
 
 all-samples-requires : tie.Need-all-samples-requires
 all-samples-requires c κs = search needs
@@ -32,7 +32,7 @@ returns c =
     let m = i .before .before in
     let n = m .before .before in
     let t = now (n .before .before .args .text) in
-    line-good _ _ _ _ (m .n .given .0 .1 .0 .at) (sym (n .number .ensures) ∙ ap (gotNumber t) (m .n .given .1)) (i .if1 .taken) _ (sym (ap (past t) (c .before .e .given .1)) ∙ a .all-samples .ensures)
+    line-good _ _ _ _ (m .d .given .0 .0 .at) (sym (n .number .ensures) ∙ ap (gotNumber t) (m .d .given .1)) (i .if1 .taken) _ (sym (ap (past t) (c .before .e .given .1)) ∙ a .all-samples .ensures)
 
 returns-2 : tie.Need-returns-2
 returns-2 c =
@@ -41,14 +41,14 @@ returns-2 c =
     let m = i .before .before in
     let n = m .before .before in
     let t = now (n .before .before .args .text) in
-    line-bad _ _ _ _ (m .n .given .0 .1 .0 .at) (sym (n .number .ensures) ∙ ap (gotNumber t) (m .n .given .1)) (i .if1 .taken) _ (sym (ap (past t) (c .enum-told .given .1)) ∙ a .all-samples .ensures)
+    line-bad _ _ _ _ (m .d .given .0 .0 .at) (sym (n .number .ensures) ∙ ap (gotNumber t) (m .d .given .1)) (i .if1 .taken) _ (sym (ap (past t) (c .enum-told .given .1)) ∙ a .all-samples .ensures)
 
 returns-3 : tie.Need-returns-3
 returns-3 c =
     let m = c .before .before in
     let n = m .before .before in
     let t = now (n .before .before .args .text) in
-    line-other _ _ _ _ (m .n .given .0 .1 .0 .at) (sym (n .number .ensures) ∙ ap (gotNumber t) (m .n .given .1)) (c .if1 .left)
+    line-other _ _ _ _ (m .d .given .0 .0 .at) (sym (n .number .ensures) ∙ ap (gotNumber t) (m .d .given .1)) (c .if1 .left)
 
 returns-4 : tie.Need-returns-4
 returns-4 c =
@@ -61,7 +61,7 @@ line-of-spec =
     tie.close
     (tie.spec
     number-requires
-    enum-known-n
+    enum-known-d
     all-samples-requires
     enum-known-e
     enum-told
