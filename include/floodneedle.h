@@ -19,7 +19,7 @@
  * start or where settling led to.
  *
  * Stack, in bytes, the deepest seen of each call (`make -C compare stack` measures it, and holds these numbers to it):
- *   recognise 240, check_text 768, read 1312, write 400, start 496, component 1568, compatible 656, accept 1872, confluent 2128, merge 2048,
+ *   recognise 240, check_text 728, read 1272, write 400, start 496, component 1568, compatible 656, accept 1872, confluent 2128, merge 2048,
  *   repair 368, step 2224, advance 2288, step_by 2016, settle 2736, settle_list 2688, timed_step 2048, simulate 0,
  *   report 70672 (it keeps a table of its own).
  *
