@@ -224,6 +224,16 @@ void floodneedle_settle_list(const uint64_t *table, size_t table_words, const ui
 void floodneedle_timed_step(const uint64_t *table, size_t table_words, const uint8_t *state, size_t parts,
                             int64_t *clocks, size_t clock_values, uint8_t after[FLOODNEEDLE_STATE], struct floodneedle_answer *answer);
 
+/* A simulation over recorded samples: round 0 settles the start and sets the starting clocks, then at most `rounds` later rounds do a timed
+ * step and settle again, each with a budget of 4,096; as a round ends, each clock set or reset in it takes the next sample of its own list.
+ * Done: `count` later rounds, fewer than asked for where no clock is waited for; `after` the state, zeros behind its parts; the values of the
+ * declared clocks in `clocks`, whose other places stay. What `clocks` holds before is not read.
+ * The samples are a text: a line for each declared clock, ascending: its number, then its samples, each behind a tab, 1 to 2^40, and LF.
+ * Refuses: as confluent, then 22 (rounds over 4,096), 28 (not 64 values), 40 (first bad line of the samples, or one past the last), then round
+ * by round 30 (lowest clock that shares the least value), 42 (the round that does not settle), 41 (lowest clock that has no sample left). */
+void floodneedle_simulate(const uint64_t *table, size_t table_words, const uint8_t *samples, size_t sample_bytes, uint64_t rounds,
+                          int64_t *clocks, size_t clock_values, uint8_t after[FLOODNEEDLE_STATE], struct floodneedle_answer *answer);
+
 /* Writes what the program `settle` prints for these bytes of standard input to the buffer's front; `count` is its length. What the program
  * refuses is a line that it prints, and no refusal here.
  * Refuses: 24 (bytes needed: FLOODNEEDLE_REPORT, whatever the input). */
