@@ -1,18 +1,14 @@
 -- One clock of a set, by whether a sample stands at its cursor.
 use mathlib.Core.Path.{_≡_, refl, sym, _∙_, ap, ap₂}
-use mathlib.Core.Bool.{Bool, true, false, _&&_, not, cond, true≢false}
-use mathlib.Core.Option.{Option, none, some}
+use mathlib.Core.Bool.{true, false, _&&_, not, cond, true≢false}
+use mathlib.Core.Option.{none, some}
 use mathlib.Core.List.{List, []}
-use Prim.Native.Nat.{ℕ, _^_, _≤_, _<_}
+use Prim.Native.Nat.{ℕ, _^_, _<_}
 use native.Mathlib.Omega.{arith}
 use lib.ListN.{drop, getD}
 use lib.IntN.{ℤ, pos}
-use mir.Val.{SFits, toZ}
-use mir.ValLaws.{toZ-pos}
-use mir.Syntax.{w64}
 use Rattle.laws.specs.Sets.{has}
 use Rattle.laws.specs.Search.{isSome}
-use Rattle.answer.specs.Limits.{maxTicks}
 use Rattle.iosa.specs.Reading.{Scan, is, stops, got, field}
 use Rattle.fields.specs.declared.Cursor.{Cursor}
 use Rattle.fields.specs.declared.NumberScan.{NumberScan}
@@ -22,8 +18,7 @@ use Rattle.simulation.specs.Simulate.{sampled, lacks}
 use Rattle.simulation.specs.Samples.{sampleAt}
 use Rattle.samples.specs.declared.Feed.{Feed}
 use Rattle.samples.proofs.SampleLaws.{field-is}
-use Rattle.feed.specs.declared.Taken.{Taken}
-use Rattle.feed.specs.Feeding.{valueIn, sampleIn, lacksAt, held, MovedOne, FedOne}
+use Rattle.feed.specs.Feeding.{valueIn, sampleIn, lacksAt, held, FedOne}
 
 abbrev restOr : Scan ℕ → List ℕ → List ℕ
 restOr (is g) cs = g .rest

@@ -1,9 +1,9 @@
 -- Cursors that stand at what is left of the lists supply what the lists do, and stand so again behind the samples taken.
-use mathlib.Core.Path.{_≡_, refl, sym, _∙_, ap, ap₂, subst}
+use mathlib.Core.Path.{_≡_, refl, sym, _∙_, ap, subst}
 use mathlib.Core.Bool.{Bool, true, false, _&&_, not, cond, true≢false}
 use mathlib.Core.Option.{Option, none, some}
 use mathlib.Core.List.{List, [], _∷_}
-use Prim.Native.Nat.{ℕ, zero, suc, _+_, _≤_, _<_}
+use Prim.Native.Nat.{ℕ, zero, suc, _≤_, _<_}
 use native.Mathlib.Decide.{decLt}
 use native.Mathlib.Numerals.{add-one}
 use native.Mathlib.Omega.{arith}
@@ -11,14 +11,13 @@ use borrow.Author.Tests.{not-false, le-leb}
 use lib.ListN.{length, getD, drop, length-replicate, getD-replicate}
 use lib.Seq.{ext-getD, drop-drop}
 use lib.IntN.{ℤ, pos}
-use lib.Signed.{leZ}
 use Rattle.laws.specs.Sets.{has, _∈_}
-use Rattle.laws.specs.Search.{isSome, least, Least}
+use Rattle.laws.specs.Search.{isSome, least}
 use Rattle.laws.proofs.SearchLaws.{least-none, least-some, none-least, some-least}
 use Rattle.laws.proofs.TestLaws.{and-false}
 use Rattle.answer.specs.Limits.{maxClocks, maxTicks}
 use Rattle.iosa.specs.Reading.{Scan, is, stops, got, field}
-use Rattle.iosa.specs.TimedExactly.{valueOf, floor}
+use Rattle.iosa.specs.TimedExactly.{valueOf}
 use Rattle.simulation.specs.Simulate.{eachFrom, takenBy, lacks, sampled, fedAt, countedAt, noneTaken}
 use Rattle.simulation.specs.Samples.{sampleAt, nth, recorded}
 use Rattle.simulation.proofs.Each.{each-length, each-at, each-beyond}
@@ -27,7 +26,7 @@ use Rattle.samples.specs.Lines.{Left, over, more}
 use Rattle.samples.specs.Text.{Feeds}
 use Rattle.samples.proofs.SampleLaws.{field-is}
 use Rattle.ticks.specs.Ticks.{Tick, Ticking}
-use Rattle.feed.specs.Feeding.{valueIn, sampleIn, held, MovedOne, Moved, Supplies}
+use Rattle.feed.specs.Feeding.{valueIn, sampleIn, held, Moved, Supplies}
 
 -- tests that agree below n have the same least place
 least-same : (f g : ℕ → Bool) (n : ℕ) → ((k : ℕ) → k < n → f k ≡ g k) → least f n ≡ least g n

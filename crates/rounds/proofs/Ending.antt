@@ -14,7 +14,6 @@ use Rattle.answer.specs.Limits.{maxClocks, maxBudget}
 use Rattle.answer.specs.Told.{Told, tell, told, Answer, answered, refused, asRefused, saysVerdict}
 use Rattle.answer.specs.declared.Place.the-variants as OfPlace
 use Rattle.answer.specs.declared.Refusal.{Refusal}
-use Rattle.answer.specs.declared.State.{State}
 use Rattle.answer.specs.declared.Settled.{Settled}
 use Rattle.answer.specs.declared.Verdict.the-variants as OfVerdict
 use Rattle.answer.specs.State.{partsOf}
@@ -25,13 +24,12 @@ use Rattle.iosa.specs.Settle.{settle}
 use Rattle.iosa.specs.Orders.{Settling}
 use Rattle.layout.specs.Image.{modelOf}
 use Rattle.layout.proofs.RowsOfRange.{well-formed}
-use Rattle.words.specs.Bytes.{stateOf}
-use Rattle.ticks.specs.Ticks.{Ticking, orNone}
+use Rattle.ticks.specs.Ticks.{orNone}
 use Rattle.settling.specs.Gives.{SettleGives}
-use Rattle.simulation.specs.Simulate.{Supply, Round, eachFrom, lacks, fedAt, fed, endOf, closeOf}
+use Rattle.simulation.specs.Simulate.{Supply, eachFrom, lacks, fedAt, fed, endOf, closeOf}
 use Rattle.simulation.specs.Samples.{recorded}
 use Rattle.samples.specs.declared.Feed.{Feed}
-use Rattle.feed.specs.Feeding.{held, Moved, Supplies}
+use Rattle.feed.specs.Feeding.{held, Moved}
 use Rattle.feed.proofs.Supplied.{same-least, same-fed, supplied-next, fed-ticking}
 use Rattle.rounds.specs.declared.Stand.{Stand}
 use Rattle.rounds.specs.declared.Closed.{Closed}

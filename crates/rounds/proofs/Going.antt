@@ -8,14 +8,14 @@ use native.Mathlib.Numerals.{add-one}
 use native.Mathlib.Omega.{arith}
 use lib.ListN.{length, replicate, length-replicate}
 use lib.IntN.{ℤ, pos}
-use Rattle.answer.specs.Limits.{maxClocks, maxComponents, noState}
+use Rattle.answer.specs.Limits.{maxClocks, maxComponents}
 use Rattle.answer.specs.Told.{Told, told, Answer, answered, refused, asRefused, Shot, fired, quiet, saysEnded}
 use Rattle.answer.specs.declared.Refusal.{Refusal}
 use Rattle.answer.specs.declared.State.{State}
 use Rattle.answer.specs.declared.Simulated.{Simulated}
 use Rattle.answer.specs.declared.Ended.the-variants as OfEnded
 use Rattle.answer.specs.State.{partsOf}
-use Rattle.iosa.specs.Model.{Model, declared}
+use Rattle.iosa.specs.Model.{Model}
 use Rattle.iosa.specs.Start.{startAll, startedAll}
 use Rattle.iosa.specs.Timed.{enablingAll, timedFrom}
 use Rattle.iosa.specs.TimedExactly.{Timing, valueOf}

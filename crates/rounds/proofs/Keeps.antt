@@ -1,14 +1,11 @@
 -- In an accepted model settling and a firing lead from a state to a state, and a firing from values in range to such.
 use mathlib.Core.Path.{_≡_, refl, sym, _∙_, ap, subst}
 use mathlib.Core.List.{List, [], _∷_}
-use Prim.Native.Nat.{ℕ, _<_, _≤_}
+use Prim.Native.Nat.{ℕ}
 use native.Mathlib.Omega.{arith}
-use lib.ListN.{length}
 use lib.IntN.{ℤ, pos}
-use Rattle.laws.specs.Sets.{_∈_}
 use Rattle.laws.proofs.TickLaws.{count-of}
-use Rattle.answer.specs.Limits.{maxClocks}
-use Rattle.answer.specs.Told.{tell, Answer, answered, refused, Shot, fired, quiet}
+use Rattle.answer.specs.Told.{tell, answered, refused, fired, quiet}
 use Rattle.iosa.specs.Model.{Model, declared}
 use Rattle.iosa.specs.WellFormed.{WellFormed}
 use Rattle.iosa.specs.Automaton.{Conforming, Joinable}

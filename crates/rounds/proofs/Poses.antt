@@ -1,5 +1,5 @@
 -- A state with zeros behind its parts, given other parts, has zeros behind them again; what is posed stays so.
-use mathlib.Core.Path.{_≡_, refl, sym, _∙_, ap, subst}
+use mathlib.Core.Path.{_≡_, sym, _∙_, ap}
 use mathlib.Core.Logic.{by-cases}
 use mathlib.Core.List.{List, _++_}
 use Prim.Native.Nat.{ℕ, _+_, _-_, _≤_, _<_}
@@ -17,7 +17,7 @@ use Rattle.iosa.specs.Model.{Model, declared}
 use Rattle.iosa.specs.Product.{Within}
 use Rattle.iosa.specs.TimedExactly.{InTicks}
 use Rattle.iosa.proofs.Settling.Parts.{within-length}
-use Rattle.layout.specs.Image.{Image, modelOf}
+use Rattle.layout.specs.Image.{modelOf}
 use Rattle.words.specs.Bytes.{stateOf}
 use Rattle.words.proofs.Filled.{made}
 use Rattle.ticks.specs.Ticks.{Ticking}

@@ -1,6 +1,5 @@
 -- A later round, by what the timed step says.
 use mathlib.Core.Path.{_≡_, refl, sym, _∙_, ap, subst}
-use mathlib.Core.Bool.{Bool, true, false}
 use mathlib.Core.Option.{Option, none, some}
 use mathlib.Core.List.{List}
 use Prim.Native.Nat.{ℕ}
@@ -12,19 +11,17 @@ use Rattle.answer.specs.declared.State.{State}
 use Rattle.answer.specs.declared.Timed.{Timed}
 use Rattle.answer.specs.declared.Firing.the-variants as OfFiring
 use Rattle.answer.specs.State.{partsOf}
-use Rattle.iosa.specs.Model.{Model, declared}
+use Rattle.iosa.specs.Model.{Model}
 use Rattle.iosa.specs.Timed.{enablingAll, timedFrom}
 use Rattle.iosa.specs.TimedExactly.{Timing}
 use Rattle.layout.specs.Image.{modelOf}
 use Rattle.layout.proofs.RowsOfRange.{well-formed}
-use Rattle.ticks.specs.Ticks.{Ticking}
 use Rattle.firing.specs.Shots.{TimingGives, TimingAnswers, Armed}
 use Rattle.simulation.specs.Simulate.{Supply, Round, closeOf, andThen}
 use Rattle.simulation.specs.Samples.{recorded}
-use Rattle.feed.specs.Feeding.{Supplies}
 use Rattle.rounds.specs.declared.Stand.{Stand}
 use Rattle.rounds.specs.declared.Closed.{Closed}
-use Rattle.rounds.specs.declared.Closing.the-variants.{Done, Quiet, Refused}
+use Rattle.rounds.specs.declared.Closing.the-variants.{Quiet, Refused}
 use Rattle.rounds.specs.Rounds.{saysClosing, Posed, Closes, laterOf, Later, CloseCall, LaterCall}
 use Rattle.rounds.proofs.Keeps.{Kept, shot-keeps}
 use Rattle.rounds.proofs.Poses.{ticking-in, in-ticking, posed-parts, posed-with, posed-again}

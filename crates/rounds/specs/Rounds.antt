@@ -3,7 +3,7 @@ use mathlib.Core.Path.{_≡_}
 use mathlib.Core.Bool.{Bool, true, false}
 use mathlib.Core.Option.{Option, none, some}
 use mathlib.Core.List.{List}
-use Prim.Native.Nat.{ℕ, suc}
+use Prim.Native.Nat.{ℕ}
 use lib.IntN.{ℤ}
 use Rattle.answer.specs.Limits.{noState}
 use Rattle.answer.specs.Told.{Told, told, Answer, answered, refused, asRefused, fired, quiet, saysEnded}
@@ -15,7 +15,6 @@ use Rattle.answer.specs.declared.Simulated.{Simulated}
 use Rattle.iosa.specs.Model.{Model, declared}
 use Rattle.iosa.specs.Automaton.{Conforming, Joinable}
 use Rattle.iosa.specs.Timed.{timedFrom, enablingAll}
-use Rattle.iosa.specs.TimedExactly.{Timing}
 use Rattle.layout.specs.Image.{Image, modelOf}
 use Rattle.words.specs.Bytes.{stateOf}
 use Rattle.ticks.specs.Ticks.{Ticking}

@@ -6,18 +6,16 @@ use Prim.Native.Nat.{ℕ, zero, suc, _+_, _-_, _≤_, _<_}
 use native.Mathlib.Nat.{le-refl}
 use native.Mathlib.Omega.{arith}
 use lib.ListN.{length, getD, drop, drop-of-length-le, length-drop}
-use lib.Dec.{eqb, leb}
+use lib.Dec.{eqb}
 use borrow.Author.Tests.{eq-eqb, ne-eqb, eqb-true}
-use Rattle.answer.specs.Limits.{maxTicks, maxTickDigits}
-use Rattle.iosa.specs.Text.{byte0, lf, tab}
-use Rattle.iosa.specs.Reading.{Got, Scan, is, stops, got, then, exactly, theByte, field, isDigit, moreDigits, number}
-use Rattle.fields.proofs.ScanLaws.{front, exactly-end, exactly-stop, byte-here, byte-other, byte-end, then-stops, then-is}
-use Rattle.fields.proofs.NumberLaws.{more-shortens}
+use Rattle.iosa.specs.Text.{lf, tab}
+use Rattle.iosa.specs.Reading.{Scan, is, stops, got, then, exactly, theByte, field, number}
+use Rattle.fields.proofs.ScanLaws.{exactly-end, exactly-stop, byte-here, byte-other, then-stops, then-is}
 use Rattle.fields.specs.declared.Cursor.{Cursor}
 use Rattle.fields.specs.declared.NumberScan.{NumberScan}
 use Rattle.fields.specs.declared.NumberScan.the-variants as OfNumber
 use Rattle.fields.specs.Fields.{gotNumber}
-use Rattle.simulation.specs.Samples.{ticking, sampleAt, samplesAt, lineAt}
+use Rattle.simulation.specs.Samples.{sampleAt, samplesAt, lineAt}
 use Rattle.samples.specs.Lines.{done, Left, over, more, LineIs, LineBad}
 use Rattle.samples.proofs.SampleLaws.{sample-shortens}
 

@@ -1,19 +1,19 @@
 -- A sample at a cursor, by the byte there.
-use mathlib.Core.Path.{_≡_, refl, sym, _∙_, ap}
+use mathlib.Core.Path.{_≡_, refl, sym}
 use mathlib.Core.Bool.{Bool, true, false, cond}
 use mathlib.Core.List.{List, [], _∷_}
 use Prim.Native.Nat.{ℕ, zero, suc, _+_, _*_, _-_, _≤_, _<_}
 use native.Mathlib.Omega.{arith}
-use lib.ListN.{length, getD, drop, drop-of-length-le, length-drop}
+use lib.ListN.{length, getD, drop, drop-of-length-le}
 use lib.Dec.{eqb, leb}
-use borrow.Author.Tests.{eq-eqb, ne-eqb, leb-true, eqb-true, eqb-false}
+use borrow.Author.Tests.{eq-eqb, ne-eqb, leb-true, eqb-false}
 use Rattle.answer.specs.Limits.{maxTicks, maxTickDigits}
-use Rattle.iosa.specs.Text.{byte0, lf, tab}
-use Rattle.iosa.specs.Reading.{Got, Scan, is, stops, got, then, exactly, theByte, field, isDigit, moreDigits, number}
-use Rattle.fields.proofs.ScanLaws.{front, is-digit, exactly-nil}
+use Rattle.iosa.specs.Text.{byte0, tab}
+use Rattle.iosa.specs.Reading.{Got, Scan, is, stops, got, then, exactly, field, isDigit, moreDigits, number}
+use Rattle.fields.proofs.ScanLaws.{front, is-digit}
 use Rattle.fields.proofs.NumberLaws.{more-shortens}
-use Rattle.simulation.specs.Samples.{ticking, sampleAt, samplesAt, lineAt}
-use Rattle.samples.specs.Lines.{gotTicks, done, Left, over, more}
+use Rattle.simulation.specs.Samples.{ticking, sampleAt}
+use Rattle.samples.specs.Lines.{gotTicks}
 
 sample-nil : sampleAt [] ≡ stops []
 unfolding sampleAt

@@ -1,10 +1,9 @@
 -- The whole text, clock by clock: the lists found so far, before those of the clocks to come, are all lists.
 use mathlib.Core.Path.{_≡_, refl, sym, _∙_, ap, ap₂, subst}
 use mathlib.Core.Logic.{by-cases}
-use mathlib.Core.Option.{some}
-use mathlib.Core.Bool.{Bool, true, false}
+use mathlib.Core.Bool.{true, false}
 use mathlib.Core.List.{List, [], _∷_, _++_, append-nil}
-use Prim.Native.Nat.{ℕ, zero, suc, _+_, _-_, _≤_, _<_}
+use Prim.Native.Nat.{ℕ, suc, _+_, _-_, _≤_, _<_}
 use native.Mathlib.Decide.{ℕ-discrete}
 use native.Mathlib.Numerals.{add-one}
 use native.Mathlib.Omega.{arith}
@@ -13,16 +12,16 @@ use lib.Seq.{append-snoc, getD-append-add, getD-set-same, getD-set-other}
 use Rattle.laws.specs.Sets.{has}
 use Rattle.answer.specs.Limits.{maxClocks}
 use Rattle.answer.specs.Told.{tell, told, Answer, answered, refused, saysChecked}
-use Rattle.iosa.specs.Reading.{Scan, is, stops, got, field}
-use Rattle.fields.proofs.ScanLaws.{front, then-stops, exactly-end}
+use Rattle.iosa.specs.Reading.{stops, got}
+use Rattle.fields.proofs.ScanLaws.{front}
 use Rattle.simulation.specs.Simulate.{andThen}
-use Rattle.simulation.specs.Samples.{sampleAt, lineAt, listsFrom, samplesOf}
+use Rattle.simulation.specs.Samples.{lineAt, listsFrom, samplesOf}
 use Rattle.samples.specs.declared.Feed.{Feed}
 use Rattle.samples.specs.declared.Spot.{Spot}
 use Rattle.samples.specs.declared.Scanned.{Scanned}
 use Rattle.answer.specs.declared.Checked.the-variants as OfChecked
 use Rattle.samples.specs.Lines.{Left, over, LineBad}
-use Rattle.samples.specs.Text.{Begun, in-line, no-line, badLine, Feeds, Scans}
+use Rattle.samples.specs.Text.{Begun, in-line, no-line, badLine, Scans}
 use Rattle.samples.proofs.LineLaws.{field-nil}
 
 -- ---- one clock

@@ -7,7 +7,7 @@ use lib.ListN.{length, getD, drop}
 use mathlib.Core.Bool.{true, false}
 use Rattle.laws.specs.Sets.{has}
 use Rattle.answer.specs.Limits.{maxClocks}
-use Rattle.answer.specs.Told.{Told, Answer, answered, refused, saysChecked}
+use Rattle.answer.specs.Told.{Answer, answered, refused, saysChecked}
 use Rattle.answer.specs.declared.Checked.the-variants as OfChecked
 use Rattle.answer.specs.declared.Place.the-variants as OfPlace
 use Rattle.samples.specs.declared.Feed.{Feed}

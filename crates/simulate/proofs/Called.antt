@@ -1,6 +1,6 @@
 -- From the answer of the checks to that of the call, and from the last round to the lent values.
 use mathlib.Core.Path.{_≡_, refl, sym, _∙_, ap, ap₂, subst}
-use mathlib.Core.Bool.{Bool, true, false, not, cond}
+use mathlib.Core.Bool.{not}
 use mathlib.Core.Option.{Option, none, some}
 use mathlib.Core.List.{List, [], _∷_}
 use Prim.Native.Nat.{ℕ, _≤_, _<_}
@@ -8,9 +8,8 @@ use native.Mathlib.Omega.{arith}
 use borrow.Author.Tests.{lt-ltb, le-ltb, eq-eqb, ne-eqb}
 use lib.ListN.{length}
 use lib.IntN.{ℤ}
-use lib.Dec.{eqb, ltb}
 use Rattle.laws.specs.Search.{when, orElse}
-use Rattle.answer.specs.Limits.{maxClocks, maxBudget, noState}
+use Rattle.answer.specs.Limits.{maxClocks, maxBudget}
 use Rattle.answer.specs.Told.{Told, tell, told, Answer, answered, refused, asRefused, saysChecked, saysEnded}
 use Rattle.answer.specs.declared.Refusal.{Refusal}
 use Rattle.answer.specs.declared.Checked.{Checked}
@@ -21,8 +20,8 @@ use Rattle.answer.specs.declared.Simulated.{Simulated}
 use Rattle.iosa.specs.Model.{Model, declared}
 use Rattle.iosa.specs.Checks.{confluentOf}
 use Rattle.iosa.specs.Settle.{budgetFault}
-use Rattle.layout.specs.Image.{Image, modelOf}
-use Rattle.table.specs.OnTable.{onTable, checkOn}
+use Rattle.layout.specs.Image.{modelOf}
+use Rattle.table.specs.OnTable.{onTable}
 use Rattle.table.proofs.OnTableLaws.{on-image}
 use Rattle.table.proofs.CheckedLaws.{refused-tells, call-refuses}
 use Rattle.table.proofs.ImageExactly.{image-exactly}

@@ -1,9 +1,7 @@
 -- `feed::fed` meets its contract: the clocks below x are fed, the others stand as they were.
-use mathlib.Core.Path.{_≡_, refl, sym, ap, _∙_}
 use Prim.Native.Nat.{_-_}
 use native.Mathlib.Omega.{arith}
 use borrow.Author.Needs.{needs}
-use lib.IntN.{ℤ}
 use mir.Syntax.{w64}
 use mir.ValLaws.{toZ-ofZ}
 use Rattle.answer.specs.Limits.{maxClocks}
@@ -11,9 +9,6 @@ use Rattle.iosa.specs.TimedExactly.{valueOf}
 use Rattle.feed.proofs.Filling.{Filling, filling-none, filling-more, filling-all}
 use Rattle.feed.proofs.fed.Statement.{statement}
 use Rattle.feed.proofs.fed.Tie as tie
-use Rattle.feed.proofs.fed.Reads as reads
-use Rattle.feed.proofs.fed.Lts as lts
-use Rattle.feed.proofs.fed_one.Reads as fed-one-reads
 
 abbrev Inv-loop : tie.InvT-loop
 Inv-loop text w values₀ f next₀ x₀ values next x = Filling text w f values₀ x next values

@@ -1,5 +1,5 @@
 -- `feed::lacks_one` meets its contract.
-use mathlib.Core.Path.{_≡_, sym, _∙_}
+use mathlib.Core.Path.{sym, _∙_}
 use borrow.Author.Needs.{needs}
 use Rattle.feed.proofs.FeedLaws.{lacks-out, lacks-not, lacks-so}
 use Rattle.feed.proofs.lacks_one.Statement.{statement}

@@ -1,5 +1,5 @@
 -- `rounds::close` meets its contract.
-use mathlib.Core.Path.{_≡_, refl}
+use mathlib.Core.Path.{refl}
 use denote.Ref.{now}
 use borrow.Author.Needs.{needs}
 use Rattle.rounds.proofs.Ending.{closes-stable, closes-42, closes-not}

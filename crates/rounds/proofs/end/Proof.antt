@@ -1,5 +1,5 @@
 -- `rounds::end` meets its contract.
-use mathlib.Core.Path.{_≡_, refl}
+use mathlib.Core.Path.{refl}
 use borrow.Author.Needs.{needs}
 use Rattle.rounds.proofs.Ending.{ends-41, ends-fed}
 use Rattle.rounds.proofs.end.Statement.{statement}

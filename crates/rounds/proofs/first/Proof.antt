@@ -1,5 +1,5 @@
 -- `rounds::first` meets its contract.
-use mathlib.Core.Path.{_≡_, _∙_}
+use mathlib.Core.Path.{_∙_}
 use borrow.Author.Needs.{needs}
 use Rattle.layout.proofs.ImageIsSane.{image-long, count-below}
 use Rattle.layout.proofs.JoinedInModel.{started-joined}

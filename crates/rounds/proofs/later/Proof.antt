@@ -1,5 +1,5 @@
 -- `rounds::later` meets its contract.
-use mathlib.Core.Path.{_≡_, refl}
+use mathlib.Core.Path.{refl}
 use denote.Ref.{now}
 use borrow.Author.Needs.{needs}
 use Rattle.rounds.proofs.Turning.{armed, fired-posed, later-closes, later-rests, later-told}

@@ -1,7 +1,6 @@
 -- `rounds::later_rounds` meets its contract: what is left from here on is what is left from round 0 on.
-use mathlib.Core.Path.{_≡_, refl, sym, _∙_}
+use mathlib.Core.Path.{refl, sym, _∙_}
 use Prim.Native.Nat.{_-_}
-use native.Mathlib.Omega.{arith}
 use borrow.Author.Needs.{needs}
 use Rattle.rounds.proofs.Going.{Going, going-none, going-more, going-quiet, going-refused, going-end}
 use Rattle.rounds.proofs.later_rounds.Statement.{statement}

@@ -1,8 +1,7 @@
 -- `rounds::refused` meets its contract.
-use mathlib.Core.Path.{_≡_, ap}
+use mathlib.Core.Path.{ap}
 use borrow.Author.Needs.{needs}
 use Rattle.answer.specs.declared.State.{State}
-use Rattle.answer.specs.declared.Simulated.{Simulated}
 use Rattle.answer.specs.declared.Ended.the-variants as OfEnded
 use Rattle.rounds.proofs.refused.Statement.{statement}
 use Rattle.rounds.proofs.refused.Tie as tie

@@ -1,5 +1,4 @@
 -- `rounds::run` meets its contract.
-use mathlib.Core.Path.{_≡_}
 use borrow.Author.Needs.{needs}
 use Rattle.rounds.proofs.Going.{run-on, run-not, run-refused}
 use Rattle.rounds.proofs.run.Statement.{statement}

@@ -1,6 +1,5 @@
 -- `samples::all_samples` meets its contract. The loop's invariant: what the samples from here on come to is what all of them do.
 use Prim.Native.Nat.{_-_}
-use native.Mathlib.Omega.{arith}
 use borrow.Author.Needs.{needs}
 use lib.ListN.{length}
 use Rattle.samples.proofs.LineLaws.{Turns, turns-none, turns-end, turns-lf, turns-missing, turns-less, turns-more}

@@ -1,5 +1,5 @@
 -- `samples::next` meets its contract.
-use mathlib.Core.Path.{_≡_, sym, _∙_, ap}
+use mathlib.Core.Path.{sym, _∙_, ap}
 use denote.Ref.{now}
 use Rattle.fields.specs.Fields.{past}
 use Rattle.fields.proofs.ScanLaws.{then-stops, then-is}

@@ -1,5 +1,5 @@
 -- `samples::scan` meets its contract: the lists found so far, before those of the clocks to come, are all lists.
-use mathlib.Core.Path.{_≡_, refl, subst}
+use mathlib.Core.Path.{refl, subst}
 use Prim.Native.Nat.{_-_}
 use native.Mathlib.Omega.{arith}
 use borrow.Author.Needs.{needs}
@@ -9,10 +9,6 @@ use Rattle.samples.specs.Text.{TurnGives}
 use Rattle.samples.proofs.TextLaws.{Between, between-none, between-more, bad-here, bad-behind, all-good}
 use Rattle.samples.proofs.scan.Statement.{statement}
 use Rattle.samples.proofs.scan.Tie as tie
-use Rattle.samples.proofs.scan.Reads as reads
-use Rattle.samples.proofs.scan.Lts as lts
-use Rattle.samples.proofs.turn_of.Reads as turn-of-reads
-use Rattle.samples.proofs.bad_line.Reads as bad-line-reads
 
 abbrev Inv-loop : tie.InvT-loop
 Inv-loop text d feed₀ p₀ x₀ feed p x = Between text d feed p x

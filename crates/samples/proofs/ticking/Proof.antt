@@ -1,11 +1,5 @@
 -- `samples::ticking` meets its contract.
-use mathlib.Core.Path.{_≡_, sym, ap, _∙_}
-use mathlib.Core.List.{List}
-use Prim.Native.Nat.{ℕ}
-use lib.ListN.{drop}
 use borrow.Author.Tests.{le-leb, lt-leb}
-use Rattle.fields.specs.Fields.{gotNumber}
-use Rattle.samples.specs.Lines.{gotTicks}
 use borrow.Author.Needs.{needs}
 use Rattle.samples.proofs.ticking.Statement.{statement}
 use Rattle.samples.proofs.ticking.Tie as tie

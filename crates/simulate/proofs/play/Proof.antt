@@ -1,5 +1,5 @@
 -- `simulate::play` meets its contract.
-use mathlib.Core.Path.{_≡_, refl}
+use mathlib.Core.Path.{refl}
 use borrow.Author.Needs.{needs}
 use Rattle.simulation.specs.Simulate.{noValues}
 use Rattle.simulate.proofs.Called.{put-out, put-none}

@@ -1,5 +1,5 @@
 -- `simulate::play_text` meets its contract: 22, 28, 40, then the rounds.
-use mathlib.Core.Path.{_≡_, refl, subst}
+use mathlib.Core.Path.{refl, subst}
 use borrow.Author.Needs.{needs}
 use denote.Ref.{now}
 use Rattle.iosa.specs.Model.{declared}

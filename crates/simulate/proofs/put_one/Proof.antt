@@ -1,5 +1,5 @@
 -- `simulate::put_one` meets its contract.
-use mathlib.Core.Path.{_≡_, sym, _∙_, ap}
+use mathlib.Core.Path.{sym, _∙_, ap}
 use mathlib.Core.Bool.{cond}
 use mir.Syntax.{w64}
 use mir.ValLaws.{toZ-ofZ}

@@ -1,5 +1,4 @@
 -- `simulate::simulate` meets its contract: what `confluent` refuses, and else what stands behind it.
-use mathlib.Core.Path.{_≡_}
 use borrow.Author.Needs.{needs}
 use denote.Ref.{now}
 use Rattle.simulate.proofs.Called.{refused-before, runnable, goes-on}
