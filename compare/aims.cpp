@@ -27,6 +27,8 @@ Model model_for(Random& random, const Aim& aim) {
   if (aim.call == &calls::repair && aim.outcome != "nothing")
     return number == 26 || random.chance(20) ? drawing::deaf_at_a_limit(random) : drawing::deaf(random, drawing::model(random));
   if (number == 26) return second::generate(random, second::families[random.below(9)], second::Size::large);
+  const bool rarely_42 = number == 42 && aim.outcome == "42" && random.chance(50);
+  if (aim.call == &calls::simulate && !rarely_42) return second::generate_plant(random, size);
   // What comes behind 18 in one call comes before it in another, so all of these are confluent.
   static const std::vector<Family> settling = {Family::confluent, Family::endless, Family::sharing};
   static const std::vector<Family> timing = {Family::confluent, Family::sharing};
@@ -107,6 +109,13 @@ Bytes out_for(Random& random, const Aim& aim, const Drawn& drawn, std::uint64_t 
   return drawing::noise_bytes(random, bytes);
 }
 
+// A simulation of the table that is lent already.
+void lend_simulation(Random& random, unsigned number, const Drawn& drawn, Loan& loan) {
+  loan.number = number == 22 ? drawing::odd_rounds(random) : drawing::rounds(random);
+  loan.bytes = number == 40 ? drawing::odd_samples(random, drawn, loan.number) : drawing::samples(random, drawn, loan.number);
+  loan.clocks = number == 28 ? drawing::odd_values(random) : drawing::values(random);
+}
+
 Loan loan_for(Random& random, const Aim& aim, const Drawn& drawn) {
   const unsigned number = number_of(aim);
   Loan loan;
@@ -122,6 +131,10 @@ Loan loan_for(Random& random, const Aim& aim, const Drawn& drawn) {
   }
   const Table table = number == 20 ? second::damaged_table(random, drawn.table) : drawn.table;
   loan.table = drawing::lengthened(random, table);
+  if (aim.call == &calls::simulate) {
+    lend_simulation(random, number, drawn, loan);
+    return loan;
+  }
   loan.state = state_for(random, number, drawn);
   loan.bytes = within(number, 22, 23) ? second::generate_odd_list(random, drawn.model, loan.state) : drawing::list(random, drawn, loan.state);
   loan.number = number_for(random, aim, drawn, loan.bytes);

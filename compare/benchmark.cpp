@@ -2,6 +2,7 @@
 // Each number is the least of many short rounds, in which all that stand in one table take turns: what else the machine does then disturbs
 // all of them alike.
 // usage: benchmark ROUNDS [times]    with the engine's own times, which mean something only where the processor runs the program itself
+#include <array>
 #include <chrono>
 #include <cstdio>
 #include <cstdlib>
@@ -119,6 +120,14 @@ Pair timed_step(const Subject& s) {
             second::timed_step(lent(s.table), lent(s.state), {lent_out.clocks.data(), lent_out.clocks.size()});
           }};
 }
+Pair simulate(const Subject& s, const Bytes& samples, std::uint64_t rounds) {
+  return {"simulate",
+          [&s, &samples, rounds] {
+            floodneedle_simulate(words(s), s.table.size(), samples.data(), samples.size(), rounds, lent_out.clocks.data(), lent_out.clocks.size(),
+                                 lent_out.after.data(), &lent_out.answer);
+          },
+          [&s, &samples, rounds] { second::simulate(lent(s.table), lent(samples), rounds, {lent_out.clocks.data(), lent_out.clocks.size()}); }};
+}
 Pair merge(const Subject& s) {
   return {"merge", [&] { floodneedle_merge(words(s), s.table.size(), 0, lent_out.into.data(), lent_out.into.size(), &lent_out.answer); },
           [&] { second::merge(lent(s.table), 0, {lent_out.into.data(), lent_out.into.size()}); }};
@@ -206,6 +215,82 @@ void step_lines(const std::vector<Subject>& subjects) {
   std::fflush(stdout);
 }
 
+// Where the samples of each clock begin, for the bare loop: behind the clock's number.
+std::array<const std::uint8_t*, second::members> fronts(const Subject& s, const Bytes& samples) {
+  std::array<const std::uint8_t*, second::members> at{};
+  const std::uint8_t* next = samples.data();
+  for (unsigned x = 0; x < second::members; ++x) {
+    if (!second::has(second::clocks_of(s.model), x)) continue;
+    while (*next >= '0') ++next;
+    at[x] = next;
+    while (*next != '\n') ++next;
+    ++next;
+  }
+  return at;
+}
+
+// What one more round of a simulation costs: 4,096 of them less none, by each program, and the bare loop's rounds. The text is the same, so that
+// its scan is left out.
+void round_lines(const std::vector<Subject>& subjects) {
+  std::printf("\nOne round of a simulation\n\n| Model | Rows | Ratio to the second program | Ratio to the bare loop |%s\n|---|---|---|---|%s\n",
+              with_times ? " Engine, nanoseconds | Rounds a second |" : "", with_times ? "---|---|" : "");
+  std::vector<Bytes> samples;
+  for (const Subject& s : subjects) samples.push_back(recorded(s, second::max_rounds + 1));
+  std::vector<Work> works;
+  for (std::size_t i = 0; i < subjects.size(); ++i) {
+    const Subject& s = subjects[i];
+    const Bytes& text = samples[i];
+    const Pair whole = simulate(s, text, second::max_rounds), none = simulate(s, text, 0);
+    const auto start = fronts(s, text);
+    const second::State begin = second::start_of(s.model);
+    const Bytes from(begin.parts, begin.parts + begin.count);
+    const Work bare = [&s, start, from] {
+      Bytes state = from;
+      auto at = start;
+      kept += bare_simulate(words(s), state.data(), second::started_of(s.model), at.data(), second::max_rounds, lent_out.clocks.data());
+    };
+    whole.engine();
+    const Clocks values = lent_out.clocks;
+    if (lent_out.answer.count != second::max_rounds) std::printf("%s does not go on.\n", s.name.c_str());
+    bare();
+    if (lent_out.clocks != values) std::printf("%s: the bare loop ends otherwise.\n", s.name.c_str());
+    works.insert(works.end(), {whole.engine, none.engine, whole.second, none.second, bare});
+  }
+  const std::vector<double> costs = least(works);
+  for (std::size_t i = 0; i < subjects.size(); ++i) {
+    const double* cost = costs.data() + 5 * i;
+    const double engine = cost[0] - cost[1];
+    std::printf("| %s | %llu | %.3f | %.2f |", subjects[i].name.c_str(), (unsigned long long)second::count_rows(subjects[i].model),
+                engine / (cost[2] - cost[3]), engine / cost[4]);
+    if (with_times) std::printf(" %.1f | %.0f |", engine / second::max_rounds * 1e9, second::max_rounds / engine);
+    std::printf("\n");
+  }
+  std::fflush(stdout);
+}
+
+// The text of samples: M with more and more of them and no round, so that the scan is what grows.
+void scan_lines(const std::vector<unsigned>& counts) {
+  std::printf("\nThe scan of a text of samples: M, 0 rounds\n\n| Samples | Bytes | Ratio to the second program | Multiple of the line above |%s\n|---|---|---|---|%s\n",
+              with_times ? " Engine, microseconds |" : "", with_times ? "---|" : "");
+  const Subject s = paper_model();
+  std::vector<Bytes> texts;
+  for (unsigned count : counts) texts.push_back(recorded(s, count));
+  std::vector<Work> works;
+  for (const Bytes& text : texts) {
+    const Pair pair = simulate(s, text, 0);
+    works.insert(works.end(), {pair.engine, pair.second});
+  }
+  const std::vector<double> cost = least(works);
+  for (std::size_t i = 0; i < texts.size(); ++i) {
+    std::printf("| %u | %zu | %.3f | ", counts[i], texts[i].size(), cost[2 * i] / cost[2 * i + 1]);
+    if (i > 0) std::printf("%.2f |", cost[2 * i] / cost[2 * i - 2]);
+    else std::printf("|");
+    if (with_times) std::printf(" %.2f |", cost[2 * i] * 1e6);
+    std::printf("\n");
+  }
+  std::fflush(stdout);
+}
+
 }  // namespace
 
 int main(int count, char** arguments) {
@@ -240,6 +325,9 @@ int main(int count, char** arguments) {
   const std::vector<Subject> timing = {waiting(1), waiting(4), waiting(16), waiting(32)};
   head("The timed step");
   lines(timing, timed_step);
+
+  round_lines({paper_model(), plant(4, 4), plant(8, 4), plant(16, 4), plant(32, 2)});
+  scan_lines({1, 64, 1024, 16384, 131072});
 
   const std::vector<Subject> merging = {paper_model(),     to_merge(8, 8, 0), to_merge(8, 8, 1),  to_merge(8, 8, 2),
                                         to_merge(8, 8, 4), to_merge(8, 8, 8), to_merge(16, 8, 4), to_merge(4, 4, 8)};

@@ -32,6 +32,13 @@ std::string repaired_kind(const Said& said, const Lent& lent) {
   return said.answer.kind == FLOODNEEDLE_DONE && said.answer.count == 0 ? "nothing" : answered_kind(said, lent);
 }
 
+// Of a simulation: whether it was over before the rounds asked for, and whether it was round 0 that did not settle.
+std::string simulated_kind(const Said& said, const Lent& lent) {
+  const floodneedle_answer& a = said.answer;
+  if (a.number == 42 && a.place[0] > 0) return "42 later";
+  return a.kind == FLOODNEEDLE_DONE && a.count < lent.number ? "quiet" : answered_kind(said, lent);
+}
+
 // Of a report: the number or the verdict that its last line begins with.
 std::string printed_kind(const Said& said, const Lent& lent) {
   if (said.answer.kind == FLOODNEEDLE_REFUSED) return answered_kind(said, lent);
@@ -131,6 +138,13 @@ Said engine_timed_step(const Lent& l) {
 }
 Said second_timed_step(const Lent& l) { return said(second::timed_step(l.table, l.state, l.clocks)); }
 
+Said engine_simulate(const Lent& l) {
+  floodneedle_simulate(l.table.front, l.table.length, l.bytes.front, l.bytes.length, l.number, l.clocks.front, l.clocks.length,
+                       l.after->data(), l.answer);
+  return answered_with_state(l);
+}
+Said second_simulate(const Lent& l) { return said(second::simulate(l.table, l.bytes, l.number, l.clocks)); }
+
 Said engine_merge(const Lent& l) {
   floodneedle_merge(l.table.front, l.table.length, l.number, l.into.front, l.into.length, l.answer);
   return answered(l);
@@ -187,12 +201,14 @@ const Call settle_list = {"settle_list", engine_settle_list, second_settle_list,
                           answered_kind};
 const Call timed_step = {"timed_step", engine_timed_step, second_timed_step, numbers({{10, 17}, {20, 21}, {27, 30}}, {"fired", "quiet"}),
                          answered_kind};
+const Call simulate = {"simulate", engine_simulate, second_simulate,
+                       numbers({{10, 18}, {20, 20}, {22, 22}, {28, 28}, {30, 30}, {40, 42}}, {"42 later", "done", "quiet"}), simulated_kind};
 const Call repair = {"repair", engine_repair, second_repair, numbers({{20, 20}, {24, 24}, {26, 26}}, {"done", "nothing"}), repaired_kind};
 const Call merge = {"merge", engine_merge, second_merge, numbers({{10, 17}, {20, 20}, {24, 26}}, {"done"}), answered_kind};
 const Call report = {"report", engine_report, second_report, numbers({{1, 19}, {21, 22}, {24, 24}}, {"stable", "unsettled"}), printed_kind};
 const Call advance = {"advance", engine_advance, second_advance, numbers({{10, 17}, {20, 21}}, {"moved", "stable"}), answered_kind};
 
-const Call* const all[18] = {&recognise, &check_text, &read,   &write,       &start,      &component, &compatible, &accept, &confluent,
-                             &step,      &step_by,    &settle, &settle_list, &timed_step, &merge,     &repair,     &report, &advance};
+const Call* const all[19] = {&recognise, &check_text, &read,   &write,       &start,      &component, &compatible, &accept, &confluent, &step,
+                             &step_by,   &settle,     &settle_list, &timed_step, &simulate, &merge, &repair, &report, &advance};
 
 }  // namespace calls

@@ -255,4 +255,44 @@ Clocks odd_clocks(Random& random, const Drawn& drawn, const Bytes& state) {
   return values;
 }
 
+std::uint64_t rounds(Random& random) {
+  const unsigned style = random.below(100);
+  if (style < 80) return random.below(12);
+  return style < 97 ? random.below(120) : second::max_rounds - random.below(3);
+}
+
+std::uint64_t odd_rounds(Random& random) {
+  static const std::vector<std::uint64_t> over = {second::max_rounds + 1, second::max_rounds + 2, 65536, std::uint64_t{1} << 32,
+                                                  (std::uint64_t{1} << 32) + 1, std::uint64_t{1} << 63, ~std::uint64_t{0}};
+  return random.pick(over);
+}
+
+Bytes samples(Random& random, const Drawn& drawn, std::uint64_t rounds) {
+  const unsigned style = random.below(10);
+  const std::uint64_t taken = std::min<std::uint64_t>(rounds, second::max_rounds);
+  if (!drawn.accepted || style < 3) return bytes_of(second::generate_samples(random, drawn.model, random.below(std::min<std::uint64_t>(taken, 60) + 3)));
+  if (style < 6) return bytes_of(second::generate_scant_samples(random, drawn.model, taken));
+  return bytes_of(second::generate_exact_samples(random, drawn.model, taken));
+}
+
+Bytes odd_samples(Random& random, const Drawn& drawn, std::uint64_t rounds) {
+  const unsigned most = random.below(std::min<std::uint64_t>(rounds, 9) + 2);
+  if (!drawn.accepted || random.chance(50)) return bytes_of(second::generate_odd_samples(random, drawn.model, most));
+  return bytes_of(second::damaged_samples(random, second::generate_exact_samples(random, drawn.model, most)));
+}
+
+Clocks values(Random& random) {
+  if (random.chance(30)) return second::generate_ticks(random);
+  Clocks any;
+  for (unsigned x = 0; x < second::clock_values; ++x) any.push_back(static_cast<std::int64_t>(random.next()));
+  return any;
+}
+
+Clocks odd_values(Random& random) {
+  static const std::vector<std::size_t> lengths = {0, 1, second::clock_values - 1, second::clock_values + 1, 2 * second::clock_values};
+  Clocks any = values(random);
+  any.resize(random.pick(lengths), 7);
+  return any;
+}
+
 }  // namespace drawing

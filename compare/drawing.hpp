@@ -66,4 +66,14 @@ Bytes trace(Random& random, std::uint64_t budget);
 Clocks clocks(Random& random, const Drawn& drawn, const Bytes& state);
 Clocks odd_clocks(Random& random, const Drawn& drawn, const Bytes& state);
 
+// Rounds of a simulation: few as a rule, up to 4,096; the odd ones may be over, up to 2^64 - 1.
+std::uint64_t rounds(Random& random);
+std::uint64_t odd_rounds(Random& random);
+// A text of samples for so many rounds: just as many as are taken, one too few, or some for each clock; the odd one is damaged as a rule.
+Bytes samples(Random& random, const Drawn& drawn, std::uint64_t rounds);
+Bytes odd_samples(Random& random, const Drawn& drawn, std::uint64_t rounds);
+// 64 values of any content, which no simulation reads; the odd ones may be more or fewer.
+Clocks values(Random& random);
+Clocks odd_values(Random& random);
+
 }  // namespace drawing

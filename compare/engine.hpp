@@ -93,6 +93,13 @@ inline Said said(const second::SettleAnswer& a) {
   return s;
 }
 
+inline Said said(const second::SimulateAnswer& a) {
+  Said s = said(FLOODNEEDLE_DONE, a.refusal);
+  s.answer.count = a.rounds;
+  set_after(s, a.state);
+  return s;
+}
+
 inline Said said(const second::TimedAnswer& a) {
   Said s = said(a.outcome == second::TimedOutcome::fired ? FLOODNEEDLE_FIRED : FLOODNEEDLE_QUIET, a.refusal);
   s.answer.ticks = static_cast<std::uint64_t>(a.v);

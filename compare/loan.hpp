@@ -10,11 +10,11 @@ struct Loan {
   Table table;                // read; `repair` writes it too
   Bytes state;                // read; `advance` writes it too
   std::uint64_t missing = 0;  // parts that the state is said to have beyond its bytes
-  Bytes bytes;                // read: a text, a list, or the program's input
-  std::uint64_t number = 0;   // a budget, a named action, or an index
+  Bytes bytes;                // read: a text, a list, recorded samples, or the program's input
+  std::uint64_t number = 0;   // a budget, a named action, an index, or rounds
   Table into;                 // written: a table
   Bytes out;                  // written: a text, a trace, a report, or a list of added rows
-  Clocks clocks;              // read and written
+  Clocks clocks;              // read and written; `simulate` writes them alone
 };
 
 // The same as a call gets it: fronts and lengths, and where its answer goes.

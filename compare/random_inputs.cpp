@@ -38,6 +38,16 @@ void try_texts(Random& random, const std::string& text) {
   try_text(drawing::bytes_of(drawing::misfit_text(random, text)), drawing::odd_room(random));
 }
 
+// The lists last or do not, or the text is damaged; at times there are too many rounds or not 64 values, of which the first decides.
+void try_simulation(Random& random, const Table& table, const Drawn& drawn) {
+  Loan loan;
+  loan.table = table;
+  loan.number = random.chance(95) ? drawing::rounds(random) : drawing::odd_rounds(random);
+  loan.bytes = random.chance(80) ? drawing::samples(random, drawn, loan.number) : drawing::odd_samples(random, drawn, loan.number);
+  loan.clocks = random.chance(95) ? drawing::values(random) : drawing::odd_values(random);
+  try_call(calls::simulate, loan);
+}
+
 // Every call that takes a table, on one that need not be the model's.
 void try_calls(Random& random, const Table& table, const Drawn& drawn) {
   Loan loan;
@@ -64,12 +74,32 @@ void try_calls(Random& random, const Table& table, const Drawn& drawn) {
   loan.clocks = random.chance(70) ? drawing::clocks(random, drawn, loan.state) : drawing::odd_clocks(random, drawn, loan.state);
   try_call(calls::timed_step, loan);
 
+  try_simulation(random, table, drawn);
+
   loan.number = second::generate_index(random, drawn.model);
   try_call(calls::component, loan);
   loan.out = drawing::list_room(random, drawn);
   try_call(calls::repair, loan);
   loan.into = drawing::odd_room(random);
   try_call(calls::merge, loan);
+}
+
+// A simulation of a plant, and of the same for fewer and for more rounds.
+void try_plant(Random& random) {
+  const auto size = drawing::size(random);
+  const Drawn drawn(second::generate_plant(random, size));
+  const Table table = drawing::lengthened(random, drawn.table);
+  for (unsigned turn = 0; turn < 3; ++turn) try_simulation(random, table, drawn);
+  Loan loan;
+  loan.table = table;
+  const unsigned most = random.below(20);
+  loan.bytes = drawing::samples(random, drawn, most);
+  loan.clocks = drawing::values(random);
+  for (loan.number = 0; loan.number < most + 2; ++loan.number) {
+    const Comparison made = try_call(calls::simulate, loan);
+    if (made.second.answer.kind == FLOODNEEDLE_REFUSED) break;
+    loan.clocks = made.left.clocks.content();
+  }
 }
 
 // A model that lacks rows of inputs is repaired, then checked, repaired again and written.
@@ -195,6 +225,7 @@ void try_input(std::uint64_t seed, std::uint64_t index) {
   try_calls(random, drawing::lengthened(random, damaged), drawn);
   try_sequence(random, drawn.text);
   try_repairs(random, drawn);
+  try_plant(random);
   if (index % 4 == 0) try_report(random, drawn);
   if (index % 16 == 0) try_nonsense(random);
   for (unsigned n = 0; n < aims_for_a_model; ++n) {

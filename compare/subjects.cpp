@@ -1,5 +1,7 @@
 #include "subjects.hpp"
 
+#include "random.hpp"
+#include "samples.hpp"
 #include "text_writing.hpp"
 #include "texts.hpp"
 
@@ -147,6 +149,43 @@ Subject waiting(unsigned components) {
     model.components.push_back(component);
   }
   return subject(counted(components, components == 1 ? "component waiting" : "components waiting"), model);
+}
+
+Subject plant(unsigned components, unsigned counts) {
+  Model model;
+  for (unsigned c = 0; c < components; ++c) {
+    Component component;
+    // States below `counts` run, the others tell.
+    component.states = 2 * counts;
+    component.clocks = component.started = second::only(c);
+    const unsigned ends = 2 * c, tells = 2 * c + 1;
+    component.kind[ends] = Kind::out;
+    component.kind[tells] = Kind::uout;
+    for (unsigned k = 0; k < counts; ++k) {
+      add_row(component, k, ends, 0, counts + k, static_cast<int>(c));
+      add_row(component, counts + k, tells, component.clocks, k);
+    }
+    for (unsigned other = c + 1; other <= c + 3 && other < c + components; ++other)
+      for (unsigned heard : {2 * (other % components), 2 * (other % components) + 1}) {
+        component.kind[heard] = heard % 2 == 0 ? Kind::in : Kind::uin;
+        for (unsigned s = 0; s < component.states; ++s)
+          add_row(component, s, heard, 0, s < counts ? (s + 1) % counts : counts + (s + 1) % counts);
+      }
+    model.components.push_back(component);
+  }
+  return subject(counted(components, "components running"), model);
+}
+
+Bytes recorded(const Subject& of, unsigned samples) {
+  second::Random random(1);
+  second::SampleLists lists;
+  const second::Set declared = second::clocks_of(of.model);
+  // Clock x ends at x past a multiple of 64, so that no two end at once.
+  for (unsigned x = 0; x < second::members; ++x)
+    for (unsigned n = 0; second::has(declared, x) && n < samples; ++n)
+      lists[x].push_back(64 * static_cast<std::int64_t>(random.between(1, 100000)) + (n == 0 ? x : 0));
+  const std::string text = second::text_of_samples(lists, declared);
+  return Bytes(text.begin(), text.end());
 }
 
 Subject to_merge(unsigned left, unsigned right, unsigned actions) {

@@ -38,6 +38,12 @@ Subject slow_sets(unsigned states);
 // So many components of 4 states that wait for four clocks each (two past 16 components), and hear others; every state is stable.
 Subject waiting(unsigned components);
 
+// So many components that run on a clock each, tell when it has ended, which resets it, and count, to so many, what the next three do and tell.
+Subject plant(unsigned components, unsigned counts);
+
+// A text with so many samples for each clock of the model; no two clocks ever tie.
+Bytes recorded(const Subject& of, unsigned samples);
+
 // Two components of so many states, by so many inputs each, which have nothing in common.
 Subject to_merge(unsigned left, unsigned right, unsigned actions);
 

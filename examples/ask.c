@@ -6,6 +6,8 @@
  *   step STATE | by STATE ACTION               a state is numbers joined by commas
  *   settle STATE BUDGET | list STATE ACTIONS   actions are numbers joined by commas, or - for none
  *   timed STATE VALUES                         the values of clocks 0, 1, .. joined by commas; the others are 0
+ *   simulate ROUNDS SAMPLES                    the samples as their text, with a comma for each tab and a semicolon for each LF, or - for none;
+ *                                              told are the rounds done, the state, and the values of the clocks
  *   write BYTES                                the text into a buffer of so many bytes
  *   nothing                                    accept, on a table of zeros
  *   version                                    the version that was linked; no model is read
@@ -118,6 +120,31 @@ static int timed(size_t n, const char *values) {
   return 0;
 }
 
+/* The text of samples, in place of the model's, which has been read. Answers its length. */
+static size_t samples_of(const char *word) {
+  size_t n = 0;
+  if (strcmp(word, "-") == 0) return 0;
+  for (; n < sizeof text && word[n] != 0; ++n) text[n] = (uint8_t)(word[n] == ',' ? '\t' : word[n] == ';' ? '\n' : word[n]);
+  return n;
+}
+
+/* Where it is done each line of the samples begins with a declared clock. */
+static int simulate(uint64_t rounds, const char *word) {
+  size_t length, parts;
+  floodneedle_start(table, FLOODNEEDLE_TABLE, after, &answer);
+  parts = (size_t)answer.count;
+  length = samples_of(word);
+  floodneedle_simulate(table, FLOODNEEDLE_TABLE, text, length, rounds, clocks, FLOODNEEDLE_CLOCKS, after, &answer);
+  if (answer.kind == FLOODNEEDLE_REFUSED) return 0;
+  printf("done\t%llu", (unsigned long long)answer.count);
+  print_state(after, parts);
+  printf(length == 0 ? "\t-" : "");
+  for (size_t i = 0; i < length; ++i)
+    if (i == 0 || text[i - 1] == '\n') printf("%s%lld", i == 0 ? "\t" : ",", (long long)clocks[atoi((const char *)text + i)]);
+  printf("\n");
+  return 1;
+}
+
 /* Makes the call; answers whether its answer is printed already, or -1 where the words are no call. */
 static int call(int words, char **word, size_t *n) {
   const char *verb = word[1];
@@ -136,6 +163,7 @@ static int call(int words, char **word, size_t *n) {
     size_t room = strtoull(word[2], 0, 10);
     return floodneedle_write(table, FLOODNEEDLE_TABLE, text, room < sizeof text ? room : sizeof text, &answer), 0;
   }
+  if (words == 4 && strcmp(verb, "simulate") == 0) return simulate(strtoull(word[2], 0, 10), word[3]);
   if (words < 3) return -1;
   *n = bytes_of(word[2], state);
   if (words == 3 && strcmp(verb, "step") == 0) return floodneedle_step(table, FLOODNEEDLE_TABLE, state, *n, after, &answer), 0;

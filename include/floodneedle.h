@@ -13,13 +13,15 @@
  * 0, and so is every field that the answer does not use.
  *
  * In a model that `confluent` accepts, from a state each part of which its component can reach (19), urgent steps that come to an end come
- * to the same one in whatever order they are taken. settle and settle_list ask for both each time. step, step_by, advance and timed_step do
- * not: in a model that `confluent` refuses with 18, what a loop over them arrives at can depend on which of several enabled actions is taken
- * first. Whoever loops over them asks `confluent` once, and begins at the start or where settling led to.
+ * to the same one in whatever order they are taken. settle and settle_list ask for both each time; simulate asks for the first, and begins
+ * at the start. step, step_by, advance and timed_step ask for neither: in a model that `confluent` refuses with 18, what a loop over them
+ * arrives at can depend on which of several enabled actions is taken first. Whoever loops over them asks `confluent` once, and begins at the
+ * start or where settling led to.
  *
  * Stack, in bytes, the deepest seen of each call (`make -C compare stack` measures it, and holds these numbers to it):
- *   recognise 240, check_text 728, read 1272, write 400, start 496, component 1568, compatible 656, accept 1872, confluent 2128, merge 2048,
- *   repair 368, step 2224, advance 2288, step_by 2016, settle 2736, settle_list 2688, timed_step 2048, report 70672 (it keeps a table of its own).
+ *   recognise 240, check_text 832, read 1376, write 400, start 496, component 1568, compatible 656, accept 1872, confluent 2128, merge 2048,
+ *   repair 368, step 2224, advance 2288, step_by 2016, settle 2736, settle_list 2688, timed_step 2048, simulate 6944,
+ *   report 70672 (it keeps a table of its own).
  *
  * A model is a text (docs/MODEL.md), without the request line that the program `settle` reads in front of it. A table is what
  * floodneedle_read makes of it, 64-bit words at the front of a buffer; what lies behind the image is neither read nor changed. No caller
@@ -45,7 +47,7 @@ extern "C" {
 #define FLOODNEEDLE_TEXT 32768
 
 /* Sizes: words of a component's block (137) and of a table (8,481), bytes of a state, the largest budget, which is also the longest list or
- * trace, the number of clock values, and bytes of the longest report there can be. */
+ * trace and the most rounds of a simulation, the number of clock values, and bytes of the longest report there can be. */
 #define FLOODNEEDLE_BLOCK (8 + FLOODNEEDLE_STATES + 1)
 #define FLOODNEEDLE_TABLE (1 + FLOODNEEDLE_BLOCK * FLOODNEEDLE_COMPONENTS + 4 * FLOODNEEDLE_ROWS)
 #define FLOODNEEDLE_STATE FLOODNEEDLE_COMPONENTS
@@ -86,15 +88,18 @@ enum floodneedle_refusal {
   FLOODNEEDLE_NOT_REACHED = 19,          /* a part of the state is one that its component cannot reach */
   FLOODNEEDLE_NO_IMAGE = 20,             /* the table is not the image of a model */
   FLOODNEEDLE_STATE_MISFITS = 21,        /* a state of wrong length or range */
-  FLOODNEEDLE_TOO_MANY_STEPS = 22,       /* a budget or a list over FLOODNEEDLE_BUDGET */
+  FLOODNEEDLE_TOO_MANY_STEPS = 22,       /* a budget, a list or rounds over FLOODNEEDLE_BUDGET */
   FLOODNEEDLE_NOT_ENABLED = 23,          /* an action that was named or listed is no enabled urgent output */
   FLOODNEEDLE_BUFFER_TOO_SHORT = 24,     /* the place is the number of bytes needed */
   FLOODNEEDLE_COMPONENT_ABSENT = 25,     /* no component has this index, or none the next one in merging */
   FLOODNEEDLE_MERGED_TOO_LARGE = 26,     /* the merged or repaired model would exceed a limit */
   FLOODNEEDLE_NOT_STABLE = 27,           /* timed: an urgent output is enabled */
-  FLOODNEEDLE_VALUES_MISFIT = 28,        /* timed: not FLOODNEEDLE_CLOCKS values, or one outside -2^40 to 2^40 */
+  FLOODNEEDLE_VALUES_MISFIT = 28,        /* not FLOODNEEDLE_CLOCKS values; timed: or one outside -2^40 to 2^40 */
   FLOODNEEDLE_CLOCK_BELOW_ZERO = 29,     /* timed: an enabling clock is below zero */
-  FLOODNEEDLE_CLOCKS_TIE = 30            /* timed: two enabling clocks share the least value */
+  FLOODNEEDLE_CLOCKS_TIE = 30,           /* two enabling clocks share the least value */
+  FLOODNEEDLE_SAMPLES_MISSHAPEN = 40,    /* simulation: a line of the sample text is bad, or one lacks; line */
+  FLOODNEEDLE_SAMPLES_RAN_OUT = 41,      /* simulation: a clock that is due a sample has none left */
+  FLOODNEEDLE_ROUND_UNSETTLED = 42       /* simulation: a round does not settle; the round, from 0 */
 };
 
 struct floodneedle_answer {
@@ -102,7 +107,8 @@ struct floodneedle_answer {
   uint64_t number;   /* of the refusal, else 0 */
   uint64_t places;   /* how many values the refusal's place has, 1 to 4; 0 where nothing is refused */
   uint64_t place[4];
-  uint64_t count;    /* bytes written (write, report), rows added (repair), steps taken (settle, settle_list), components (start); else 0 */
+  uint64_t count;    /* bytes written (write, report), rows added (repair), steps taken (settle, settle_list), components (start),
+                      * later rounds done (simulate); else 0 */
   uint64_t action;   /* where moved or fired, else 0 */
   uint64_t resets;   /* a set of clocks: where moved or fired, of a settling, and those set at the start (start); else 0 */
   uint64_t ticks;    /* where fired, else 0 */
@@ -223,6 +229,21 @@ void floodneedle_settle_list(const uint64_t *table, size_t table_words, const ui
  * Refuses: as accept, then 21, 27, 28, 29, 30. */
 void floodneedle_timed_step(const uint64_t *table, size_t table_words, const uint8_t *state, size_t parts,
                             int64_t *clocks, size_t clock_values, uint8_t after[FLOODNEEDLE_STATE], struct floodneedle_answer *answer);
+
+/* A simulation over recorded samples. `samples` is a text with a line for each declared clock, ascending: the clock's number, its samples,
+ * if any, each behind a tab, and LF. Numbers are decimal, without a needless zero in front; a sample is 1 to 2^40. Any length will do.
+ * All clocks begin at 0. Round 0 sets the clocks that are set at the start, and settles there; each later round, `rounds` of them (0 to 4,096),
+ * is a timed step from where the last one ended, as timed_step takes it, and settles again. Settling takes the lowest-numbered enabled urgent
+ * output, at most 4,096 times in a round. As a round ends, each clock set or reset in it takes one sample, the next of its own line, however
+ * often it was reset; the others keep what they have. Where no clock is waited for the simulation is over, and this round does not count.
+ * Done, with `count` the later rounds done and `after` the state, whose places past the components are 0. The declared clocks' values are
+ * written to their places in `clocks`; the others stay. What the values were before does not matter.
+ * In whatever order the urgent steps are taken, every round ends with the same state and values.
+ * Refuses: as confluent, then 22 (over 4,096 rounds), 28 (not FLOODNEEDLE_CLOCKS values), 40 (the first bad line, from 1; one past the last
+ * where all are good and too few); then round by round 30 (two enabling clocks share the least value: the lowest such clock; not in round
+ * 0), 42 (the round, which does not settle), 41 (the lowest clock that is due a sample and has none left). */
+void floodneedle_simulate(const uint64_t *table, size_t table_words, const uint8_t *samples, size_t sample_bytes, uint64_t rounds,
+                          int64_t *clocks, size_t clock_values, uint8_t after[FLOODNEEDLE_STATE], struct floodneedle_answer *answer);
 
 /* Writes what the program `settle` prints for these bytes of standard input to the buffer's front; `count` is its length. What the program
  * refuses is a line that it prints, and no refusal here.

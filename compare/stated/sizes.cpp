@@ -126,6 +126,13 @@ void BUDGET() {
   expect("the longest list", calls::settle_list, loan, unsettled);
   loan.bytes.push_back(3);
   expect("a list of one more", calls::settle_list, loan, refused(22, {0}));
+  // Rounds of a simulation; here no clock is waited for.
+  loan = lent_table(image(tabbed("comp 1 0\n")));
+  loan.clocks = Clocks(FLOODNEEDLE_CLOCKS, 5);
+  loan.number = most;
+  expect("the most rounds", calls::simulate, loan, done());
+  loan.number = most + 1;
+  expect("a round more", calls::simulate, loan, refused(22, {0}));
 }
 
 void CLOCKS() {
@@ -134,6 +141,7 @@ void CLOCKS() {
   for (std::uint64_t wrong : {values - 1, values + 1}) {
     loan.clocks = Clocks(wrong, 5);
     expect("another number of clock values", calls::timed_step, loan, refused(28, {0}));
+    expect("another number of clock values", calls::simulate, loan, refused(28, {0}));
   }
   loan.clocks = Clocks(values, 5);
   Loan left = loan;

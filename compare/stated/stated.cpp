@@ -25,6 +25,7 @@ void try_stated() {
   stated_runs();
   stated_reached();
   stated_clocks();
+  stated_simulations();
   stated_merges();
   stated_repairs();
   stated_requests();
@@ -124,5 +125,5 @@ void expect_checks(const std::string& why, const Table& table, const Said& accep
     for (const Call* call : {&calls::step, &calls::step_by, &calls::timed_step, &calls::merge, &calls::advance})
       expect(why, *call, loan, accepted);
   if (confluent.answer.kind == FLOODNEEDLE_REFUSED)
-    for (const Call* call : {&calls::settle, &calls::settle_list}) expect(why, *call, loan, confluent);
+    for (const Call* call : {&calls::settle, &calls::settle_list, &calls::simulate}) expect(why, *call, loan, confluent);
 }

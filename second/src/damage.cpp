@@ -122,6 +122,31 @@ std::string damaged_text(Random& random, std::string text) {
   return text;
 }
 
+std::string damaged_samples(Random& random, std::string text) {
+  static const Lines odd_samples = {"0", "1", "01", "5", "63", "64", "007", "1099511627776", "1099511627777", "9999999999999",
+                                    "10000000000000", "-5", "+5", "", "5 ", "5.0", "1,2", "\r", "0\t5", "5\t", "\t5"};
+  for (unsigned count = random.between(1, 3); count > 0; --count) {
+    Lines lines = lines_of(text);
+    const unsigned what = random.below(10);
+    if (what < 3) damage_bytes(random, text);
+    else if (what < 5) damage_lines(random, text);
+    else if (what < 8 && !lines.empty()) {
+      std::string& line = lines[random.below(lines.size())];
+      Lines fields;
+      for (std::string_view field : parted(line, '\t')) fields.emplace_back(field);
+      std::string& field = fields[random.below(fields.size())];
+      field = random.pick(odd_samples);
+      line = fields[0];
+      for (std::size_t f = 1; f < fields.size(); ++f) line += '\t' + fields[f];
+      text = text_of(lines);
+    } else {
+      text += random.pick(odd_samples);
+      if (random.chance(80)) text += '\n';
+    }
+  }
+  return text;
+}
+
 std::string request_line(const std::vector<std::uint8_t>& state, std::uint64_t budget) {
   std::string request = "from\t";
   for (std::size_t part = 0; part < state.size(); ++part) {

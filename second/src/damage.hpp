@@ -13,6 +13,8 @@ namespace second {
 // Some damage leaves the text good, or good again.
 std::string damaged_text(Random& random, std::string text);
 
+std::string damaged_samples(Random& random, std::string text);
+
 // A request line with its LF.
 std::string request_line(const std::vector<std::uint8_t>& state, std::uint64_t budget);
 std::string damaged_request(Random& random, std::string request);

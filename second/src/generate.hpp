@@ -35,6 +35,10 @@ Model generate(Random& random, Family family, Size size);
 // by that alone.
 Model generate_overlong(Random& random);
 
+// A confluent model in which time passes: parts run on their clocks and tell of it, others hear, count and
+// pass it on. Some come to rest after a while, and some don't settle after a while.
+Model generate_plant(Random& random, Size size);
+
 // A model whose first refusal is this number, 10 to 18.
 Model generate_failing(Random& random, unsigned number, Size size);
 
@@ -67,6 +71,15 @@ std::vector<std::int64_t> generate_ticks(Random& random);
 std::vector<std::int64_t> generate_ticks_for(Random& random, const Model& model,
                                              const std::vector<std::uint8_t>& state);
 std::vector<std::int64_t> generate_odd_ticks(Random& random);
+
+// Recorded samples, so many for each declared clock or a few fewer; small ones tie. The exact ones are
+// just those that a simulation of so many rounds of this accepted model takes, until a round is refused;
+// the scant ones lack the last of one clock. The odd ones have lines, fields and bytes damaged, or a list
+// that is much shorter.
+std::string generate_samples(Random& random, const Model& model, unsigned most);
+std::string generate_exact_samples(Random& random, const Model& model, std::uint64_t rounds);
+std::string generate_scant_samples(Random& random, const Model& model, std::uint64_t rounds);
+std::string generate_odd_samples(Random& random, const Model& model, unsigned most);
 
 // A merge index: a good one, or any up to 2^64 - 1.
 std::uint64_t generate_index(Random& random, const Model& model);

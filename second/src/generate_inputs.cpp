@@ -1,8 +1,11 @@
-// What is lent beside a model: states, budgets, lists, clock values, merge indices.
+// What is lent beside a model: states, budgets, lists, clock values, samples, merge indices.
 #include "active.hpp"
 #include "composition.hpp"
+#include "damage.hpp"
 #include "generate.hpp"
 #include "reach.hpp"
+#include "samples.hpp"
+#include "simulation.hpp"
 
 namespace second {
 namespace {
@@ -10,6 +13,27 @@ namespace {
 constexpr std::uint64_t largest = ~std::uint64_t{0};
 constexpr std::int64_t least_tick = INT64_MIN;
 constexpr std::int64_t most_tick = INT64_MAX;
+
+// Samples are 1 to this; where it is small they tie.
+std::uint64_t sample_span(Random& random) {
+  return random.chance(15) ? 8 : std::uint64_t{1} << random.between(8, 40);
+}
+
+std::int64_t draw_sample(Random& random, std::uint64_t span) { return 1 + static_cast<std::int64_t>(random.next() % span); }
+
+// What a simulation takes where no list ends.
+SampleLists taken_samples(Random& random, const Model& model, std::uint64_t rounds) {
+  const std::uint64_t span = sample_span(random);
+  SampleLists lists;
+  Supply supply{[](unsigned) { return true; },
+                [&](unsigned clock) {
+                  lists[clock].push_back(draw_sample(random, span));
+                  return lists[clock].back();
+                },
+                41};
+  simulated(model, rounds, supply);
+  return lists;
+}
 
 }  // namespace
 
@@ -179,6 +203,39 @@ std::vector<std::int64_t> generate_odd_ticks(Random& random) {
   if (random.chance(10))
     ticks.resize(random.pick(std::vector<unsigned>{0, 1, 2, 31, 62, 63, 65, 66, 127, 128, 129, 1000}), 1);
   return ticks;
+}
+
+std::string generate_samples(Random& random, const Model& model, unsigned most) {
+  const std::uint64_t span = sample_span(random);
+  const bool fewer = random.chance(20);
+  SampleLists lists;
+  for (unsigned clock = 0; clock < members; ++clock) {
+    if (!has(clocks_of(model), clock)) continue;
+    for (unsigned count = fewer ? most - random.below(most + 1) : most; count > 0; --count)
+      lists[clock].push_back(draw_sample(random, span));
+  }
+  return text_of_samples(lists, clocks_of(model));
+}
+
+std::string generate_exact_samples(Random& random, const Model& model, std::uint64_t rounds) {
+  return text_of_samples(taken_samples(random, model, rounds), clocks_of(model));
+}
+
+std::string generate_scant_samples(Random& random, const Model& model, std::uint64_t rounds) {
+  SampleLists lists = taken_samples(random, model, rounds);
+  const unsigned from = random.below(members);
+  for (unsigned n = 0; n < members; ++n) {
+    auto& list = lists[(from + n) % members];
+    if (list.empty()) continue;
+    list.pop_back();
+    break;
+  }
+  return text_of_samples(lists, clocks_of(model));
+}
+
+std::string generate_odd_samples(Random& random, const Model& model, unsigned most) {
+  const std::string text = generate_samples(random, model, random.chance(50) ? random.below(3) : most);
+  return random.chance(20) ? text : damaged_samples(random, text);
 }
 
 std::uint64_t generate_index(Random& random, const Model& model) {

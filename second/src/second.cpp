@@ -1,6 +1,7 @@
 #include "second.hpp"
 
 #include <algorithm>
+#include <array>
 #include <optional>
 #include <string>
 
@@ -10,7 +11,9 @@
 #include "merging.hpp"
 #include "reach.hpp"
 #include "repairing.hpp"
+#include "samples.hpp"
 #include "settling.hpp"
+#include "simulation.hpp"
 #include "text_reading.hpp"
 #include "text_writing.hpp"
 #include "timed.hpp"
@@ -65,6 +68,20 @@ SettleAnswer settled(const Run& run) {
           resets_of(run), run.last};
 }
 
+std::string_view text_in(Bytes text) {
+  return {reinterpret_cast<const char*>(text.front), static_cast<std::size_t>(text.length)};
+}
+
+// The 64 values are written once, at the end, and only those that are declared.
+SimulateAnswer run_simulation(const Model& model, std::uint64_t rounds, Supply& supply, Ticks clocks) {
+  const Simulation simulation = simulated(model, rounds, supply);
+  if (simulation.refusal) return refused<SimulateAnswer>(simulation.refusal);
+  const Set declared = clocks_of(model);
+  for (unsigned clock = 0; clock < clock_values; ++clock)
+    if (has(declared, clock)) clocks.front[clock] = simulation.values[clock];
+  return {Refusal{}, simulation.rounds, simulation.state};
+}
+
 void put(const Model& model, WordsToWrite into) {
   const auto image = image_of_model(model);
   std::copy(image.begin(), image.end(), into.front);
@@ -73,8 +90,7 @@ void put(const Model& model, WordsToWrite into) {
 }  // namespace
 
 Answer read(Bytes text, WordsToWrite into) {
-  const Reading reading =
-      model_of_text({reinterpret_cast<const char*>(text.front), static_cast<std::size_t>(text.length)});
+  const Reading reading = model_of_text(text_in(text));
   if (reading.refusal) return {reading.refusal};
   if (into.length < image_words) return {refuse(24, {image_bytes})};
   put(reading.model, into);
@@ -158,6 +174,19 @@ TimedAnswer timed_step(Words table, Bytes state, Ticks ticks) {
   std::copy(firing.fallen.begin(), firing.fallen.end(), ticks.front);
   return {Refusal{}, TimedOutcome::fired, firing.v, firing.move.action, firing.move.resets,
           firing.move.after};
+}
+
+SimulateAnswer simulate(Words table, Bytes samples, std::uint64_t rounds, Ticks clocks) {
+  const Ground on = ground(table, acceptance_and_confluence);
+  if (on.refusal) return refused<SimulateAnswer>(on.refusal);
+  if (rounds > max_rounds) return refused<SimulateAnswer>(refuse(22, {0}));
+  if (clocks.length != clock_values) return refused<SimulateAnswer>(refuse(28, {0}));
+  const SampleReading reading = samples_of_text(text_in(samples), clocks_of(on.model));
+  if (reading.refusal) return refused<SimulateAnswer>(reading.refusal);
+  std::array<std::size_t, members> taken{};
+  Supply supply{[&](unsigned clock) { return taken[clock] < reading.lists[clock].size(); },
+                [&](unsigned clock) { return reading.lists[clock][taken[clock]++]; }, 41};
+  return run_simulation(on.model, rounds, supply, clocks);
 }
 
 RepairAnswer repair(WordsToWrite table, BytesToWrite list) {

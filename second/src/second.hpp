@@ -59,6 +59,12 @@ struct TimedAnswer {
   State state;  // as given where quiet
 };
 
+struct SimulateAnswer {
+  Refusal refusal;
+  std::uint64_t rounds = 0;  // later rounds done
+  State state;
+};
+
 struct RepairAnswer {
   Refusal refusal;
   std::uint64_t rows = 0;  // added, three bytes each at the list's front
@@ -90,6 +96,8 @@ SettleAnswer settle(Words table, Bytes state, std::uint64_t budget, BytesToWrite
 SettleAnswer settle_list(Words table, Bytes state, Bytes list);
 // As accept, then 21, 27 to 30.
 TimedAnswer timed_step(Words table, Bytes state, Ticks ticks);
+// As confluent, then 22, 28, 40; then round by round 30, 42, 41. Writes the declared clocks.
+SimulateAnswer simulate(Words table, Bytes samples, std::uint64_t rounds, Ticks clocks);
 // Adds the missing self-loops of inputs in the lent table. 20, 24 (of the list), 26.
 RepairAnswer repair(WordsToWrite table, BytesToWrite list);
 // As accept, then 24, 25, 26.

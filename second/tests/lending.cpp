@@ -61,6 +61,19 @@ void check_settled(const second::SettleAnswer& answer, const char* stable, const
     check(answer.steps == 0 && answer.resets == 0 && zero(answer.state), "refused settling holds zeros");
 }
 
+// Refused: nothing lent changes. Else only declared clocks do.
+void check_simulated(const Table& table, std::uint64_t rounds, const Clocks& before, const Clocks& after,
+                     const second::SimulateAnswer& answer) {
+  if (answer.refusal) {
+    check(before == after && answer.rounds == 0 && zero(answer.state), "refused simulation: zeros, and no clock changes");
+    return;
+  }
+  const auto model = second::model_of_image({table.data(), table.size()});
+  check(answer.rounds <= rounds && answer.state.count == model->components.size(), "simulation: rounds and state");
+  for (unsigned x = 0; x < 64; ++x)
+    check(second::has(second::clocks_of(*model), x) || before[x] == after[x], "simulation: undeclared places stay");
+}
+
 void check_stepped(const second::StepAnswer& answer, const char* moved, const char* stable) {
   using second::StepOutcome;
   count(answer.refusal, answer.outcome == StepOutcome::moved ? moved : stable);
@@ -166,6 +179,14 @@ second::TimedAnswer lend_timed_step(const Table& table, const Part& state, Clock
   }
   if (answer.outcome == TimedOutcome::quiet) check(parts_of(answer.state) == state, "quiet: state as given");
   if (answer.refusal) check(zero(answer.state), "refused timed step holds zeros");
+  return answer;
+}
+
+second::SimulateAnswer lend_simulate(const Table& table, const Text& samples, std::uint64_t rounds, Clocks& clocks) {
+  const Clocks before = clocks;
+  const auto answer = second::simulate(lent(table), lent(samples), lent(rounds), lent_to_write(clocks));
+  count(answer.refusal, answer.rounds == rounds ? "simulated" : "simulated to quiet");
+  check_simulated(table, rounds, before, clocks, answer);
   return answer;
 }
 

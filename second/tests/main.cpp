@@ -39,6 +39,7 @@ int main(int count, char** arguments) {
   timed("all orders", test_all_orders);
   timed("merged runs", test_merged_runs);
   timed("timed runs", test_timed_runs);
+  timed("simulation", test_simulation);
   timed("repairs", test_repairs);
   timed("damaged inputs", test_damaged_inputs);
   timed("generator", test_generator);

@@ -21,6 +21,7 @@ void test_literal_product();
 void test_all_orders();
 void test_merged_runs();
 void test_timed_runs();
+void test_simulation();
 void test_repairs();
 void test_damaged_inputs();
 void test_generator();

@@ -4,7 +4,7 @@ use mathlib.Core.Bool.{Bool, true, false}
 use mathlib.Core.Option.{Option, none, some}
 use Prim.Native.Nat.{ℕ}
 use native.Mathlib.Omega.{arith}
-use Rattle.answer.specs.Told.{Told, told, Answer, answered, refused, asRefused, saysChecked, saysWritten, Step, moved, stable, saysOutcome, saysVerdict, Shot, fired, quiet, saysFiring}
+use Rattle.answer.specs.Told.{Told, told, Answer, answered, refused, asRefused, saysChecked, saysWritten, Step, moved, stable, saysOutcome, saysVerdict, Shot, fired, quiet, saysFiring, saysEnded}
 use Rattle.answer.specs.declared.Refusal.{Refusal}
 use Rattle.answer.specs.declared.Checked.{Checked}
 use Rattle.answer.specs.declared.Checked.the-variants as C
@@ -16,6 +16,8 @@ use Rattle.answer.specs.declared.Outcome.{Outcome}
 use Rattle.answer.specs.declared.Outcome.the-variants as O
 use Rattle.answer.specs.declared.Verdict.{Verdict}
 use Rattle.answer.specs.declared.Verdict.the-variants as Of
+use Rattle.answer.specs.declared.Ended.{Ended}
+use Rattle.answer.specs.declared.Ended.the-variants as E
 use Rattle.answer.proofs.ToldFixes.{told-fixes}
 
 -- a refusal tells, and tells no value
@@ -90,3 +92,10 @@ verdict-fixed Of.Unsettled (Of.Refused q) x e h = no-refusal q false x h e
 verdict-fixed (Of.Refused p) Of.Stable x e h = no-refusal p true x e h
 verdict-fixed (Of.Refused p) Of.Unsettled x e h = no-refusal p false x e h
 verdict-fixed (Of.Refused p) (Of.Refused q) x e h = ap Of.Refused (tells-alike p q x e h)
+
+pub ended-fixed : (r q : Ended) (a : Answer ℕ) → saysEnded r ≡ some a → saysEnded q ≡ some a → r ≡ q
+unfolding saysEnded
+ended-fixed (E.Rounds n) (E.Rounds m) a e h = let i : n ≡ m = cc in ap E.Rounds i
+ended-fixed (E.Rounds n) (E.Refused q) a e h = no-refusal q n a h e
+ended-fixed (E.Refused p) (E.Rounds m) a e h = no-refusal p m a e h
+ended-fixed (E.Refused p) (E.Refused q) a e h = ap E.Refused (tells-alike p q a e h)

@@ -45,6 +45,10 @@ maxDigits = 5
 abbrev pub maxTicks : ℕ
 maxTicks = 1099511627776
 
+-- the digits of 2^40: "samples are 1 to 2^40" (02, 4/13)
+abbrev pub maxTickDigits : ℕ
+maxTickDigits = 13
+
 abbrev pub limitsOf : Limits
 limitsOf =
     record {

@@ -17,6 +17,8 @@ use Rattle.answer.specs.declared.Verdict.{Verdict}
 use Rattle.answer.specs.declared.Verdict.the-variants as OfVerdict
 use Rattle.answer.specs.declared.Firing.{Firing}
 use Rattle.answer.specs.declared.Firing.the-variants as OfFiring
+use Rattle.answer.specs.declared.Ended.{Ended}
+use Rattle.answer.specs.declared.Ended.the-variants as OfEnded
 
 -- a refusal's number and the values of its place
 pub record Told : Type 0 where
@@ -31,11 +33,13 @@ pub data Shape : Type 0 where
   nowhere whole line row bytes index clock component cell clash shared-action shared-clock spot : Shape
   deriving Discrete as same-shape
 
--- the shape of place of each number, from 0, which is none; 2, 4 and 5 "carry line and column" since request 2
+-- the shape of place of each number, from 0, which is none, nor do 31 to 39 have one yet; 2, 4 and 5 "carry line and column" since request 2.
+-- Of a simulation (02, 4/13): 40 "first bad line, or one past the last", 41 "lowest such clock", 42 "the round"
 abbrev pub shapes : List Shape
 shapes =
     nowhere ∷ whole ∷ spot ∷ line ∷ spot ∷ spot ∷ line ∷ line ∷ whole ∷ whole ∷ row ∷ row ∷ cell ∷ cell ∷ component ∷ shared-action ∷ shared-clock
-    ∷ shared-action ∷ clash ∷ component ∷ whole ∷ whole ∷ whole ∷ index ∷ bytes ∷ whole ∷ whole ∷ whole ∷ whole ∷ clock ∷ clock ∷ []
+    ∷ shared-action ∷ clash ∷ component ∷ whole ∷ whole ∷ whole ∷ index ∷ bytes ∷ whole ∷ whole ∷ whole ∷ whole ∷ clock ∷ clock
+    ∷ nowhere ∷ nowhere ∷ nowhere ∷ nowhere ∷ nowhere ∷ nowhere ∷ nowhere ∷ nowhere ∷ nowhere ∷ line ∷ clock ∷ index ∷ []
 
 abbrev pub shapeOf : ℕ → Shape
 shapeOf n = getD shapes n nowhere
@@ -120,3 +124,8 @@ unfoldable pub saysFiring : Firing → Option (Answer Shot)
 saysFiring (OfFiring.Fired v a r) = some (answered (fired v a r))
 saysFiring OfFiring.Quiet = some (answered quiet)
 saysFiring (OfFiring.Refused r) = asRefused (told r)
+
+-- "It answers later rounds done" (02, 4/13)
+unfoldable pub saysEnded : Ended → Option (Answer ℕ)
+saysEnded (OfEnded.Rounds n) = some (answered n)
+saysEnded (OfEnded.Refused r) = asRefused (told r)

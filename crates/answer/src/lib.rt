@@ -144,6 +144,17 @@ pub struct Timed {
     pub state: State,
 }
 
+// How a simulation ended: later rounds done, or the refusal.
+pub enum Ended {
+    Rounds(usize),
+    Refused(Refusal),
+}
+
+pub struct Simulated {
+    pub ended: Ended,
+    pub state: State,
+}
+
 // The constants of the types are the limits that the definitions cite.
 pub fn bounds() -> Limits
     ensures { λ r. ⌜ r ≡ limitsOf ⌝ }

@@ -14,7 +14,7 @@ use Rattle.fields.specs.Resets.{valued}
 use Rattle.fields.proofs.ScanLaws.{front}
 
 -- ---- a number takes a byte at least
-more-shortens : (k n : ℕ) (bs : List ℕ) → length ((moreDigits k n bs) .rest) ≤ length bs
+pub more-shortens : (k n : ℕ) (bs : List ℕ) → length ((moreDigits k n bs) .rest) ≤ length bs
 unfolding moreDigits
 more-shortens zero n bs = omega arith
 more-shortens (suc k) n [] = omega arith

@@ -94,8 +94,8 @@ is-digit b e = let p = and-true (leb byte0 b) (ltb b (byte0 + 10)) e in (leb-tru
 pub digits-room : (k n d : ℕ) → n < 10 ^ k → d < 10 → n * 10 + d < 10 ^ (k + 1)
 digits-room k n d h l = rw add-one (omega arith)
 
-pub digits-few : (k n : ℕ) → k ≤ 4 → n < 10 ^ k → n < 10000
-digits-few k n h l = let p : 10 ^ k ≤ 10 ^ 4 = pow-le-pow-right (omega arith) h in omega arith
+pub digits-few : (k n : ℕ) → k ≤ 18 → n < 10 ^ k → n < 1000000000000000000
+digits-few k n h l = let p : 10 ^ k ≤ 10 ^ 18 = pow-le-pow-right (omega arith) h in omega arith
 
 -- ---- a number
 number-none : (b : ℕ) (bs : List ℕ) → isDigit b ≡ false → number (b ∷ bs) ≡ stops (b ∷ bs)

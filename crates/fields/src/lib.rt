@@ -1,10 +1,9 @@
 // Fields of a text: each scan takes bytes off at a cursor and answers a value with the cursor behind it, or where it stopped: at the first byte that could not stand there.
 ghost use mathlib.Core.Path.{_≡_};
 ghost use mathlib.Core.List.{List};
-ghost use Prim.Native.Nat.{ℕ, _-_, _<_};
+ghost use Prim.Native.Nat.{ℕ, _-_, _≤_, _<_};
 ghost use lib.ListN.{length, drop};
 ghost use Rattle.iosa.specs.Reading.{is, shorter, exactly, theByte, isDigit, moreDigits, number as numberOf, guardOrDash, kind as kindScan, moreNumbers, numbersOrDash, field};
-ghost use Rattle.answer.specs.Limits.{maxDigits};
 ghost use Rattle.fields.specs.Fields.{past, gotNumber, gotGuard, gotKind};
 ghost use Rattle.fields.specs.Resets.{gotResets, valued, first, with, withAll, summary};
 use answer::Model;
@@ -117,15 +116,15 @@ pub fn is_digit(b: u8) -> bool
     Sign::ZERO <= b && b < Sign::ZERO + 10
 }
 
-// The digits behind a number's first.
-fn more_digits(text: &[u8], first: u64, c: Cursor) -> NumberScan
-    requires { ⌜ first < 10 ⌝ }
-    ensures { λ r. ⌜ gotNumber (now (text .entry)) r ≡ is (moreDigits (maxDigits - 1) first (drop (c .at) (now (text .entry)))) ⌝ }
+// The digits behind the first of a number that has no more than `most`.
+pub fn more_digits(text: &[u8], first: u64, c: Cursor, most: usize) -> NumberScan
+    requires { ⌜ (first < 10) × (1 ≤ most) × (most ≤ 19) ⌝ }
+    ensures { λ r. ⌜ gotNumber (now (text .entry)) r ≡ is (moreDigits (most - 1) first (drop (c .at) (now (text .entry)))) ⌝ }
 {
     let mut n = first;
     let mut at = c.at;
     let mut k = 1;
-    while k < DIGITS {
+    while k < most {
         if text.len() <= at {
             return NumberScan::Is(Cursor { at }, n);
         }
@@ -154,7 +153,7 @@ pub fn number(text: &[u8], c: Cursor) -> NumberScan
     if b == Sign::ZERO {
         return NumberScan::Is(Cursor { at: at + 1 }, 0);
     }
-    more_digits(text, (b - Sign::ZERO) as u64, Cursor { at: at + 1 })
+    more_digits(text, (b - Sign::ZERO) as u64, Cursor { at: at + 1 }, DIGITS)
 }
 
 // A number behind a tab.

@@ -20,7 +20,8 @@ use Rattle.run.specs.Calls.{stepOn, stepByOn, settleOn, settleListOn, traceAfte
 use Rattle.words.specs.Words.{checkedWords, writtenWords}
 use Rattle.words.specs.Bytes.{stateOf}
 use Rattle.outset.specs.Start.{startOn}
-use Rattle.floodneedle.specs.Told.{componentOn, compatibleOn, acceptOn, confluentOn, timedOn, TimingTold, StartTold, StepTold, AdvanceTold, SettlingTold}
+use Rattle.floodneedle.specs.Told.{componentOn, compatibleOn, acceptOn, confluentOn, timedOn, TimingTold, StartTold, StepTold, AdvanceTold, SettlingTold, SimulationTold}
+use Rattle.simulate.specs.Simulate.{simulateOn}
 
 -- one value for two that are it
 one : {A : Type 0} {x y z : A} → x ≡ z → y ≡ z → x ≡ y
@@ -104,3 +105,8 @@ module _ (t : List ℕ) (p q b d : List ℕ) where
     pub floodneedle_timed_step-determined : (was u v : List ℤ) → TimingTold (timedOn t (stateOf s) was) (stateOf s) was u b p
         → TimingTold (timedOn t (stateOf s) was) (stateOf s) was v d q → (b ≡ d) × (p ≡ q) × (u ≡ v)
     floodneedle_timed_step-determined was u v g h = (one (g .state) (h .state), one (g .words) (h .words), one (g .values) (h .values))
+
+    -- s is the sample text
+    pub floodneedle_simulate-determined : (n : ℕ) (was u v : List ℤ) → SimulationTold (simulateOn t s n was) was u b p → SimulationTold (simulateOn t s n was) was v d q
+        → (b ≡ d) × (p ≡ q) × (u ≡ v)
+    floodneedle_simulate-determined n was u v g h = (one (g .state) (h .state), one (g .words) (h .words), one (g .values) (h .values))

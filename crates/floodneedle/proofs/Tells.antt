@@ -6,13 +6,14 @@ use mathlib.Core.List.{List}
 use Prim.Native.Nat.{ℕ}
 use lib.IntN.{ℤ}
 use lib.ListN.{length}
-use Rattle.answer.specs.Told.{Answer, answered, refused, saysChecked, Step, moved, stable, Shot, saysOutcome, saysVerdict, saysFiring}
+use Rattle.answer.specs.Told.{Answer, answered, refused, saysChecked, Step, moved, stable, Shot, saysOutcome, saysVerdict, saysFiring, saysEnded}
 use Rattle.answer.specs.declared.Outcome.{Outcome}
 use Rattle.answer.specs.declared.Outcome.the-variants.{Moved, Stable, Refused}
 use Rattle.answer.specs.declared.State.{State}
 use Rattle.answer.specs.declared.Stepped.{Stepped}
 use Rattle.answer.specs.declared.Settled.{Settled}
 use Rattle.answer.specs.declared.Timed.{Timed}
+use Rattle.answer.specs.declared.Simulated.{Simulated}
 use Rattle.iosa.specs.Start.{Beginning}
 use Rattle.iosa.specs.Stepped.{Stepping}
 use Rattle.iosa.specs.Orders.{Settling}
@@ -27,8 +28,9 @@ use Rattle.panel.proofs.Lengths.{step-keeps-length}
 use Rattle.run.specs.Calls.{stepOn}
 use Rattle.words.specs.Bytes.{stateOf, laidOver, movedOver}
 use Rattle.words.proofs.Laid.{laid-own, laid-with}
-use Rattle.words.specs.Words.{startedWords, steppedWords, settledWords, firedWords}
-use Rattle.floodneedle.specs.Told.{StartTold, StepTold, AdvanceTold, bytesMoved, bytesAfter, SettlingTold, TimingTold}
+use Rattle.words.specs.Words.{startedWords, steppedWords, settledWords, firedWords, writtenWords}
+use Rattle.simulation.specs.Call.{Simulating, SimulationAnswers}
+use Rattle.floodneedle.specs.Told.{StartTold, StepTold, AdvanceTold, bytesMoved, bytesAfter, SettlingTold, TimingTold, SimulationTold}
 
 -- ---- where a system begins
 pub start-told : (v : Answer Beginning) (r : Outset) (w : List ℕ) → StartLeaves r v
@@ -94,3 +96,8 @@ pub timing-told : (v : Answer Timing) (x : State) (was : List ℤ) (r : Timed) (
     → ((a : Answer Shot) → saysFiring (r .firing) ≡ some a → w ≡ firedWords a) → TimingTold v x was vs (r .state .parts) w
 timing-told (answered d) x was r vs w g h = record { words = h (answered (d .shot)) (g .firing); state = ap (λ s. s .parts) (g .state); values = g .values }
 timing-told (refused t) x was r vs w g h = record { words = h (refused t) (g .firing); state = ap (λ s. s .parts) (g .state); values = g .values }
+
+pub simulation-told : (v : Answer Simulating) (was : List ℤ) (r : Simulated) (vs : List ℤ) (w : List ℕ) → SimulationAnswers v was r vs
+    → ((a : Answer ℕ) → saysEnded (r .ended) ≡ some a → w ≡ writtenWords a) → SimulationTold v was vs (r .state .parts) w
+simulation-told (answered d) was r vs w g h = record { words = h (answered (d .rounds)) (g .ended); state = ap (λ (s : State). s .parts) (g .state); values = g .values }
+simulation-told (refused t) was r vs w g h = record { words = h (refused t) (g .ended); state = ap (λ (s : State). s .parts) (g .state); values = g .values }

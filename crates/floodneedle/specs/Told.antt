@@ -17,7 +17,9 @@ use Rattle.iosa.specs.TimedExactly.{Timing}
 use Rattle.outset.specs.Start.{stateIn}
 use Rattle.panel.specs.Advance.{outcomeOf}
 use Rattle.table.specs.OnTable.{onTable, checkOn}
-use Rattle.words.specs.Words.{startedWords, steppedWords, settledWords, firedWords}
+use Rattle.words.specs.Bytes.{stateOf}
+use Rattle.words.specs.Words.{startedWords, steppedWords, settledWords, firedWords, writtenWords}
+use Rattle.simulation.specs.Call.{Simulating}
 
 -- "one call for a component's own conditions, another for the compatibility of several" (02, 10/13)
 abbrev pub componentOn : List ℕ → ℕ → Answer (Unit {0})
@@ -98,3 +100,21 @@ startWords (refused t) = startedWords (refused t) 0 0
 pub record StartTold (v : Answer Beginning) (after told : List ℕ) : Type 0 where
   pub words : told ≡ startWords v
   pub state : after ≡ stateIn v .parts
+
+-- "It answers later rounds done and state and writes the declared clocks to 64 lent values" (02, 4/13); "A refusal .. changes no lent byte"
+abbrev pub roundsSaid : Answer Simulating → Answer ℕ
+roundsSaid (answered d) = answered (d .rounds)
+roundsSaid (refused t) = refused t
+
+abbrev pub simulationBytes : Answer Simulating → List ℕ
+simulationBytes (answered d) = stateOf (d .state) .parts
+simulationBytes (refused t) = noState .parts
+
+abbrev pub simulationValues : List ℤ → Answer Simulating → List ℤ
+simulationValues was (answered d) = d .values
+simulationValues was (refused t) = was
+
+pub record SimulationTold (v : Answer Simulating) (was vs : List ℤ) (after told : List ℕ) : Type 0 where
+  pub words : told ≡ writtenWords (roundsSaid v)
+  pub state : after ≡ simulationBytes v
+  pub values : vs ≡ simulationValues was v

@@ -1,9 +1,13 @@
 // The C library: the engine's calls over plain numbers and lent buffers (include/floodneedle.h says each call's promise in words).
 // An answer comes back as words, always written; a refusal leaves every other buffer as it was.
+use answer::Ended;
 use answer::State;
+use answer::Written;
 use words::Words;
 ghost use mathlib.Core.Path.{_≡_};
-ghost use Rattle.answer.specs.Told.{doneOf};
+ghost use mathlib.Core.Option.{some};
+ghost use Prim.Native.Nat.{ℕ};
+ghost use Rattle.answer.specs.Told.{Answer, doneOf, saysEnded};
 ghost use Rattle.words.specs.Words.{checkedWords, writtenWords};
 ghost use Rattle.words.specs.Version.{versionNumber};
 ghost use Rattle.layout.specs.Lent.{tableAfter};
@@ -16,7 +20,8 @@ ghost use Rattle.report.specs.Reported.{lengthTold, reportIn};
 ghost use Rattle.iosa.specs.Reading.{readOf};
 ghost use Rattle.table.specs.IsImage.{isImage};
 ghost use Rattle.words.specs.Bytes.{stateOf};
-ghost use Rattle.floodneedle.specs.Told.{componentOn, compatibleOn, acceptOn, confluentOn, timedOn, StartTold, TimingTold, StepTold, AdvanceTold, SettlingTold};
+ghost use Rattle.floodneedle.specs.Told.{componentOn, compatibleOn, acceptOn, confluentOn, timedOn, StartTold, TimingTold, StepTold, AdvanceTold, SettlingTold, SimulationTold};
+ghost use Rattle.simulate.specs.Simulate.{simulateOn};
 ghost use Rattle.run.specs.Calls.{stepOn, stepByOn, settleOn, settleListOn, traceAfter};
 
 // The version as one number.
@@ -175,6 +180,40 @@ pub extern "C" fn floodneedle_timed_step(
     let parts = next.parts;
     *after = parts;
     *answer = words::fired_words(firing);
+}
+
+// The later rounds done, told as a length is.
+fn ended_words(r: Ended) -> [u64; Words::COUNT]
+    ensures { λ w. ⌜ ((a : Answer ℕ) → saysEnded r ≡ some a → w ≡ writtenWords a) ⌝ }
+{
+    match r {
+        Ended::Rounds(n) => words::written_words(Written::Length(n)),
+        Ended::Refused(f) => words::written_words(Written::Refused(f)),
+    }
+}
+
+// A simulation over recorded samples.
+#[no_mangle]
+pub extern "C" fn floodneedle_simulate(
+    table: &[u64],
+    samples: &[u8],
+    rounds: usize,
+    clocks: &mut [i64],
+    after: &mut [u8; State::PARTS],
+    answer: &mut [u64; Words::COUNT],
+)
+    ensures { λ _. ⌜ SimulationTold (simulateOn (now (table .entry)) (now (samples .entry)) rounds (now (clocks .entry)))
+        (now (clocks .entry))
+        (now (clocks .exit))
+        (now (after .exit))
+        (now (answer .exit)) ⌝ }
+{
+    let r = simulate::simulate(table, samples, rounds, clocks);
+    let last = r.state;
+    let ended = r.ended;
+    let parts = last.parts;
+    *after = parts;
+    *answer = ended_words(ended);
 }
 
 // One urgent step by our rule.

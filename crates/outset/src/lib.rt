@@ -28,7 +28,7 @@ fn start_at(t: &[u64], i: usize) -> u8
 }
 
 // The start state of the system.
-fn start_state(t: &[u64]) -> State
+pub fn start_state(t: &[u64]) -> State
     requires { ⌜ Image (now t) ⌝ }
     ensures { λ r. ⌜ r ≡ stateOf (startAll (modelOf (now (t .entry)))) ⌝ }
 {

@@ -1,4 +1,5 @@
 // Steps and settling in a model that is accepted, from a state of it: the checks are the caller's.
+use answer::Model;
 use answer::Outcome;
 use answer::Place;
 use answer::Refusal;
@@ -109,6 +110,27 @@ pub fn by_rule(t: &[u64], x: State, budget: usize, trace: &mut [u8]) -> Settled
         steps += 1;
     }
     ended(t, State { count: n, parts }, steps, resets)
+}
+
+// The same without a trace: a round of a simulation keeps none.
+pub fn untraced(t: &[u64], x: State, budget: usize) -> Settled
+    requires { ⌜ Ready (now t) x ⌝ }
+    ensures { λ r. ⌜ SettleGives (modelOf (now (t .entry))) budget x r ⌝ }
+{
+    let n = x.count;
+    let mut parts = x.parts;
+    let mut resets = 0u64;
+    let mut taken = 0usize;
+    while taken < budget {
+        let a = moves::lowest_of(t, &parts, n);
+        if Model::ACTIONS as u64 <= a {
+            return ended(t, State { count: n, parts }, taken, resets);
+        }
+        let reset = moves::move_in(t, &mut parts, n, a);
+        resets = sets::union(resets, reset);
+        taken += 1;
+    }
+    ended(t, State { count: n, parts }, taken, resets)
 }
 
 // Settling by a list: the listed actions in order.

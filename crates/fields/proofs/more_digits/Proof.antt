@@ -13,10 +13,11 @@ use Rattle.fields.proofs.more_digits.Statement.{statement}
 use Rattle.fields.proofs.more_digits.Tie as tie
 
 abbrev Inv-loop : tie.InvT-loop
-Inv-loop text first n₀ at₀ k₀ n at k = (1 ≤ k) × (k ≤ 5) × (n < 10 ^ k) × (moreDigits (5 - k) n (drop at text) ≡ moreDigits 4 first (drop at₀ text))
+Inv-loop text first most n₀ at₀ k₀ n at k =
+    (1 ≤ k) × (k ≤ most) × (n < 10 ^ k) × (moreDigits (most - k) n (drop at text) ≡ moreDigits (most - 1) first (drop at₀ text))
 
 abbrev μ-loop : tie.MeasureT-loop
-μ-loop text first n₀ at₀ k₀ n at k = 5 - k
+μ-loop text first most n₀ at₀ k₀ n at k = most - k
 
 abbrev read : tie.Else2 Inv-loop μ-loop → ℕ
 read c = getD (now (c .before .before .before .before .before .before .before .args .text)) (c .before .before .before .before .before .loop .at) 0
@@ -34,7 +35,7 @@ returns : tie.Need-returns Inv-loop μ-loop
 returns c =
     let a = c .before .before .before .before .args in
     let l = c .before .before .loop in
-    ap is (sym (digits-end (now (a .text)) (5 - l .k) (l .n) (l .at) (c .if1 .taken)) ∙ l .inv .3)
+    ap is (sym (digits-end (now (a .text)) (a .most - l .k) (l .n) (l .at) (c .if1 .taken)) ∙ l .inv .3)
 
 shared-slice-read-b : tie.Need-shared-slice-read-b Inv-loop μ-loop
 shared-slice-read-b c = omega arith
@@ -47,7 +48,7 @@ returns-2 c =
     let a = c .before .before .before .before .before .before .before .args in
     let l = c .before .before .before .before .before .loop in
     let e = sym (c .before .is-digit .ensures) ∙ not-true _ (c .if2 .taken) in
-    ap is (sym (digits-stop (now (a .text)) (5 - l .k) (l .n) (l .at) (omega arith) e) ∙ l .inv .3)
+    ap is (sym (digits-stop (now (a .text)) (a .most - l .k) (l .n) (l .at) (omega arith) e) ∙ l .inv .3)
 
 mul-n : tie.Need-mul-n Inv-loop μ-loop
 mul-n c = let l = c .before .before .before .before .before .loop in omega (arith, digits-few (l .k) (l .n) (omega arith) (l .inv .2))
@@ -76,14 +77,14 @@ loop-again c =
     let l = c .before .before .before .before .before .loop in
     let b = getD (now (a .text)) (l .at) 0 in
     let d = digit c in
-    let e = digits-on (now (a .text)) (5 - l .k) (l .n) (l .at) (5 - (l .k + 1)) (omega arith) (is-one c) (omega arith) in
+    let e = digits-on (now (a .text)) (a .most - l .k) (l .n) (l .at) (a .most - (l .k + 1)) (omega arith) (is-one c) (omega arith) in
     (omega arith, omega arith, digits-room (l .k) (l .n) (b - 48) (l .inv .2) (omega arith), sym e ∙ l .inv .3)
 
 returns-3 : tie.Need-returns-3 Inv-loop μ-loop
 returns-3 c =
     let a = c .before .before .before .args in
     let l = c .before .loop in
-    ap is (sym (more-full (5 - l .k) (l .n) (drop (l .at) (now (a .text))) (omega arith)) ∙ l .inv .3)
+    ap is (sym (more-full (a .most - l .k) (l .n) (drop (l .at) (now (a .text))) (omega arith)) ∙ l .inv .3)
 
 pub more-digits-spec : {M : Type 1} → statement M
 more-digits-spec =

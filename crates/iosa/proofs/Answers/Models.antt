@@ -93,7 +93,7 @@ parts-decided c cs well s w =
     let al = wells (c ∷ cs) well in
     record { told = reach-fault-exactly (c ∷ cs) s al w; fine = reach-faultless (c ∷ cs) s al w }
 
-budget-decided : (n : ℕ) → Decided (needs 22 (n ≤ maxBudget)) (budgetFault n)
+pub budget-decided : (n : ℕ) → Decided (needs 22 (n ≤ maxBudget)) (budgetFault n)
 unfolding budgetFault
 budget-decided n = needs-decided 22 (n ≤ maxBudget) (ltb maxBudget n) (ltb-false maxBudget n, le-ltb maxBudget n)
 

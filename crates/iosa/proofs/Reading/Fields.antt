@@ -40,7 +40,7 @@ exactly-scanned (w ∷ ws) (b ∷ bs) g e = go (exactly-scanned ws bs g) (eqb w 
     go ih false q e = absurd (no-is refl e)
 
 -- ---- a number
-ends-no-digit : (bs : List ℕ) → Ends bs → NoDigit bs
+pub ends-no-digit : (bs : List ℕ) → Ends bs → NoDigit bs
 ends-no-digit [] e = tt
 ends-no-digit (b ∷ bs) e = e .0
 

@@ -12,7 +12,7 @@ use Rattle.iosa.proofs.Reading.Scans.{is-inj, no-is, then-is}
 use Rattle.iosa.proofs.Reading.Fields.{exactly-scanned, number-exact, kind-exact, guard-exact, list-exact}
 
 -- ---- a field behind a tab, and the line's end
-fields-end : (fs : List (List ℕ)) (bs : List ℕ) → Ends (fieldsAfter fs ++ bs)
+pub fields-end : (fs : List (List ℕ)) (bs : List ℕ) → Ends (fieldsAfter fs ++ bs)
 unfolding fieldsAfter
 fields-end [] bs = (refl, refl)
 fields-end (f ∷ fs) bs = (refl, refl)

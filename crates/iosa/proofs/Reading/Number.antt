@@ -24,10 +24,10 @@ pub data Behind (d : ℕ) : List ℕ → ℕ → Type 0 where
   none-behind : Behind d [] d
   one-more : {ds : List ℕ} {n : ℕ} (c : ℕ) → Behind d ds n → c < 10 → Behind d (ds ++ (byte0 + c) ∷ []) (n * 10 + c)
 
-digit-is : (c : ℕ) → c < 10 → isDigit (byte0 + c) ≡ true
+pub digit-is : (c : ℕ) → c < 10 → isDigit (byte0 + c) ≡ true
 digit-is c h = rw (le-leb byte0 (byte0 + c) (omega arith), lt-ltb (byte0 + c) (byte0 + 10) (omega arith))
 
-is-digit : (b : ℕ) → isDigit b ≡ true → (byte0 ≤ b) × (b < byte0 + 10)
+pub is-digit : (b : ℕ) → isDigit b ≡ true → (byte0 ≤ b) × (b < byte0 + 10)
 is-digit b e = let p = and-true (leb byte0 b) (ltb b (byte0 + 10)) e in (leb-true byte0 b (p .0), ltb-true b (byte0 + 10) (p .1))
 
 -- ---- digits printed
@@ -84,7 +84,7 @@ digits-taken j d bs (one-more {ds} {n} c w l) h =
     step k = rw (digit-is c l, moreDigits) (let e : n * 10 + (byte0 + c - byte0) ≡ n * 10 + c = omega arith in ap (λ m. moreDigits k m bs) e)
 
 -- where no digit follows, the scan ends
-digits-end : (j n : ℕ) (bs : List ℕ) → NoDigit bs → moreDigits j n bs ≡ record { value = n; rest = bs }
+pub digits-end : (j n : ℕ) (bs : List ℕ) → NoDigit bs → moreDigits j n bs ≡ record { value = n; rest = bs }
 unfolding moreDigits
 digits-end zero n bs h = refl
 digits-end (suc j) n [] h = refl
@@ -123,7 +123,7 @@ taken (suc j) d (b ∷ bs) = go (taken j (d * 10 + (b - byte0)) bs) (isDigit b) 
           worth = rw at at (more-behind {d = d} (b - byte0) (omega arith) (r .worth));
         })
 
-behind-least : {d : ℕ} {ds : List ℕ} {n : ℕ} → Behind d ds n → d ≤ n
+pub behind-least : {d : ℕ} {ds : List ℕ} {n : ℕ} → Behind d ds n → d ≤ n
 behind-least none-behind = omega arith
 behind-least (one-more c w l) = omega (arith, behind-least w)
 

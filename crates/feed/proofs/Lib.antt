@@ -1,0 +1,4 @@
+pub mod InPlace
+pub mod FeedLaws
+pub mod Filling
+pub mod Supplied

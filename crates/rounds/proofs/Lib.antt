@@ -1,0 +1,5 @@
+pub mod Keeps
+pub mod Poses
+pub mod Ending
+pub mod Turning
+pub mod Going

@@ -1,0 +1,71 @@
+-- `rounds::later` meets its contract.
+use mathlib.Core.Path.{refl}
+use denote.Ref.{now}
+use borrow.Author.Needs.{needs}
+use Rattle.rounds.proofs.Turning.{armed, fired-posed, later-closes, later-rests, later-told}
+use Rattle.rounds.proofs.later.Statement.{statement}
+use Rattle.rounds.proofs.later.Tie as tie
+
+shoot-requires : tie.Need-shoot-requires
+shoot-requires c κs = armed _ _ _ (c .before .before .before .before .before .pre)
+
+enum-known-firing : tie.Need-enum-known-firing
+enum-known-firing c = search needs
+
+close-requires : tie.Need-close-requires
+close-requires c κs =
+    let f = c .before .before in
+    let h = f .before .before .before .before in
+    let s0 = h .before .before .before .before .before .before in
+    fired-posed _ (now (s0 .args .text)) 0 (s0 .args .s) _ (s0 .pre) _ _ (h .shoot .ensures) _ _ _ (f .firing .given .1)
+
+enum-told : tie.Need-enum-told
+enum-told c = search needs
+
+enum-known-firing-2 : tie.Need-enum-known-firing-2
+enum-known-firing-2 c = search needs
+
+same-length : tie.Need-same-length
+same-length c = search needs
+
+returns : tie.Need-returns
+returns c =
+    let e = c .before in
+    let f = e .before .before .before in
+    let h = f .before .before .before .before in
+    let s0 = h .before .before .before .before .before .before in
+    later-closes _ _ _ (s0 .args .s) _ (s0 .pre) _ _ (h .shoot .ensures) _ _ _ (f .firing .given .1) _ _ (e .close .ensures)
+
+same-length-2 : tie.Need-same-length-2
+same-length-2 c = search needs
+
+returns-2 : tie.Need-returns-2
+returns-2 c =
+    let h = c .before .before .before .before in
+    let s0 = h .before .before .before .before .before .before in
+    later-rests _ _ _ (s0 .args .s) _ (s0 .pre) _ _ (h .shoot .ensures) (c .enum-told .given .1) _ refl
+
+same-length-3 : tie.Need-same-length-3
+same-length-3 c = search needs
+
+returns-3 : tie.Need-returns-3
+returns-3 c =
+    let h = c .before .before .before .before .before in
+    let s0 = h .before .before .before .before .before .before in
+    later-told _ _ _ (s0 .args .s) _ (s0 .pre) _ _ (h .shoot .ensures) _ (c .before .firing2 .given .1) _ refl
+
+pub later-spec : {M : Type 1} → statement M
+later-spec =
+    tie.close
+    (tie.spec
+    shoot-requires
+    enum-known-firing
+    close-requires
+    enum-told
+    enum-known-firing-2
+    same-length
+    returns
+    same-length-2
+    returns-2
+    same-length-3
+    returns-3)

@@ -1,0 +1,3 @@
+pub mod SampleLaws
+pub mod LineLaws
+pub mod TextLaws

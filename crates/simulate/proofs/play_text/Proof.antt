@@ -1,0 +1,86 @@
+-- `simulate::play_text` meets its contract: 22, 28, 40, then the rounds.
+use mathlib.Core.Path.{refl, subst}
+use borrow.Author.Needs.{needs}
+use denote.Ref.{now}
+use Rattle.iosa.specs.Model.{declared}
+use Rattle.layout.specs.Image.{modelOf}
+use Rattle.samples.specs.Text.{Scans}
+use Rattle.simulation.specs.Samples.{samplesOf}
+use Rattle.simulate.proofs.Called.{told-22, told-28, told-40, plays}
+use Rattle.simulate.proofs.play_text.Statement.{statement}
+use Rattle.simulate.proofs.play_text.Tie as tie
+
+-- what the scan found, of the clocks that the model declares
+scanned : (c : tie.After-scan) → Scans (samplesOf (declared (modelOf (now (c .before .before .before .before .before .before .args .t)))) (now (c .before .before .before .before .before .before .args .text)))
+    (now (c .before .before .before .before .before .before .args .text)) (c .scan .result)
+scanned c =
+    let x = now (c .before .before .before .before .before .before .args .text) in
+    subst (λ d. Scans (samplesOf d x) x (c .scan .result)) (c .before .declared .ensures) (c .scan .ensures)
+
+refused-requires : tie.Need-refused-requires
+refused-requires c κs = search needs
+
+returns : tie.Need-returns
+returns c = let i = c .before in told-22 _ _ _ _ (i .before .before .before .pre .1) (i .if1 .taken) _ (c .refused .ensures)
+
+refused-requires-2 : tie.Need-refused-requires-2
+refused-requires-2 c κs = search needs
+
+returns-2 : tie.Need-returns-2
+returns-2 c = let i = c .before .before in told-28 _ _ _ _ (i .before .before .before .pre .1) (i .if1 .left) (c .before .if2 .taken) _ (c .refused2 .ensures)
+
+declared-requires : tie.Need-declared-requires
+declared-requires c κs = c .before .before .before .before .pre .0 .image
+
+scan-requires : tie.Need-scan-requires
+scan-requires c κs = search needs
+
+enum-told : tie.Need-enum-told
+enum-told c = search needs
+
+play-requires : tie.Need-play-requires
+play-requires c κs = search needs
+
+enum-known-checked : tie.Need-enum-known-checked
+enum-known-checked c = search needs
+
+refused-requires-3 : tie.Need-refused-requires-3
+refused-requires-3 c κs = search needs
+
+same-length : tie.Need-same-length
+same-length c = search needs
+
+returns-3 : tie.Need-returns-3
+returns-3 c =
+    let p = c .before in
+    let e = p .before .before in
+    let s = e .before .before .before in
+    let i = s .before .before in
+    let s0 = i .before .before .before .before in
+    plays _ _ _ _ (s0 .pre .1) (i .before .if1 .left) (i .if2 .left) (s .scan .result) (scanned s) _ refl (e .enum-told .given .1) _ _ (p .play .ensures)
+
+returns-4 : tie.Need-returns-4
+returns-4 c =
+    let e = c .before .before in
+    let s = e .before .before .before in
+    let i = s .before .before in
+    let s0 = i .before .before .before .before in
+    told-40 _ _ _ _ (s0 .pre .1) (i .before .if1 .left) (i .if2 .left) (s .scan .result) (scanned s) _ (e .checked .given .1) _ (c .refused3 .ensures)
+
+pub play-text-spec : {M : Type 1} → statement M
+play-text-spec =
+    tie.close
+    (tie.spec
+    refused-requires
+    returns
+    refused-requires-2
+    returns-2
+    declared-requires
+    scan-requires
+    enum-told
+    play-requires
+    enum-known-checked
+    refused-requires-3
+    same-length
+    returns-3
+    returns-4)

@@ -1,0 +1,3 @@
+pub mod Simulate
+pub mod SimulateExactly
+pub mod Rounds

@@ -1,0 +1,13 @@
+pub mod Each
+pub mod Fed
+pub mod Agree
+pub mod Counts
+pub mod Sound
+pub mod Closing
+pub mod Ours
+pub mod Lines
+pub mod ReadExactly
+pub mod Answers
+pub mod Whole
+pub mod Examples
+pub mod Witness

@@ -1,0 +1,6 @@
+pub mod Simulate
+pub mod Samples
+pub mod Free
+pub mod Call
+pub mod Exactly
+pub mod Examples
