@@ -1,0 +1,1 @@
+// The new test called: what it refuses, in order; definitions in specs/, theorems in proofs/.
