@@ -1,2 +1,4 @@
-pub mod Opening
-pub mod Orderly
+pub mod Checking
+pub mod Answers
+pub mod Determined
+pub mod Exactly

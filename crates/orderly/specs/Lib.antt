@@ -1,1 +1,2 @@
-pub mod Orderly
+pub mod Calls
+pub mod OrderlyExactly
