@@ -85,14 +85,14 @@ fn check_else(t: &[u64], clash: Refusal) -> Checked
     requires { ⌜ Image (now t) × (acceptOf (modelOf (now t)) ≡ none) × Says (Checked.Refused clash) (clashAmong 0 (modelOf (now t))) ⌝ }
     ensures { λ r. ⌜ Says r (calledFault (modelOf (now (t .entry)))) ⌝ }
 {
-    let closed = check_closed(t);
-    let Checked::Fine = closed else {
-        return closed;
+    let open = check_closed(t);
+    let Checked::Fine = open else {
+        return open;
     };
-    if harms::passes(t) {
-        return closed;
+    if !harms::passes(t) {
+        return Checked::Refused(clash);
     }
-    Checked::Refused(clash)
+    Checked::Fine
 }
 
 // Check 18, or else 45, then 18.
