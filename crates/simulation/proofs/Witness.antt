@@ -8,27 +8,31 @@ use lib.IntN.{pos}
 use Rattle.answer.specs.Told.{answered}
 use Rattle.iosa.specs.Model.{Comp}
 use Rattle.iosa.specs.WellFormed.{WellFormed}
-use Rattle.iosa.specs.Product.{Reached}
-use Rattle.iosa.specs.Checks.{confluentOf}
 use Rattle.iosa.specs.Examples.{M, bytesOf}
-use Rattle.iosa.proofs.Acceptance.ConfluentExactly.{confluent-accepted}
+use Rattle.iosa.proofs.Acceptance.Accepted.{accepted-exactly}
 use Rattle.iosa.proofs.Reading.ReadOfText.{read-exactly}
 use Rattle.iosa.proofs.Settling.Witness.{M₀, M₁, M-is-read}
+use Rattle.triggering.specs.Test.{entryOf}
+use Rattle.walkable.specs.Orderly.{Settles}
+use Rattle.walkable.proofs.Orderly.{entry-exactly}
 use Rattle.simulation.specs.Simulate.{Supply, Round, Simulation, simulateOf}
 use Rattle.simulation.specs.Samples.{samplesOf, recorded, SamplesAnswer}
 use Rattle.simulation.specs.Free.{After, Simulates, is-done}
 use Rattle.simulation.specs.Examples.{reply, lineRefused}
 use Rattle.simulation.proofs.Answers.{recorded-fair}
-use Rattle.simulation.proofs.Counts.{reached-parts-count}
+use Rattle.simulation.proofs.Counts.{Reaches, reached-states-count}
 use Rattle.simulation.proofs.Ours.{simulates-exactly}
 use Rattle.simulation.proofs.ReadExactly.{samples-read-exactly}
 
 M-well : WellFormed (M₀ ∷ M₁ ∷ [])
 M-well = read-exactly (bytesOf M) (M₀ ∷ M₁ ∷ []) .0 M-is-read .0
 
-M-confluent : confluentOf (M₀ ∷ M₁ ∷ []) ≡ none
+M-enters : entryOf (M₀ ∷ M₁ ∷ []) ≡ none
 unfolding reply M₀ M₁
-M-confluent = refl
+M-enters = refl
+
+M-settles : Settles (M₀ ∷ M₁ ∷ [])
+M-settles = entry-exactly (M₀ ∷ M₁ ∷ []) M-well .0 M-enters
 
 -- clock 0 has two samples
 unfoldable pub twoSamples : List (List ℕ)
@@ -48,9 +52,9 @@ one-round = refl
 
 pub a-simulation-of-M : After M₀ (M₁ ∷ []) (recorded twoSamples) 1 endOfOne
 a-simulation-of-M =
-    let m = M₀ ∷ M₁ ∷ [] in
-    let count = reached-parts-count M₀ (M₁ ∷ []) M-well M-confluent in
-    the-last (simulates-exactly M₀ (M₁ ∷ []) M-well (confluent-accepted m M-confluent) (Reached m) count (recorded twoSamples) (recorded-fair text-of-two) 1
+    let acc = accepted-exactly (M₀ ∷ M₁ ∷ []) M-well .1 (M-settles .conforms, M-settles .joins) in
+    let count = reached-states-count M₀ (M₁ ∷ []) M-well M-settles in
+    the-last (simulates-exactly M₀ (M₁ ∷ []) M-well acc (Reaches M₀ (M₁ ∷ [])) count (recorded twoSamples) (recorded-fair text-of-two) 1
     (answered (record { rounds = 1; last = endOfOne })) .0 one-round)
   where
     the-last : {c : Comp} {cs : List Comp} {p : Supply} {n : ℕ} {d : Simulation} → Simulates c cs p n (answered d) → After c cs p (d .rounds) (d .last)
