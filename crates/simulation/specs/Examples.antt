@@ -125,7 +125,9 @@ roundCases =
 -- systems that are not confluent: one that the new test lets through, an open one, one that neither test lets through; and an open one that is confluent
 unfoldable pub eitherCases : List Case
 eitherCases =
-    S openTurns "0\t5\t7\t9\n" 2 64 (refuses-with 45 (3 ∷ []))
+    S turns "0\t5\t7\t9\n" 2 64 (done 2 (0 ∷ 1 ∷ []) (pos 9 ∷ kept 63))
+    ∷ S openTurns "0\t5\t7\t9\n" 2 64 (refuses-with 45 (3 ∷ []))
+    ∷ S parted "" 0 64 (refuses-with 18 (0 ∷ 0 ∷ 0 ∷ 1 ∷ []))
     ∷ S openLoop "0\t5\t7\n" 1 64 (done 1 (0 ∷ []) (pos 7 ∷ kept 63))
     ∷ []
 
