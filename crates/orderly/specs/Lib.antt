@@ -1,1 +1,1 @@
-pub mod Orderly
+-- The contracts of the calls.

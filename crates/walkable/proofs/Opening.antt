@@ -20,7 +20,7 @@ use Rattle.iosa.proofs.Acceptance.Rows.{input-below}
 use Rattle.triggering.specs.Triggering.{NoOpenInput, OpenInput}
 use Rattle.triggering.specs.Test.{inputsOf, outputsOf, openFault}
 use Rattle.triggering.proofs.Tables.{in-joined}
-use Rattle.orderly.specs.Orderly.{Open}
+use Rattle.walkable.specs.Orderly.{Open}
 
 module _ (m : Model) (w : WellFormed m) where
   abbrev open? : ℕ → Bool
