@@ -1,1 +1,4 @@
--- The proofs of the calls.
+pub mod Checking
+pub mod Answers
+pub mod Determined
+pub mod Exactly

@@ -1,1 +1,2 @@
--- The contracts of the calls.
+pub mod Calls
+pub mod OrderlyExactly

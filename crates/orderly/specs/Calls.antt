@@ -1,0 +1,24 @@
+-- What the new test answers of a table when it is called (02, 8/13), and what stands in the way of a path or of a simulation.
+use mathlib.Core.Path.{_≡_}
+use mathlib.Core.Option.{Option, some}
+use mathlib.Core.List.{List}
+use Prim.Native.Nat.{ℕ}
+use Rattle.laws.specs.Search.{orElse}
+use Rattle.answer.specs.Told.{Told, saysChecked}
+use Rattle.answer.specs.declared.Checked.{Checked}
+use Rattle.table.specs.OnTable.{checkOn}
+use Rattle.iosa.specs.Model.{Model}
+use Rattle.iosa.specs.Checks.{clashAmong}
+use Rattle.triggering.specs.Test.{openFault, unlessPasses, orderlyOf, entryOf}
+
+-- of an accepted model, where the new test is called: 45, then 18
+abbrev pub calledFault : Model → Option Told
+calledFault m = orElse (openFault m) (unlessPasses m (clashAmong 0 m))
+
+-- of the call `orderly`: 20, then 10 to 17, then 45, then 18
+abbrev pub OrderlyCall : List ℕ → Checked → Type 0
+OrderlyCall t r = saysChecked r ≡ some (checkOn t orderlyOf)
+
+-- of `may_walk`: 20, then 10 to 17, then check 18, or else 45, then 18
+abbrev pub MayWalk : List ℕ → Checked → Type 0
+MayWalk t r = saysChecked r ≡ some (checkOn t entryOf)
