@@ -30,7 +30,7 @@ use Rattle.iosa.proofs.Timing.Fire.{clock-row-leads, Shoots, enabling-shoots}
 use Rattle.paths.specs.Path.{Steps, urgently, calmly, afterOf, onlyIf, byRow, calmStep, pathStep}
 
 -- a row with a clock that some component has here is enabling
-row-enables : (m : Model) (s : List ℕ) (x : ℕ) (r : Row) → clockRowOf m s x ≡ some r → EnablesIn m s x
+pub row-enables : (m : Model) (s : List ℕ) (x : ℕ) (r : Row) → clockRowOf m s x ≡ some r → EnablesIn m s x
 unfolding clockRowOf
 row-enables [] s x r e = absurd (no-some refl e)
 row-enables (c ∷ cs) [] x r e = absurd (no-some refl e)
@@ -41,7 +41,7 @@ row-enables (c ∷ cs) (s ∷ ss) x r e = go (clockRow c s x) refl e (row-enable
     go (some q) f e ih = inl (record { guard = only x; action = _; resets = _; target = _; guards = in-one x; row = clock-row-leads c s x q f })
 
 -- a clock that fires, by what each part of the step says
-calm-some : (m : Model) (s : List ℕ) (a x : ℕ) (r : Row) (g : Gone (List ℕ)) → isStable m s ≡ true → clockRowOf m s x ≡ some r → r .action ≡ a
+pub calm-some : (m : Model) (s : List ℕ) (a x : ℕ) (r : Row) (g : Gone (List ℕ)) → isStable m s ≡ true → clockRowOf m s x ≡ some r → r .action ≡ a
     → fireAll m s x a ≡ some g → calmStep m s a x ≡ some (g .after)
 unfolding calmStep
 calm-some m s a x r g st f q e =
