@@ -18,7 +18,7 @@ use Rattle.iosa.proofs.Settling.Witness.{M₀, M₁, M-is-read}
 use Rattle.triggering.specs.Test.{entryOf}
 use Rattle.walkable.proofs.Orderly.{entry-exactly}
 use Rattle.simulation.specs.Simulate.{Supply, Round, Simulation, simulateOf}
-use Rattle.simulation.specs.Samples.{samplesOf, recorded, SamplesAnswer}
+use Rattle.simulation.specs.Samples.{recorded, SamplesAnswer}
 use Rattle.simulation.specs.Free.{After, Simulates, is-done}
 use Rattle.simulation.specs.Examples.{reply, lineRefused, turns}
 use Rattle.simulation.proofs.Answers.{recorded-fair}
@@ -31,8 +31,8 @@ abbrev row : ℕ → ℕ → ℕ → ℕ → ℕ → Row
 row f g a r t = record { from = f; guard = g; action = a; resets = r; target = t }
 
 -- what is computed is the end of a simulation with free choice
-computed : (c : Comp) (cs : List Comp) → WellFormed (c ∷ cs) → entryOf (c ∷ cs) ≡ none → {d : ℕ} {t : List ℕ} {ls : List (List ℕ)} → SamplesAnswer d t (answered ls)
-    → (n : ℕ) (z : Simulation) → simulateOf (c ∷ cs) (recorded ls) n ≡ answered z → After c cs (recorded ls) (z .rounds) (z .last)
+computed : (c : Comp) (cs : List Comp) → WellFormed (c ∷ cs) → entryOf (c ∷ cs) ≡ none → {d : ℕ} {t : List ℕ} {ls : List (List ℕ)}
+    → SamplesAnswer d t (answered ls) → (n : ℕ) (z : Simulation) → simulateOf (c ∷ cs) (recorded ls) n ≡ answered z → After c cs (recorded ls) (z .rounds) (z .last)
 computed c cs well e {ls = ls} s n z h =
     let ok = entry-exactly (c ∷ cs) well .0 e in
     let acc = accepted-exactly (c ∷ cs) well .1 (ok .conforms, ok .joins) in
