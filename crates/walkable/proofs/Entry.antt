@@ -5,18 +5,19 @@ use mathlib.Core.Bool.{Bool, true, false, true≢false}
 use mathlib.Core.Option.{Option, none, some, Option·some-inj}
 use Rattle.laws.specs.Search.{orElse}
 use Rattle.laws.proofs.SearchLaws.{no-some}
-use Rattle.answer.specs.Told.{Told}
+use Rattle.answer.specs.Told.{Told, Answer}
 use Rattle.iosa.specs.Model.{Model}
 use Rattle.iosa.specs.WellFormed.{WellFormed}
 use Rattle.iosa.specs.Automaton.{Conforming, Joinable, AllConfluent}
 use Rattle.iosa.specs.Faults.{Clash, First}
-use Rattle.iosa.specs.Checks.{clashAmong}
-use Rattle.iosa.proofs.Answers.InOrder.{Decided}
-use Rattle.iosa.proofs.Answers.Models.{confluent-decided}
+use Rattle.iosa.specs.Checks.{clashAmong, acceptOf}
+use Rattle.iosa.specs.InOrder.{_▹_, accepted}
+use Rattle.iosa.proofs.Answers.InOrder.{Decided, refusedOr, or-refused, check-exactly}
+use Rattle.iosa.proofs.Answers.Models.{confluent-decided, check-accepted}
 use Rattle.triggering.specs.Triggering.{Passes, NoOpenInput}
-use Rattle.triggering.specs.Test.{passesOf, openFault, unlessPasses, elseOrderly}
+use Rattle.triggering.specs.Test.{passesOf, openFault, unlessPasses, elseOrderly, entryOf}
 use Rattle.triggering.proofs.Passing.{passes-exactly, confluent-passes}
-use Rattle.walkable.specs.Orderly.{Open}
+use Rattle.walkable.specs.Orderly.{Open, Settles}
 use Rattle.walkable.specs.Entry.{closed, passing, Unsettled, settles}
 use Rattle.walkable.proofs.Opening.{closed-exactly, open-exactly}
 
@@ -97,3 +98,13 @@ module _ (m : Model) (w : WellFormed m) where
 
     pub settles-decided : Decided (settles m) (elseOrderly m (clashAmong 0 m))
     settles-decided = record { told = settles-told (clashAmong 0 m) refl; fine = settles-fine (clashAmong 0 m) refl }
+
+-- what comes after the checks of either test may count on it
+pub check-settles : {A : Type 0} (m : Model) → WellFormed m → (x : Answer A) (R : Answer A → Type 0) → (Settles m → (a : Answer A) → (x ≡ a) ↔ R a)
+    → (a : Answer A) → (refusedOr (entryOf m) x ≡ a) ↔ (accepted m ▹ settles m ▹ R) a
+unfolding entryOf
+check-settles m w x R f a =
+    let o = elseOrderly m (clashAmong 0 m) in
+    rw (or-refused (acceptOf m) o x) (
+    check-accepted m w (refusedOr o x) (settles m ▹ R) (λ k.
+    check-exactly (settles m) o (settles-decided m w k) x R (λ e. f (record { conforms = k .0; joins = k .1; either = e }))) a)
