@@ -1,6 +1,5 @@
 -- "a listed path of such steps, 0 to 4,096, each an action and its guard" (02, 8/13): two bytes for a step, the action and the guard as in a row of the
 -- table, 0 for `-` and x + 1 for clock x.
-use mathlib.Core.Path.{_≡_}
 use mathlib.Core.Option.{Option, none, some}
 use mathlib.Core.Bool.{Bool, true, false}
 use mathlib.Core.List.{List, [], _∷_}
@@ -27,6 +26,12 @@ pub data Steps (A : Automaton) (a : ℕ) : A .State → ℕ → A .State → Typ
 pub data Path (A : Automaton) : A .State → List ℕ → A .State → Type 0 where
   over : {x : A .State} → Path A x [] x
   next : {x y z : A .State} {a g : ℕ} {l : List ℕ} → Steps A a x g y → Path A y l z → Path A x (a ∷ g ∷ l) z
+
+-- the bytes of a path that is not possible from x, and the index of its first step that is not; a last byte alone begins a step that has no guard
+pub data StopsAt (A : Automaton) : A .State → List ℕ → ℕ → Type 0 where
+  no-guard : {x : A .State} {a : ℕ} → StopsAt A x (a ∷ []) 0
+  not-possible : {x : A .State} {a g : ℕ} {l : List ℕ} → ((y : A .State) → Steps A a x g y → ⊥) → StopsAt A x (a ∷ g ∷ l) 0
+  later : {x y : A .State} {a g i : ℕ} {l : List ℕ} → Steps A a x g y → StopsAt A y l i → StopsAt A x (a ∷ g ∷ l) (suc i)
 
 -- ---- the same as values that compute
 abbrev pub afterOf : Option (Gone (List ℕ)) → Option (List ℕ)
