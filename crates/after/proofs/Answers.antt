@@ -7,9 +7,8 @@ use mathlib.Core.List.{List, [], _∷_}
 use Prim.Native.Nat.{ℕ, _≤_}
 use native.Mathlib.Omega.{arith}
 use lib.ListN.{length}
-use Rattle.laws.specs.Search.{orElse}
 use Rattle.laws.proofs.SearchLaws.{or-else-none}
-use Rattle.answer.specs.Limits.{maxComponents, noState}
+use Rattle.answer.specs.Limits.{noState}
 use Rattle.answer.specs.Told.{Told, told, Answer, answered, refused, saysChecked}
 use Rattle.answer.specs.State.{partsOf}
 use Rattle.answer.specs.declared.State.{State}
@@ -33,23 +32,24 @@ use Rattle.layout.proofs.RowsOfRange.{well-formed}
 use Rattle.table.specs.IsImage.{isImage}
 use Rattle.table.specs.OnTable.{onTable}
 use Rattle.table.proofs.OnTableLaws.{on-image, on-no-image}
-use Rattle.words.specs.Bytes.{stateOf}
 use Rattle.words.proofs.Zeros.{with-zeros}
 use Rattle.moves.proofs.Ready.{count-model, count-few}
 use Rattle.parts.specs.Faults.{Says}
 use Rattle.parts.proofs.Saying.{fine-none}
-use Rattle.settling.specs.Gives.{Ready, SettlingGives, SettleGives, SettleAnswers, TraceHolds}
+use Rattle.settling.specs.Gives.{SettlingGives, SettleGives, SettleAnswers, TraceHolds}
 use Rattle.run.specs.Refusals.{refusedSettling}
 use Rattle.run.specs.Calls.{traceAfter}
 use Rattle.run.proofs.Answers.{refuses-settling}
 use Rattle.after.specs.declared.Arrival.{Arrival}
 use Rattle.after.specs.After.{walkOf, afterPath, settleFault, settleFrom, settleAfterOf, listFrom, settleListAfterOf}
-use Rattle.after.specs.Calls.{firstOf, walkedOn, LeadsTo, AfterGives, AfterAnswers, settleAfterOn, SettleAfterCall, settleListAfterOn, SettleListAfterCall}
+use Rattle.after.specs.Calls.{firstOf, walkedOn, LeadsTo, AfterGives, AfterAnswers}
+use Rattle.after.specs.Calls.{settleAfterOn, SettleAfterCall, settleListAfterOn, SettleListAfterCall}
 use Rattle.after.proofs.Order.{first-fine, first-refused, refused-fault}
 use Rattle.after.proofs.Leading.{Arrived, arrived, led-nowhere}
 
 -- a call on a table is what follows the path on that table
-after-on : {A : Type 0} (t p : List ℕ) (f : Model → List ℕ → Answer A) → onTable t (λ m. afterPath (f m) (walkOf m p)) ≡ afterPath (f (modelOf t)) (walkedOn t p)
+after-on : {A : Type 0} (t p : List ℕ) (f : Model → List ℕ → Answer A)
+    → onTable t (λ m. afterPath (f m) (walkOf m p)) ≡ afterPath (f (modelOf t)) (walkedOn t p)
 after-on t p f = go (isImage t) refl
   where
     go : (b : Bool) → isImage t ≡ b → onTable t (λ m. afterPath (f m) (walkOf m p)) ≡ afterPath (f (modelOf t)) (walkedOn t p)
@@ -61,8 +61,8 @@ settled-within : (m : Model) → WellFormed m → Conforming m → Joinable m �
 settled-within [] well good fit s w n = absurd (omega (arith, well .some))
 settled-within (c ∷ cs) well good fit s w n = our-run-is-a-series c cs well good fit s w n .range
 
-played-within : (m : Model) → WellFormed m → Conforming m → Joinable m → (s : List ℕ) → Within m s → (l : List ℕ) (d : Settling (List ℕ)) → play m 0 l s ≡ answered d
-    → Within m (d .state)
+played-within : (m : Model) → WellFormed m → Conforming m → Joinable m → (s : List ℕ) → Within m s → (l : List ℕ) (d : Settling (List ℕ))
+    → play m 0 l s ≡ answered d → Within m (d .state)
 played-within [] well good fit s w l d e = absurd (omega (arith, well .some))
 played-within (c ∷ cs) well good fit s w l d e = list-that-is-a-series c cs well good fit s w l d .0 e .range
 
@@ -73,7 +73,8 @@ module _ (t p : List ℕ) (x : State) (at : Arrived t p x) (r : Settled) where
       let long : length (d .state) ≡ x .count = within-length (modelOf t) (d .state) w ∙ sym (count-model t x st) in
       record { verdict = g .verdict; steps = g .steps; resets = g .resets; state = g .state ∙ with-zeros x (d .state) (at .zeros) long (count-few t x st) }
 
-  answers-after : (v : Answer (Settling (List ℕ))) → ((d : Settling (List ℕ)) → v ≡ answered d → Within (modelOf t) (d .state)) → SettleAnswers v x r → AfterAnswers v r
+  answers-after : (v : Answer (Settling (List ℕ))) → ((d : Settling (List ℕ)) → v ≡ answered d → Within (modelOf t) (d .state))
+      → SettleAnswers v x r → AfterAnswers v r
   answers-after (answered d) w g = gives-after d (w d refl) g
   answers-after (refused f) w g = g
 
@@ -141,7 +142,8 @@ module _ (t p : List ℕ) (budget : ℕ) (old : List ℕ) (to : Arrival) (leads 
         let at = settle-there in
         let k = at .ready in
         let d = settle (urgentStep (modelOf t)) budget (partsOf (to .state)) in
-        let w = settled-within (modelOf t) (well-formed t (k .standing .image)) (k .conforming) (k .joinable) (partsOf (to .state)) (k .standing .within) budget in
+        let well = well-formed t (k .standing .image) in
+        let w = settled-within (modelOf t) well (k .conforming) (k .joinable) (partsOf (to .state)) (k .standing .within) budget in
         record {
           answer = subst (λ (u : Answer (Settling (List ℕ))). AfterAnswers u r) (sym goes) (gives-after t p (to .state) at r d w g);
           trace = tr ∙ sym (ap (λ u. traceAfter u old) goes);
@@ -167,7 +169,8 @@ module _ (t p l : List ℕ) (to : Arrival) (leads : LeadsTo (walkedOn t p) to) (
   list-refuses q e r k =
       let w = refuses-by t p to leads own (budgetFault (length l)) says list-from list-first q e in
       record {
-        answer = subst (λ (u : Answer (Settling (List ℕ))). AfterAnswers u r) (sym (list-on-path ∙ w .answer)) (rw k (refuses-settling q (w .fault) noState (w .tells)));
+        answer = subst (λ (u : Answer (Settling (List ℕ))). AfterAnswers u r) (sym (list-on-path ∙ w .answer))
+            (rw k (refuses-settling q (w .fault) noState (w .tells)));
       }
 
   module _ (e : firstOf (to .checked) own ≡ Fine) where

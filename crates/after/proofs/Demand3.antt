@@ -59,7 +59,9 @@ module _ (t p : List ℕ) (r : Settled) (b : Bool) (says : saysVerdict (r .verdi
       stands c cs s h k e path w (g .orders)
 
   pub demand-3-of-settle-after : (budget : ℕ) (old new : List ℕ) → SettleAfterCall t p budget old new r → SettledAfter t p
-  demand-3-of-settle-after budget old new call = let e = settle-after-answers-exactly t p budget old new r .0 call in settled budget old new (e .right) (e .left)
+  demand-3-of-settle-after budget old new call =
+      let e = settle-after-answers-exactly t p budget old new r .0 call in
+      settled budget old new (e .right) (e .left)
 
   listed : (l : List ℕ) {a : Answer (Settling (List ℕ))} → OnImage t (λ c cs. SettleListAfterAnswer c cs p l) a → AfterAnswers a r → SettledAfter t p
   listed l (is20 n) g = refusal g

@@ -14,7 +14,8 @@ use Rattle.after.specs.AfterExactly.{SettleAfterAnswer, SettleListAfterA
 use Rattle.after.proofs.Models.{settle-after-model-exactly, settle-list-after-model-exactly}
 
 module _ (t p : List ℕ) where
-  pub settle-after-answers-exactly : (budget : ℕ) (old new : List ℕ) (r : Settled) → SettleAfterCall t p budget old new r ↔ SettleAfterExactly t p budget old new r
+  pub settle-after-answers-exactly : (budget : ℕ) (old new : List ℕ) (r : Settled)
+      → SettleAfterCall t p budget old new r ↔ SettleAfterExactly t p budget old new r
   settle-after-answers-exactly budget old new r =
       let f : Model → Answer (Settling (List ℕ)) = λ m. settleAfterOf m p budget (length old) in
       let R : Comp → List Comp → Answer (Settling (List ℕ)) → Type 0 = λ c cs. SettleAfterAnswer c cs p budget (length old) in

@@ -6,11 +6,10 @@ use mathlib.Core.Option.{Option, none, some, Option·some-inj}
 use mathlib.Core.List.{List, [], _∷_}
 use Prim.Native.Nat.{ℕ}
 use native.Mathlib.Omega.{arith}
-use lib.ListN.{length}
 use Rattle.laws.specs.Search.{orElse}
 use Rattle.laws.proofs.SearchLaws.{no-some, or-else-none}
 use Rattle.answer.specs.Limits.{noState}
-use Rattle.answer.specs.Told.{Told, tell, told, Answer, answered, refused, asRefused, saysChecked}
+use Rattle.answer.specs.Told.{Told, told, Answer, answered, refused, asRefused, saysChecked}
 use Rattle.answer.specs.State.{partsOf}
 use Rattle.answer.specs.declared.State.{State}
 use Rattle.answer.specs.declared.Checked.{Checked}
@@ -28,7 +27,6 @@ use Rattle.iosa.proofs.Settling.Parts.{within-length}
 use Rattle.layout.specs.Image.{Image, modelOf}
 use Rattle.layout.proofs.RowsOfRange.{well-formed}
 use Rattle.table.specs.IsImage.{isImage}
-use Rattle.table.specs.OnTable.{onTable}
 use Rattle.table.proofs.OnTableLaws.{on-image, on-no-image}
 use Rattle.table.proofs.CheckedLaws.{fine-passes, refused-tells, call-refuses}
 use Rattle.table.proofs.ImageExactly.{image-exactly}

@@ -37,7 +37,9 @@ use Rattle.after.specs.AfterExactly.{AfterPath, is46, leads, WalkAnswer,
 
 long-decided : (p : List ℕ) → Decided (needs 22 (length p ≤ 2 * maxBudget)) (longPath p)
 unfolding longPath
-long-decided p = needs-decided 22 (length p ≤ 2 * maxBudget) (ltb (2 * maxBudget) (length p)) (ltb-false (2 * maxBudget) (length p), le-ltb (2 * maxBudget) (length p))
+long-decided p =
+    let n = 2 * maxBudget in
+    needs-decided 22 (length p ≤ n) (ltb n (length p)) (ltb-false n (length p), le-ltb n (length p))
 
 trace-decided : (n bytes : ℕ) → Decided (room n bytes) (traceFault n bytes)
 unfolding traceFault
@@ -133,7 +135,8 @@ module _ (c : Comp) (cs : List Comp) (well : WellFormed (c ∷ cs)) where
       walk-answer p (settleFrom m budget trace) R (λ k s w r a.
       let x = settle (urgentStep m) budget s in
       rw (unless-refused (settleFault budget trace) x ∙ or-refused b t (answered x)) (
-      check-exactly (needs 22 (budget ≤ maxBudget)) b (budget-decided budget) (refusedOr t (answered x)) (room budget trace ▹ Gives (Called c cs s budget)) (λ h.
+      check-exactly (needs 22 (budget ≤ maxBudget)) b (budget-decided budget) (refusedOr t (answered x))
+      (room budget trace ▹ Gives (Called c cs s budget)) (λ h.
       check-exactly (room budget trace) t (trace-decided budget trace) (answered x) (Gives (Called c cs s budget)) (λ i.
       gives-exactly x (Called c cs s budget) (called-exactly k p s w r budget))) a)) a
 

@@ -8,7 +8,7 @@ use lib.ListN.{length}
 use borrow.Author.Tests.{lt-ltb, le-ltb}
 use Rattle.laws.specs.Search.{when, orElse}
 use Rattle.answer.specs.Limits.{maxBudget}
-use Rattle.answer.specs.Told.{Told, tell, told, Answer, answered, refused, saysChecked}
+use Rattle.answer.specs.Told.{Told, tell, told, Answer, refused, saysChecked}
 use Rattle.answer.specs.declared.Checked.{Checked}
 use Rattle.answer.specs.declared.Checked.the-variants.{Fine, Refused}
 use Rattle.answer.specs.declared.Refusal.{Refusal}

@@ -1,4 +1,4 @@
--- What `settle_after` and `settle_list_after` answer, said of the product of the model that the table holds: every refusal with its reason, in order, then the answer.
+-- What `settle_after` and `settle_list_after` answer, said of the product of the model that the table holds: every refusal with its reason, in order.
 use mathlib.Core.Path.{_≡_}
 use mathlib.Core.List.{List, [], _∷_}
 use Prim.Native.Nat.{ℕ, _*_, _≤_}

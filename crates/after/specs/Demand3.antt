@@ -11,8 +11,8 @@ use Rattle.layout.specs.OnImage.{Holds}
 use Rattle.triggering.specs.Triggering.{Passes, NoOpenInput}
 use Rattle.paths.specs.Path.{Path}
 
--- the table holds a model whose components are of Definition 4.1 and compatible, and which passes check 18, or else is closed and passes the new test; the
--- path leads from the start of its product to a composed state, which the product can reach, and from there the order in which urgent steps are taken does not matter
+-- the table holds a model whose components are of Definition 4.1 and compatible, and which passes check 18, or else is closed and passes the new test;
+-- the path leads from the start of its product to a composed state, so the product can reach it, and from there the order of urgent steps does not matter
 pub record SettledAfter (t p : List ℕ) : Type 0 where
   pub first : Comp
   pub others : List Comp

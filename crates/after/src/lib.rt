@@ -1,4 +1,4 @@
-// Settling after a listed path from the start, on any table: "Such systems are settled only after a listed path of such steps, .. or in a simulation" (02, 8/13).
+// Settling after a listed path from the start, on any table: "Such systems are settled only after a listed path .. or in a simulation" (02, 8/13).
 use answer::Checked;
 use answer::Place;
 use answer::Refusal;
@@ -128,8 +128,7 @@ pub fn settle_list_after(table: &[u64], path: &[u8], list: &[u8]) -> Settled
     let to = lead(table, path);
     let state = to.state;
     let led = to.checked;
-    let own = steps_check(list.len());
-    let checked = in_order(led, own);
+    let checked = in_order(led, steps_check(list.len()));
     match checked {
         Checked::Refused(why) => run::refused_settling(why),
         Checked::Fine => settling::by_list(table, state, list),

@@ -1,29 +1,27 @@
 -- One step of a path, exactly: what is computed is a row of the product, urgent with guard `-` or with its clock from a stable state, and the only one.
 use mathlib.Core.Path.{_≡_, refl, sym, _∙_, ap}
-use mathlib.Core.Logic.{_↔_, _⊎_, inl, inr, ⊎-elim}
-use mathlib.Core.Bool.{Bool, true, false, true≢false}
+use mathlib.Core.Logic.{inl, inr}
+use mathlib.Core.Bool.{Bool, true, false}
 use mathlib.Core.Option.{Option, none, some, Option·some-inj}
 use mathlib.Core.List.{List, [], _∷_}
-use Prim.Native.Nat.{ℕ, zero, suc, _<_}
-use native.Mathlib.Omega.{arith}
-use lib.ListN.{length}
+use Prim.Native.Nat.{ℕ, zero, suc}
 use lib.Dec.{eqb}
 use borrow.Author.Tests.{eqb-true, eq-eqb}
 use Rattle.laws.specs.Sets.{has, _∈_, only}
 use Rattle.laws.specs.Search.{orElse}
 use Rattle.laws.proofs.SetLaws.{or-in-r, in-one, none-in}
 use Rattle.laws.proofs.SearchLaws.{no-some, map-some}
-use Rattle.iosa.specs.Model.{Row, Comp, Model, outputs, urgents, acts}
-use Rattle.iosa.specs.WellFormed.{WellComp, WellFormed}
-use Rattle.iosa.specs.Automaton.{alphabet, autoOf, Stable, Enabling, Conditions, Conforming, Joinable}
+use Rattle.iosa.specs.Model.{Row, Comp, Model, outputs}
+use Rattle.iosa.specs.WellFormed.{WellFormed}
+use Rattle.iosa.specs.Automaton.{autoOf, Stable, Conditions, Conforming, Joinable}
 use Rattle.iosa.specs.Product.{product, stateOf, Within}
 use Rattle.iosa.specs.Stepped.{Gone}
 use Rattle.iosa.specs.Step.{urgentStep, isStable}
 use Rattle.iosa.specs.Timed.{clockRow, clockRowOf, fireAll}
-use Rattle.iosa.proofs.Settling.Each.{All, Any, each-all, any-map}
+use Rattle.iosa.proofs.Settling.Each.{each-all, any-map}
 use Rattle.iosa.proofs.Settling.Parts.{parts-row, parts-label}
 use Rattle.iosa.proofs.Settling.Moves.{go-within}
-use Rattle.iosa.proofs.Settling.ProductOfMany.{Pairwise, joinable-pairwise, wells, system-own, system-is-an-automaton}
+use Rattle.iosa.proofs.Settling.ProductOfMany.{joinable-pairwise, wells, system-own, system-is-an-automaton}
 use Rattle.iosa.proofs.Settling.Steps.{step-is-a-row, row-is-a-step, stable-exactly}
 use Rattle.iosa.proofs.Timing.Enabling.{EnablesIn, product-enables}
 use Rattle.iosa.proofs.Timing.Fire.{clock-row-leads, Shoots, enabling-shoots}

@@ -3,10 +3,10 @@ use mathlib.Core.Path.{_≡_, refl, sym, _∙_, ap}
 use mathlib.Core.Logic.{_↔_}
 use mathlib.Core.Option.{Option, none, some}
 use mathlib.Core.List.{List, [], _∷_}
-use Prim.Native.Nat.{ℕ, zero, suc, _+_}
+use Prim.Native.Nat.{ℕ, suc, _+_}
 use native.Mathlib.Omega.{arith}
 use Rattle.laws.proofs.SearchLaws.{no-some}
-use Rattle.answer.specs.Told.{Told, tell, Answer, answered, refused}
+use Rattle.answer.specs.Told.{Told, tell, refused}
 use Rattle.iosa.specs.Model.{Comp, Model}
 use Rattle.iosa.specs.WellFormed.{WellFormed}
 use Rattle.iosa.specs.Automaton.{Conforming, Joinable}
@@ -14,7 +14,7 @@ use Rattle.iosa.specs.Product.{product, stateOf, Within}
 use Rattle.iosa.specs.Start.{startAll}
 use Rattle.iosa.proofs.Settling.Called.{no-answer, same-refusal}
 use Rattle.iosa.proofs.Settling.Start.{start-in-range, start-of-the-product}
-use Rattle.paths.specs.Path.{Steps, StopsAt, no-guard, not-possible, later, pathStep, walkOn, walk}
+use Rattle.paths.specs.Path.{StopsAt, no-guard, not-possible, later, pathStep, walkOn, walk}
 use Rattle.paths.proofs.Stepping.{step-there, step-back}
 
 module _ (c : Comp) (cs : List Comp) (well : WellFormed (c ∷ cs)) (conf : Conforming (c ∷ cs)) (join : Joinable (c ∷ cs)) where

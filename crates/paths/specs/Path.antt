@@ -1,6 +1,5 @@
 -- "a listed path of such steps, 0 to 4,096, each an action and its guard" (02, 8/13): two bytes for a step, the action and the guard as in a row of the
 -- table, 0 for `-` and x + 1 for clock x.
-use mathlib.Core.Path.{_≡_}
 use mathlib.Core.Option.{Option, none, some}
 use mathlib.Core.Bool.{Bool, true, false}
 use mathlib.Core.List.{List, [], _∷_}

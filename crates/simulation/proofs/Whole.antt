@@ -7,13 +7,13 @@ use Prim.Native.Nat.{ℕ, _≤_}
 use Rattle.answer.specs.Told.{Told, refused}
 use Rattle.iosa.specs.Model.{Comp}
 use Rattle.iosa.specs.WellFormed.{WellFormed}
-use Rattle.iosa.specs.Automaton.{Joinable, AllConfluent}
+use Rattle.iosa.specs.Automaton.{Joinable}
 use Rattle.iosa.specs.Thesis.{AllDefinition41}
 use Rattle.iosa.specs.Checks.{acceptOf}
 use Rattle.iosa.specs.TimedExactly.{Waits, BelowZero, Fires, Ready}
 use Rattle.iosa.proofs.Acceptance.Accepted.{accepted-exactly}
 use Rattle.iosa.proofs.Thesis.Proposition41.{accepted-is-definition-4-1}
-use Rattle.triggering.specs.Triggering.{Passes, NoOpenInput}
+use Rattle.walkable.specs.Orderly.{EitherTest}
 use Rattle.simulation.specs.Simulate.{Supply, Round}
 use Rattle.simulation.specs.Free.{After, Fair, Simulates, is30, is41, is42}
 use Rattle.simulation.proofs.Agree.{rounds-agree-over}
@@ -25,7 +25,7 @@ module _ (c : Comp) (cs : List Comp) (well : WellFormed (c ∷ cs)) (d : AllDefi
   acc = accepted-is-definition-4-1 (c ∷ cs) well .1 (d, join)
 
   -- "two simulations over the same lists, urgent steps freely chosen and neither refused, end each round with equal state and clock values"
-  pub rounds-agree : AllConfluent (c ∷ cs) ⊎ (NoOpenInput (c ∷ cs) × Passes (c ∷ cs)) → {k : ℕ} {q q′ : Round} → After c cs p k q → After c cs p k q′ → q ≡ q′
+  pub rounds-agree : EitherTest (c ∷ cs) → {k : ℕ} {q q′ : Round} → After c cs p k q → After c cs p k q′ → q ≡ q′
   rounds-agree either h h′ =
       let k = accepted-exactly (c ∷ cs) well .0 acc in
       let count = reached-states-count c cs well (record { conforms = k .0; joins = k .1; either = either }) in

@@ -18,7 +18,7 @@ use Rattle.iosa.proofs.Settling.Witness.{M₀, M₁, M-is-read}
 use Rattle.triggering.specs.Test.{entryOf}
 use Rattle.walkable.proofs.Orderly.{entry-exactly}
 use Rattle.simulation.specs.Simulate.{Supply, Round, Simulation, simulateOf}
-use Rattle.simulation.specs.Samples.{samplesOf, recorded, SamplesAnswer}
+use Rattle.simulation.specs.Samples.{recorded, SamplesAnswer}
 use Rattle.simulation.specs.Free.{After, Simulates, is-done}
 use Rattle.simulation.specs.Examples.{reply, lineRefused, turns}
 use Rattle.simulation.proofs.Answers.{recorded-fair}
@@ -31,8 +31,9 @@ abbrev row : ℕ → ℕ → ℕ → ℕ → ℕ → Row
 row f g a r t = record { from = f; guard = g; action = a; resets = r; target = t }
 
 -- what is computed is the end of a simulation with free choice
-computed : (c : Comp) (cs : List Comp) → WellFormed (c ∷ cs) → entryOf (c ∷ cs) ≡ none → {d : ℕ} {t : List ℕ} {ls : List (List ℕ)} → SamplesAnswer d t (answered ls)
-    → (n : ℕ) (z : Simulation) → simulateOf (c ∷ cs) (recorded ls) n ≡ answered z → After c cs (recorded ls) (z .rounds) (z .last)
+computed : (c : Comp) (cs : List Comp) → WellFormed (c ∷ cs) → entryOf (c ∷ cs) ≡ none → {d : ℕ} {t : List ℕ} {ls : List (List ℕ)}
+    → SamplesAnswer d t (answered ls) → (n : ℕ) (z : Simulation) → simulateOf (c ∷ cs) (recorded ls) n ≡ answered z
+    → After c cs (recorded ls) (z .rounds) (z .last)
 computed c cs well e {ls = ls} s n z h =
     let ok = entry-exactly (c ∷ cs) well .0 e in
     let acc = accepted-exactly (c ∷ cs) well .1 (ok .conforms, ok .joins) in
@@ -71,10 +72,14 @@ a-simulation-of-M = computed M₀ (M₁ ∷ []) M-well M-enters text-of-two 1 (r
 
 -- ---- a source that says 1 and 2 in turn, and a listener
 unfoldable pub T₀ : Comp
-T₀ = record { states = 4; start = 0; ins = 0; outs = 1; uins = 0; uouts = 6; clocks = 1; started = 1; rows = row 0 1 0 0 1 ∷ row 1 0 1 1 2 ∷ row 2 1 0 0 3 ∷ row 3 0 2 1 0 ∷ [] }
+T₀ =
+    let rows = row 0 1 0 0 1 ∷ row 1 0 1 1 2 ∷ row 2 1 0 0 3 ∷ row 3 0 2 1 0 ∷ [] in
+    record { states = 4; start = 0; ins = 0; outs = 1; uins = 0; uouts = 6; clocks = 1; started = 1; rows = rows }
 
 unfoldable pub T₁ : Comp
-T₁ = record { states = 3; start = 0; ins = 0; outs = 0; uins = 6; uouts = 0; clocks = 0; started = 0; rows = row 0 0 1 0 1 ∷ row 0 0 2 0 2 ∷ row 1 0 1 0 1 ∷ row 1 0 2 0 1 ∷ row 2 0 1 0 2 ∷ row 2 0 2 0 2 ∷ [] }
+T₁ =
+    let rows = row 0 0 1 0 1 ∷ row 0 0 2 0 2 ∷ row 1 0 1 0 1 ∷ row 1 0 2 0 1 ∷ row 2 0 1 0 2 ∷ row 2 0 2 0 2 ∷ [] in
+    record { states = 3; start = 0; ins = 0; outs = 0; uins = 6; uouts = 0; clocks = 0; started = 0; rows = rows }
 
 turns-are-read : readOf (bytesOf turns) ≡ answered (T₀ ∷ T₁ ∷ [])
 unfolding reply T₀ T₁

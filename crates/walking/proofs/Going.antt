@@ -1,20 +1,18 @@
 -- Where the walk of a path stands: the state so far, and what is left of the path from there is what there was from the start.
 use mathlib.Core.Path.{_≡_, refl, sym, _∙_, ap, ap₂, subst}
 use mathlib.Core.Bool.{true, false}
-use mathlib.Core.Option.{Option, none, some}
+use mathlib.Core.Option.{none}
 use mathlib.Core.List.{List, [], _∷_}
 use Prim.Native.Nat.{ℕ, suc, _+_, _*_, _-_, _≤_, _<_}
 use native.Mathlib.Omega.{arith}
 use lib.ListN.{length, getD, drop, drop-of-length-le}
 use lib.Seq.{drop-cons}
-use Rattle.answer.specs.Limits.{noState}
 use Rattle.answer.specs.Told.{tell, Answer, answered, refused}
-use Rattle.answer.specs.State.{partsOf, withParts}
+use Rattle.answer.specs.State.{partsOf}
 use Rattle.answer.specs.declared.State.{State}
 use Rattle.answer.proofs.StateLaws.{with-parts}
 use Rattle.iosa.specs.Model.{Model}
 use Rattle.iosa.specs.Checks.{acceptOf}
-use Rattle.iosa.specs.Product.{Within}
 use Rattle.iosa.specs.Start.{startAll}
 use Rattle.iosa.proofs.Acceptance.Accepted.{accepted-exactly}
 use Rattle.iosa.proofs.Settling.Parts.{within-length}
@@ -102,7 +100,11 @@ module _ (t path : List ℕ) (cur : State) (left i : ℕ) (at : Going t path cur
         let n : i + 1 ≡ suc i = omega arith in
         record {
           count = omega (arith, at .count);
-          ready = record { standing = record { image = at .ready .standing .image; within = rw parts within }; conforming = at .ready .conforming; joinable = at .ready .joinable };
+          ready = record {
+            standing = record { image = at .ready .standing .image; within = rw parts within };
+            conforming = at .ready .conforming;
+            joinable = at .ready .joinable;
+          };
           zeros = q .2 ∙ with-zeros cur u (at .zeros) long (count-few t cur (at .ready .standing)) ∙ ap stateOf (sym parts);
           rest =
               ap₂ (λ k v. walk m k (drop (2 * (i + 1)) path) v) n parts

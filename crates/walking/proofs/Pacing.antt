@@ -14,12 +14,11 @@ use Rattle.laws.proofs.TestLaws.{and-true, and-not-both}
 use Rattle.answer.specs.Limits.{maxActions, maxClocks}
 use Rattle.answer.specs.State.{withParts}
 use Rattle.answer.specs.declared.State.{State}
-use Rattle.iosa.specs.Model.{Row, Comp, Model, outputs}
+use Rattle.iosa.specs.Model.{Row, Model, outputs}
 use Rattle.iosa.specs.WellFormed.{WellComp, WellFormed}
 use Rattle.iosa.specs.Automaton.{autoOf, Conditions, Conforming, Joinable}
 use Rattle.iosa.specs.Product.{Within}
 use Rattle.iosa.specs.Step.{urgentStep, isStable}
-use Rattle.iosa.specs.Stepped.{Gone}
 use Rattle.iosa.specs.Timed.{clockRowOf, fireAll}
 use Rattle.iosa.proofs.Acceptance.Rows.{output-below}
 use Rattle.iosa.proofs.Settling.Each.{All, Any, each-all}
@@ -119,7 +118,8 @@ step-calm m s a g n = go g n
     go (suc k) n = ap (calmStep m s a) (omega arith)
 
 -- the state after a step is in range again
-pub step-within : (m : Model) → WellFormed m → Conforming m → Joinable m → (s : List ℕ) → Within m s → (a g : ℕ) (u : List ℕ) → pathStep m s a g ≡ some u → Within m u
+pub step-within : (m : Model) → WellFormed m → Conforming m → Joinable m → (s : List ℕ) → Within m s → (a g : ℕ) (u : List ℕ)
+    → pathStep m s a g ≡ some u → Within m u
 step-within [] well good fit s w a g u e = absurd (omega (arith, well .some))
 step-within (c ∷ cs) well good fit s w a g u e = step-there c cs well good fit s w a g u e .1
 

@@ -32,13 +32,15 @@ returns : tie.Need-returns
 returns c =
     let known = c .before .before in
     let k = known .before .before in
-    lead-refused _ _ _ _ (k .before .before .may-walk .ensures) (k .before .path-check .ensures) _ (sym (k .in-order .ensures) ∙ known .checked .given .1) _ (c .no-state .ensures)
+    let e = sym (k .in-order .ensures) ∙ known .checked .given .1 in
+    lead-refused _ _ _ _ (k .before .before .may-walk .ensures) (k .before .path-check .ensures) _ e _ (c .no-state .ensures)
 
 returns-2 : tie.Need-returns-2
 returns-2 c =
     let fine = c .before in
     let k = fine .before .before in
-    lead-goes _ _ _ _ (k .before .before .may-walk .ensures) (k .before .path-check .ensures) (sym (k .in-order .ensures) ∙ fine .enum-told .given .1) _ (c .walked .ensures)
+    let e = sym (k .in-order .ensures) ∙ fine .enum-told .given .1 in
+    lead-goes _ _ _ _ (k .before .before .may-walk .ensures) (k .before .path-check .ensures) e _ (c .walked .ensures)
 
 pub lead-spec : {M : Type 1} → statement M
 lead-spec =

@@ -52,8 +52,12 @@ by-rule-requires c κs =
     let l = o .before .before .before .before in
     let a = l .before .before .before .before .args in
     let e = sym (k .in-order2 .ensures) ∙ fine .enum-told .given .1 in
-    let at = settle-there (now (a .table)) (now (a .path)) (a .budget) (now (a .trace)) (l .lead .result) (l .lead .ensures) (o .in-order .result) (own-says o) e in
-    (at .ready, settle-room (now (a .table)) (now (a .path)) (a .budget) (now (a .trace)) (l .lead .result) (l .lead .ensures) (o .in-order .result) (own-says o) e)
+    let t = now (a .table) in
+    let p = now (a .path) in
+    let old = now (a .trace) in (
+      settle-there t p (a .budget) old (l .lead .result) (l .lead .ensures) (o .in-order .result) (own-says o) e .ready,
+      settle-room t p (a .budget) old (l .lead .result) (l .lead .ensures) (o .in-order .result) (own-says o) e,
+    )
 
 returns : tie.Need-returns
 returns c =
@@ -63,7 +67,8 @@ returns c =
     let e = sym (k .in-order2 .ensures) ∙ known .checked .given .1 in
     let l = o .before .before .before .before in
     let a = l .before .before .before .before .args in
-    settle-refuses (now (a .table)) (now (a .path)) (a .budget) (now (a .trace)) (l .lead .result) (l .lead .ensures) (o .in-order .result) (own-says o) _ e _ (c .refused-settling .ensures)
+    settle-refuses (now (a .table)) (now (a .path)) (a .budget) (now (a .trace)) (l .lead .result) (l .lead .ensures) (o .in-order .result) (own-says o) _ e _
+    (c .refused-settling .ensures)
 
 same-length : tie.Need-same-length
 same-length c = search needs

@@ -27,7 +27,8 @@ returns-2 c =
     let k = c .before .before in
     let r = k .before .before .before .pre in
     let e = sym (k .before .waits-for .ensures) ∙ not-false _ (k .if1 .left) in
-    trod-some _ _ (calm-taken _ (well-formed _ (r .standing .image)) (r .conforming) (r .joinable) _ (r .standing .within) _ _ e) _ _ (c .before .fire-all .ensures .1)
+    let f = calm-taken _ (well-formed _ (r .standing .image)) (r .conforming) (r .joinable) _ (r .standing .within) _ _ e in
+    trod-some _ _ f _ _ (c .before .fire-all .ensures .1)
 
 pub calmly-spec : {M : Type 1} → statement M
 calmly-spec = tie.close (tie.spec waits-for-requires returns fire-all-requires returns-2)

@@ -14,7 +14,8 @@ offered-requires c κs = search needs
 returns : tie.Need-returns
 returns c =
     let r = c .before .before .before .pre in
-    trod-none _ (ap afterOf (no-offer-no-step _ (r .conforming) (r .joinable) _ (r .standing .within) _ (sym (c .before .offered .ensures) ∙ not-true _ (c .if1 .taken)))) _
+    let e = no-offer-no-step _ (r .conforming) (r .joinable) _ (r .standing .within) _ (sym (c .before .offered .ensures) ∙ not-true _ (c .if1 .taken)) in
+    trod-none _ (ap afterOf e) _
 
 move-all-requires : tie.Need-move-all-requires
 move-all-requires c κs = search needs
