@@ -11,7 +11,7 @@ use Rattle.laws.specs.Search.{orElse, least}
 use Rattle.laws.proofs.SetLaws.{in-or, or-in-l, or-in-r, same-members, has-without}
 use Rattle.laws.proofs.SearchLaws.{no-some, least-none, none-least, least-some, some-least}
 use Rattle.answer.specs.Limits.{maxActions}
-use Rattle.answer.specs.Told.{Told, told, tell, saysChecked}
+use Rattle.answer.specs.Told.{Told, told, tell}
 use Rattle.answer.specs.declared.Checked.{Checked}
 use Rattle.answer.specs.declared.Checked.the-variants.{Fine, Refused}
 use Rattle.answer.specs.declared.Place.the-variants.{Action}
@@ -25,14 +25,16 @@ use Rattle.layout.specs.Image.{compOf, modelOf}
 use Rattle.layout.proofs.ModelOf.{model-length, comp-at}
 use Rattle.parts.specs.Faults.{Says}
 use Rattle.parts.proofs.Saying.{says-refused}
-use Rattle.table.specs.OnTable.{checkOn}
 use Rattle.table.proofs.OnTableLaws.{on-image}
-use Rattle.table.proofs.CheckedLaws.{refused-tells, call-refuses}
+use Rattle.table.proofs.CheckedLaws.{Follows, refused-tells, call-refuses}
 use Rattle.table.proofs.ImageExactly.{image-exactly}
 use Rattle.admit.specs.Admit.{Accepted}
 use Rattle.admit.proofs.Exactly.{accept-fine}
-use Rattle.triggering.specs.Test.{joined, inputsOf, outputsOf, passesOf, openFault, unlessPasses, elseOrderly}
+use Rattle.triggering.specs.Test.{joined, inputsOf, outputsOf, passesOf, openFault, unlessPasses, elseOrderly, orderlyOf, entryOf}
 use Rattle.triggering.proofs.Tables.{in-joined}
+use Rattle.orderly.specs.declared.Asked.{Asked}
+use Rattle.orderly.specs.declared.Asked.the-variants.{Test, Either}
+use Rattle.orderly.specs.Calls.{askedFault, faultIn, Answers}
 
 -- ---- the sets of the system: two words of every block
 two-joined : (f g h : ℕ → ℕ) (n : ℕ) → ((k : ℕ) → k < n → h k ≡ f k ∪ g k) → joined f n ∪ joined g n ≡ joined h n
@@ -125,17 +127,23 @@ module _ (m : Model) where
   either-failed (some u) t e = refl
 
 -- ---- behind `accept`, whose answer is q
-module _ (t : List ℕ) (rest : Model → Option Told) (q : Checked) (a : Accepted t q) where
-  abbrev pub behind : Model → Option Told
-  behind m = orElse (acceptOf m) (rest m)
+behind : (k : Asked) (m : Model) → faultIn k m ≡ orElse (acceptOf m) (askedFault k m)
+unfolding orderlyOf entryOf
+behind Test m = refl
+behind Either m = refl
 
-  pub not-accepted : (f : Refusal) → q ≡ Refused f → saysChecked q ≡ some (checkOn t behind)
+module _ (t : List ℕ) (k : Asked) (q : Checked) (a : Accepted t q) where
+  pub not-accepted : (f : Refusal) → q ≡ Refused f → Answers t k q
   not-accepted f e =
       let x = refused-tells t acceptOf f (rw e at a) in
-      a ∙ ap some (x .2 ∙ sym (call-refuses t acceptOf (λ m. unless (behind m) done) (λ m u h. ap (λ o. unless (orElse o (rest m)) done) h) (x .0) (x .2)))
+      a ∙ ap some (x .2 ∙ sym (call-refuses t acceptOf (λ m. unless (faultIn k m) done) follows (x .0) (x .2)))
+    where
+      follows : Follows t acceptOf (λ m. unless (faultIn k m) done)
+      follows m u h = ap (λ o. unless o done) (behind k m ∙ ap (λ o. orElse o (askedFault k m)) h)
 
-  pub accepted-then : (r : Checked) → q ≡ Fine → Says r (rest (modelOf t)) → saysChecked r ≡ some (checkOn t behind)
+  pub accepted-then : (r : Checked) → q ≡ Fine → Says r (askedFault k (modelOf t)) → Answers t k r
   accepted-then r e s =
       let d = accept-fine t (rw e at a) in
-      let z = on-image t (λ m. unless (behind m) done) (image-exactly t .1 (d .image)) ∙ ap (λ o. unless (orElse o (rest (modelOf t))) done) (d .accepted) in
-      s ∙ ap some (sym z)
+      let m = modelOf t in
+      let z = on-image t (λ m. unless (faultIn k m) done) (image-exactly t .1 (d .image)) in
+      s ∙ ap some (sym (z ∙ ap (λ o. unless o done) (behind k m ∙ ap (λ o. orElse o (askedFault k m)) (d .accepted))))

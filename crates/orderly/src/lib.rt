@@ -12,7 +12,13 @@ ghost use Rattle.iosa.specs.Checks.{acceptOf, clashAmong};
 ghost use Rattle.layout.specs.Image.{Image, modelOf};
 ghost use Rattle.parts.specs.Faults.{Says};
 ghost use Rattle.triggering.specs.Test.{inputsOf, outputsOf, openFault, unlessPasses, elseOrderly};
-ghost use Rattle.orderly.specs.Calls.{calledFault, OrderlyCall, MayWalk};
+ghost use Rattle.orderly.specs.Calls.{calledFault, Answers, OrderlyCall, MayWalk};
+
+// What is asked of an accepted model: the new test, or either test.
+enum Asked {
+    Test,
+    Either,
+}
 
 fn refused_at(action: u64) -> Checked
     ensures { λ r. ⌜ r ≡ Checked.Refused (record { number = 45; place = Place.Action action }) ⌝ }
@@ -79,14 +85,14 @@ fn check_else(t: &[u64], clash: Refusal) -> Checked
     requires { ⌜ Image (now t) × (acceptOf (modelOf (now t)) ≡ none) × Says (Checked.Refused clash) (clashAmong 0 (modelOf (now t))) ⌝ }
     ensures { λ r. ⌜ Says r (calledFault (modelOf (now (t .entry)))) ⌝ }
 {
-    let closed = check_closed(t);
-    let Checked::Fine = closed else {
-        return closed;
+    let open = check_closed(t);
+    let Checked::Fine = open else {
+        return open;
     };
-    if harms::passes(t) {
-        return closed;
+    if !harms::passes(t) {
+        return Checked::Refused(clash);
     }
-    Checked::Refused(clash)
+    Checked::Fine
 }
 
 // Check 18, or else 45, then 18.
@@ -101,24 +107,30 @@ fn check_walk(t: &[u64]) -> Checked
     }
 }
 
-// The new test: whether the table holds an accepted model that is closed and passes.
-pub fn orderly(table: &[u64]) -> Checked
-    ensures { λ r. ⌜ OrderlyCall (now (table .entry)) r ⌝ }
+// What `accept` refuses, then what is asked.
+fn check_table(table: &[u64], asked: Asked) -> Checked
+    ensures { λ r. ⌜ Answers (now (table .entry)) asked r ⌝ }
 {
     let accepted = admit::accept(table);
     let Checked::Fine = accepted else {
         return accepted;
     };
-    check_orderly(table)
+    match asked {
+        Asked::Test => check_orderly(table),
+        Asked::Either => check_walk(table),
+    }
+}
+
+// The new test: whether the table holds an accepted model that is closed and passes.
+pub fn orderly(table: &[u64]) -> Checked
+    ensures { λ r. ⌜ OrderlyCall (now (table .entry)) r ⌝ }
+{
+    check_table(table, Asked::Test)
 }
 
 // What settling after a path asks, and a simulation: whether it holds one that passes check 18, or else is closed and passes the new test.
 pub fn may_walk(table: &[u64]) -> Checked
     ensures { λ r. ⌜ MayWalk (now (table .entry)) r ⌝ }
 {
-    let accepted = admit::accept(table);
-    let Checked::Fine = accepted else {
-        return accepted;
-    };
-    check_walk(table)
+    check_table(table, Asked::Either)
 }

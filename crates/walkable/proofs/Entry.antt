@@ -2,7 +2,7 @@
 use mathlib.Core.Path.{_≡_, refl, sym, _∙_, ap}
 use mathlib.Core.Logic.{_↔_, _⊎_, inl, inr}
 use mathlib.Core.Bool.{Bool, true, false, true≢false}
-use mathlib.Core.Option.{Option, none, some, Option·some-inj}
+use mathlib.Core.Option.{Option, none, some}
 use Rattle.laws.specs.Search.{orElse}
 use Rattle.laws.proofs.SearchLaws.{no-some}
 use Rattle.answer.specs.Told.{Told, Answer}
@@ -17,7 +17,7 @@ use Rattle.iosa.proofs.Answers.Models.{confluent-decided, check-accepted}
 use Rattle.triggering.specs.Triggering.{Passes, NoOpenInput}
 use Rattle.triggering.specs.Test.{passesOf, openFault, unlessPasses, elseOrderly, entryOf}
 use Rattle.triggering.proofs.Passing.{passes-exactly, confluent-passes}
-use Rattle.walkable.specs.Orderly.{Open, Settles}
+use Rattle.walkable.specs.Orderly.{EitherTest, Open, Settles}
 use Rattle.walkable.specs.Entry.{closed, passing, Unsettled, settles}
 use Rattle.walkable.proofs.Opening.{closed-exactly, open-exactly}
 
@@ -84,15 +84,15 @@ module _ (m : Model) (w : WellFormed m) where
         back (inl o) = ap (λ x. Both x (unlessPasses m (some u))) (closed-decided .told t .1 o)
         back (inr p) = ap (λ x. Both x (unlessPasses m (some u))) (closed-decided .fine .1 (p .0)) ∙ refused-18 (some u) e t .1 (p .1, p .2)
 
-    settles-fine : (o : Option Told) → clashAmong 0 m ≡ o → (elseOrderly m o ≡ none) ↔ (AllConfluent m ⊎ (NoOpenInput m × Passes m))
+    settles-fine : (o : Option Told) → clashAmong 0 m ≡ o → (elseOrderly m o ≡ none) ↔ EitherTest m
     settles-fine none e = (λ f. inl (clash .fine .0 e), λ p. refl)
     settles-fine (some u) e = (λ f. there (openFault m) refl f, back)
       where
-        there : (o : Option Told) → openFault m ≡ o → Both o (unlessPasses m (some u)) ≡ none → AllConfluent m ⊎ (NoOpenInput m × Passes m)
+        there : (o : Option Told) → openFault m ≡ o → Both o (unlessPasses m (some u)) ≡ none → EitherTest m
         there (some f) q g = absurd (no-some g refl)
         there none q g = inr (closed-decided .fine .0 q, fine-18 (some u) e .0 g)
 
-        back : AllConfluent m ⊎ (NoOpenInput m × Passes m) → elseOrderly m (some u) ≡ none
+        back : EitherTest m → elseOrderly m (some u) ≡ none
         back (inl al) = absurd (no-some (clash .fine .1 al) e)
         back (inr p) = ap (λ x. Both x (unlessPasses m (some u))) (closed-decided .fine .1 (p .0)) ∙ fine-18 (some u) e .1 (p .1)
 

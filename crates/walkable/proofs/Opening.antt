@@ -3,15 +3,14 @@ use mathlib.Core.Path.{_≡_, refl, sym, _∙_, ap}
 use mathlib.Core.Logic.{_↔_}
 use mathlib.Core.Bool.{Bool, true, false, _&&_, not, true≢false}
 use mathlib.Core.Option.{Option, none, some, Option·some-inj}
-use mathlib.Core.List.{List, [], _∷_}
+use mathlib.Core.List.{[], _∷_}
 use Prim.Native.Nat.{ℕ, _<_}
 use lib.ListN.{length}
 use borrow.Author.Tests.{not-true}
 use Rattle.laws.specs.Sets.{has, _∈_}
 use Rattle.laws.specs.Search.{least}
-use Rattle.laws.specs.Lowest.{Lowest}
 use Rattle.laws.proofs.SearchLaws.{no-some, least-none, none-least, least-some, some-least}
-use Rattle.laws.proofs.TestLaws.{and-true, not-so, and-not-both}
+use Rattle.laws.proofs.TestLaws.{and-true, not-so}
 use Rattle.answer.specs.Limits.{maxActions}
 use Rattle.answer.specs.Told.{Told, tell}
 use Rattle.iosa.specs.Model.{Model, compAt, inputs, outputs}

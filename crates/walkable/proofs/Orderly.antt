@@ -1,16 +1,14 @@
 -- The new test called, exactly: fine if and only if the system is accepted, closed and passes; else the first fault, 45 or check 18's 18.
 use mathlib.Core.Path.{_≡_, refl, sym}
-use mathlib.Core.Logic.{_↔_, _⊎_, inl, inr}
+use mathlib.Core.Logic.{_↔_, inl, inr}
 use mathlib.Core.Option.{Option, none, some}
-use mathlib.Core.List.{List, [], _∷_}
-use Prim.Native.Nat.{ℕ, _<_}
-use lib.ListN.{length}
-use Rattle.laws.specs.Search.{orElse}
-use Rattle.laws.proofs.SearchLaws.{no-some, or-else-none}
-use Rattle.answer.specs.Told.{Told, tell}
+use mathlib.Core.List.{List, _∷_}
+use Prim.Native.Nat.{ℕ}
+use Rattle.laws.proofs.SearchLaws.{or-else-none}
+use Rattle.answer.specs.Told.{Told}
 use Rattle.iosa.specs.Model.{Comp, Model}
 use Rattle.iosa.specs.WellFormed.{WellFormed}
-use Rattle.iosa.specs.Automaton.{Conforming, Joinable, AllConfluent, Reachable}
+use Rattle.iosa.specs.Automaton.{Conforming, Joinable, Reachable}
 use Rattle.iosa.specs.Product.{product, stateOf, Within}
 use Rattle.iosa.specs.Checks.{clashAmong, acceptOf, confluentOf}
 use Rattle.iosa.specs.Demand3.{Demand3}
@@ -21,10 +19,10 @@ use Rattle.iosa.proofs.Settling.Parts.{within-length}
 use Rattle.iosa.proofs.Settling.Steps.{state-is-one-list}
 use Rattle.iosa.proofs.Settling.ProductOfMany.{wells}
 use Rattle.iosa.proofs.Reaching.Keeps.{reached-within, reached-state-has-reached-parts}
-use Rattle.triggering.specs.Triggering.{Passes, NoOpenInput}
-use Rattle.triggering.specs.Test.{openFault, unlessPasses, orderlyOf, elseOrderly, entryOf}
+use Rattle.triggering.specs.Triggering.{Passes}
+use Rattle.triggering.specs.Test.{openFault, unlessPasses, orderlyOf, entryOf}
 use Rattle.triggering.proofs.WhereReached.{demand-3-where-reached}
-use Rattle.walkable.specs.Orderly.{Orderly, Settles}
+use Rattle.walkable.specs.Orderly.{Orderly, EitherTest, Settles}
 use Rattle.walkable.proofs.Opening.{closed-exactly}
 use Rattle.walkable.proofs.Entry.{passing-decided, settles-decided}
 
@@ -70,7 +68,7 @@ pub demand-3-after-a-path : (c : Comp) (cs : List Comp) → WellFormed (c ∷ cs
     → Reachable (product c cs) (stateOf c cs s) → Demand3 c cs s
 demand-3-after-a-path c cs w e s h r = go (e .either)
   where
-    go : AllConfluent (c ∷ cs) ⊎ (NoOpenInput (c ∷ cs) × Passes (c ∷ cs)) → Demand3 c cs s
+    go : EitherTest (c ∷ cs) → Demand3 c cs s
     go (inl al) =
         let n = reached-state-has-reached-parts c cs w (e .conforms) (e .joins) r in
         let v = reached-within (c ∷ cs) (n .list) (wells (c ∷ cs) w) (n .parts) in

@@ -1,6 +1,7 @@
--- `orderly::check_else` meets its contract: 45, then nothing where the test passes, and else the refusal of check 18.
+-- `orderly::check_else` meets its contract: 45, then the refusal of check 18 where the test fails, and else nothing.
 use mathlib.Core.Path.{sym, _∙_}
 use denote.Ref.{now}
+use borrow.Author.Tests.{not-true, not-false}
 use Rattle.iosa.specs.Checks.{clashAmong}
 use Rattle.layout.specs.Image.{modelOf}
 use Rattle.parts.proofs.Saying.{says-fine, says-as, refused-first, fine-next, not-fine}
@@ -31,20 +32,20 @@ passes-requires c κs = search needs
 returns-2 : tie.Need-returns-2
 returns-2 c =
     let s = c .before .before in
-    let m = modelOf (now (s .before .before .before .before .args .t)) in
+    let s0 = s .before .before .before .before in
+    let m = modelOf (now (s0 .args .t)) in
     let closed = s .before .before .check-closed in
-    let p = unlessPasses m (clashAmong 0 m) in
-    let none = passed m (clashAmong 0 m) (sym (c .before .passes .ensures) ∙ c .if1 .taken) in
-    fine-next _ _ (openFault m) p (closed .ensures) (s .enum-told .given .1) (rw (s .enum-told .given .1) (says-fine p none))
+    let same = failed m (clashAmong 0 m) (sym (c .before .passes .ensures) ∙ not-true _ (c .if1 .taken)) in
+    fine-next _ _ (openFault m) (unlessPasses m (clashAmong 0 m)) (closed .ensures) (s .enum-told .given .1) (says-as _ _ _ same (s0 .pre .2))
 
 returns-3 : tie.Need-returns-3
 returns-3 c =
     let s = c .before .before in
-    let s0 = s .before .before .before .before in
-    let m = modelOf (now (s0 .args .t)) in
+    let m = modelOf (now (s .before .before .before .before .args .t)) in
     let closed = s .before .before .check-closed in
-    let same = failed m (clashAmong 0 m) (sym (c .before .passes .ensures) ∙ c .if1 .left) in
-    fine-next _ _ (openFault m) (unlessPasses m (clashAmong 0 m)) (closed .ensures) (s .enum-told .given .1) (says-as _ _ _ same (s0 .pre .2))
+    let p = unlessPasses m (clashAmong 0 m) in
+    let none = passed m (clashAmong 0 m) (sym (c .before .passes .ensures) ∙ not-false _ (c .if1 .left)) in
+    fine-next _ _ (openFault m) p (closed .ensures) (s .enum-told .given .1) (says-fine p none)
 
 pub check-else-spec : {M : Type 1} → statement M
 check-else-spec =
