@@ -44,6 +44,18 @@ refused-settling-requires c κs = search needs
 enum-told : tie.Need-enum-told
 enum-told c = search needs
 
+-- what the first check that refuses tells
+returns : tie.Need-returns
+returns c =
+    let known = c .before .before in
+    let k = known .before .before in
+    let o = k .before in
+    let e = sym (k .in-order2 .ensures) ∙ known .checked .given .1 in
+    let l = o .before .before .before .before in
+    let a = l .before .before .before .before .args in
+    settle-refuses (now (a .table)) (now (a .path)) (a .budget) (now (a .trace)) (l .lead .result) (l .lead .ensures) (o .in-order .result) (own-says o) _ e _
+    (c .refused-settling .ensures)
+
 by-rule-requires : tie.Need-by-rule-requires
 by-rule-requires c κs =
     let fine = c .before in
@@ -58,17 +70,6 @@ by-rule-requires c κs =
       settle-there t p (a .budget) old (l .lead .result) (l .lead .ensures) (o .in-order .result) (own-says o) e .ready,
       settle-room t p (a .budget) old (l .lead .result) (l .lead .ensures) (o .in-order .result) (own-says o) e,
     )
-
-returns : tie.Need-returns
-returns c =
-    let known = c .before .before in
-    let k = known .before .before in
-    let o = k .before in
-    let e = sym (k .in-order2 .ensures) ∙ known .checked .given .1 in
-    let l = o .before .before .before .before in
-    let a = l .before .before .before .before .args in
-    settle-refuses (now (a .table)) (now (a .path)) (a .budget) (now (a .trace)) (l .lead .result) (l .lead .ensures) (o .in-order .result) (own-says o) _ e _
-    (c .refused-settling .ensures)
 
 same-length : tie.Need-same-length
 same-length c = search needs

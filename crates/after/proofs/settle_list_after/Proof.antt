@@ -24,6 +24,15 @@ refused-settling-requires c κs = search needs
 enum-told : tie.Need-enum-told
 enum-told c = search needs
 
+-- what the first check that refuses tells
+returns : tie.Need-returns
+returns c =
+    let known = c .before .before in
+    let k = known .before .before in
+    let own = k .before in
+    let e = sym (k .in-order .ensures) ∙ known .checked .given .1 in
+    list-refuses _ _ _ _ (own .before .before .lead .ensures) _ (own .steps-check .ensures) _ e _ (c .refused-settling .ensures)
+
 by-list-requires : tie.Need-by-list-requires
 by-list-requires c κs =
     let k = c .before .before in
@@ -32,14 +41,6 @@ by-list-requires c κs =
     let a = l .before .before .before .before .args in
     let e = sym (k .in-order .ensures) ∙ c .enum-told .given .1 in
     list-there (now (a .table)) (now (a .path)) (now (a .list)) (l .lead .result) (l .lead .ensures) _ (own .steps-check .ensures) e .ready
-
-returns : tie.Need-returns
-returns c =
-    let known = c .before .before in
-    let k = known .before .before in
-    let own = k .before in
-    let e = sym (k .in-order .ensures) ∙ known .checked .given .1 in
-    list-refuses _ _ _ _ (own .before .before .lead .ensures) _ (own .steps-check .ensures) _ e _ (c .refused-settling .ensures)
 
 returns-2 : tie.Need-returns-2
 returns-2 c =
