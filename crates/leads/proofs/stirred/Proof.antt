@@ -1,7 +1,10 @@
 -- `leads::stirred` meets its contract.
-use mathlib.Core.Path.{_≡_}
+use mathlib.Core.Path.{_≡_, ap, ap₂, _∙_}
+use mathlib.Core.Bool.{_&&_, cond}
+use Rattle.laws.specs.Sets.{has, _∖_, only}
+use Rattle.layout.specs.Image.{compOf}
 use Rattle.layout.proofs.ImageIsSane.{image-long}
-use Rattle.triggering.specs.Test.{stirred}
+use Rattle.triggering.specs.Test.{uoutsAt, stirred}
 use Rattle.leads.proofs.Standing.{row-here}
 use borrow.Author.Needs.{needs}
 use Rattle.leads.proofs.stirred.Statement.{statement}
@@ -43,7 +46,18 @@ pick-requires c κs = search needs
 
 returns : tie.Need-returns
 unfolding stirred
-returns c = let e = c .before .before .before .before .before .before .before .before .before .before .before .before .pre .state .counts in cc e
+returns c =
+    let h = c .before .before .before in
+    let g = h .before .before .before in
+    let m = g .before in
+    let e = m .before .before in
+    let action = e .before .action-at .ensures in
+    let x = e .before .before .before in
+    let k = compOf (x .args .t .now) (x .args .at .component) in
+    let urgent = h .has .ensures ∙ ap₂ (λ y z. has y z) (h .before .urgent-of .ensures) action in
+    let after = h .before .before .enabled-at2 .ensures ∙ ap (uoutsAt k) (g .target-at .ensures) in
+    let before = m .minus .ensures ∙ ap₂ (λ y z. y ∖ z) (e .enabled-at .ensures) (m .before .single .ensures ∙ ap only action) in
+    c .pick .ensures ∙ ap₂ (λ b s. cond b s 0) (ap₂ _&&_ urgent (x .pre .state .counts)) (c .before .minus2 .ensures ∙ ap₂ (λ y z. y ∖ z) after before)
 
 pub stirred-spec : {M : Type 1} → statement M
 stirred-spec =

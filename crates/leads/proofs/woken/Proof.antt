@@ -1,7 +1,10 @@
 -- `leads::woken` meets its contract.
-use mathlib.Core.Path.{_≡_}
+use mathlib.Core.Path.{_≡_, ap, ap₂, _∙_}
+use mathlib.Core.Bool.{_&&_, not, cond}
+use Rattle.laws.specs.Sets.{has}
+use Rattle.layout.specs.Image.{compOf}
 use Rattle.layout.proofs.ImageIsSane.{image-long}
-use Rattle.triggering.specs.Test.{woken}
+use Rattle.triggering.specs.Test.{uoutsAt, woken}
 use Rattle.leads.proofs.Standing.{row-here}
 use borrow.Author.Needs.{needs}
 use Rattle.leads.proofs.woken.Statement.{statement}
@@ -34,7 +37,16 @@ pick-requires c κs = search needs
 
 returns : tie.Need-returns
 unfolding woken
-returns c = let e = c .before .before .before .before .before .before .before .before .before .pre .state .counts in cc e
+returns c =
+    let n = c .before .before in
+    let e = n .before .before .before in
+    let g = e .before in
+    let x = g .before .before .before in
+    let k = compOf (x .args .t .now) (x .args .at .component) in
+    let urgent = n .before .has .ensures ∙ ap₂ (λ y z. has y z) (n .before .before .urgent-of .ensures) (g .before .action-at .ensures) in
+    let after = e .enabled-at .ensures ∙ ap (uoutsAt k) (g .target-at .ensures) in
+    let calm = ap₂ (λ y z. not y && z) urgent (ap₂ (λ y z. y && not z) (x .pre .state .counts) (n .is-unstable .ensures)) in
+    c .pick .ensures ∙ ap₂ (λ b s. cond b s 0) calm after
 
 pub woken-spec : {M : Type 1} → statement M
 woken-spec =
