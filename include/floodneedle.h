@@ -22,9 +22,9 @@
  *
  * Stack, in bytes, the deepest seen of each call (`make -C compare stack` measures it, and holds these numbers to it):
  *   recognise 240, check_text 832, read 1376, write 400, start 496, component 1568, compatible 656, accept 1872, confluent 2128, merge 2048,
- *   repair 368, step 2224, advance 2288, step_by 2016, settle 2736, settle_list 2688, timed_step 2048, simulate 6944,
- *   orderly 0, settle_after 0, settle_list_after 0,
- *   report 70672 (it keeps a table of its own).
+ *   repair 368, step 2224, advance 2288, step_by 2016, settle 2736, settle_list 2688, timed_step 2048, simulate 11800,
+ *   orderly 6968, settle_after 7928, settle_list_after 7928,
+ *   report 70384 (it keeps a table of its own).
  *
  * A model is a text (docs/MODEL.md), without the request line that the program `settle` reads in front of it. A table is what
  * floodneedle_read makes of it, 64-bit words at the front of a buffer; what lies behind the image is neither read nor changed. No caller
