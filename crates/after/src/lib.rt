@@ -67,9 +67,9 @@ fn not_possible(i: usize) -> Refusal
 }
 
 // Where a path leads from the start, or why nowhere.
-pub struct Arrival {
-    pub checked: Checked,
-    pub state: State,
+struct Arrival {
+    checked: Checked,
+    state: State,
 }
 
 // The walk of a path, once it may begin.

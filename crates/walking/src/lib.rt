@@ -14,9 +14,9 @@ ghost use Rattle.paths.specs.Path.{afterOf, calmStep, pathStep, walk};
 ghost use Rattle.walking.specs.Walks.{waitsFor, Trod, stopsAt, Walks};
 
 // One step: whether it is possible, and the state after it; where it is not, the state stays.
-pub struct Pace {
-    pub possible: bool,
-    pub state: State,
+struct Pace {
+    possible: bool,
+    state: State,
 }
 
 // An urgent output of the composition that is enabled, with guard `-`.
