@@ -20,9 +20,17 @@ unsigned number_of(const Aim& aim) { return static_cast<unsigned>(std::atoi(aim.
 
 bool within(unsigned number, unsigned low, unsigned high) { return low <= number && number <= high; }
 
+// The calls that take models which pass either test, and the new test itself.
+bool settles_either(const Call* call) { return call == &calls::settle_after || call == &calls::settle_list_after || call == &calls::simulate; }
+bool walks(const Call* call) { return call == &calls::settle_after || call == &calls::settle_list_after; }
+
 Model model_for(Random& random, const Aim& aim) {
   const unsigned number = number_of(aim);
   const auto size = drawing::size(random);
+  if (number == 45 || (number == 18 && (settles_either(aim.call) || aim.call == &calls::orderly))) {
+    const Model closed = second::generate(random, Family::orderly, size);
+    return number == 45 ? drawing::opened(random, closed) : drawing::turned(random, closed);
+  }
   if (within(number, 10, 18)) return second::generate_failing(random, number, size);
   if (aim.call == &calls::repair && aim.outcome != "nothing")
     return number == 26 || random.chance(20) ? drawing::deaf_at_a_limit(random) : drawing::deaf(random, drawing::model(random));
@@ -32,6 +40,7 @@ Model model_for(Random& random, const Aim& aim) {
   // What comes behind 18 in one call comes before it in another, so all of these are confluent.
   static const std::vector<Family> settling = {Family::confluent, Family::endless, Family::sharing};
   static const std::vector<Family> timing = {Family::confluent, Family::sharing};
+  if ((walks(aim.call) || aim.call == &calls::orderly) && random.chance(60)) return second::generate(random, Family::orderly, size);
   const bool no_endless = number == 19 || within(number, 28, 30) || aim.call == &calls::timed_step;
   return second::generate(random, random.pick(no_endless ? timing : settling), size);
 }
@@ -116,6 +125,19 @@ void lend_simulation(Random& random, unsigned number, const Drawn& drawn, Loan& 
   loan.clocks = number == 28 ? drawing::odd_values(random) : drawing::values(random);
 }
 
+// Settling after a path, of the table that is lent already.
+void lend_walk(Random& random, const Aim& aim, const Drawn& drawn, Loan& loan) {
+  const unsigned number = number_of(aim);
+  loan.path = aim.outcome == "22 of the path" ? drawing::long_path(random, drawn)
+              : number == 46                  ? drawing::odd_path(random, drawn)
+                                              : drawing::path(random, drawn);
+  const Bytes state = drawing::after_path(drawn, loan.path);
+  const bool odd = within(number, 22, 23) && !state.empty();
+  loan.bytes = odd ? second::generate_odd_list(random, drawn.model, state) : drawing::list(random, drawn, state);
+  loan.number = number_for(random, aim, drawn, loan.bytes);
+  loan.out = out_for(random, aim, drawn, loan.number);
+}
+
 Loan loan_for(Random& random, const Aim& aim, const Drawn& drawn) {
   const unsigned number = number_of(aim);
   Loan loan;
@@ -133,6 +155,10 @@ Loan loan_for(Random& random, const Aim& aim, const Drawn& drawn) {
   loan.table = drawing::lengthened(random, table);
   if (aim.call == &calls::simulate) {
     lend_simulation(random, number, drawn, loan);
+    return loan;
+  }
+  if (walks(aim.call)) {
+    lend_walk(random, aim, drawn, loan);
     return loan;
   }
   loan.state = state_for(random, number, drawn);

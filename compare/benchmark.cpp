@@ -104,6 +104,18 @@ Pair settle(const Subject& s, std::uint64_t budget) {
           },
           [&s, budget] { second::settle(lent(s.table), lent(s.state), budget, {lent_out.out.data(), lent_out.out.size()}); }};
 }
+Pair orderly(const Subject& s) {
+  return {"orderly", [&] { floodneedle_orderly(words(s), s.table.size(), &lent_out.answer); }, [&] { second::orderly(lent(s.table)); }};
+}
+Pair settle_after(const char* name, const Subject& s, unsigned steps) {
+  const auto path = std::make_shared<Bytes>(path_of(s, steps));
+  return {name,
+          [&s, path] {
+            floodneedle_settle_after(words(s), s.table.size(), front(*path), path->size(), 100, lent_out.out.data(), lent_out.out.size(),
+                                     lent_out.after.data(), &lent_out.answer);
+          },
+          [&s, path] { second::settle_after(lent(s.table), lent(*path), 100, {lent_out.out.data(), lent_out.out.size()}); }};
+}
 // Every clock has another value, so that one is the least.
 void set_clocks() {
   for (unsigned x = 0; x < second::clock_values; ++x) lent_out.clocks[x] = 1000 - x;
@@ -321,6 +333,14 @@ int main(int count, char** arguments) {
   lines(running, report);
 
   step_lines({few_move(2), few_move(8), few_move(16), few_move(32), all_move(2), all_move(8), all_move(16), all_move(32)});
+
+  const std::vector<Subject> walking = {paper_model(), in_turn(1), in_turn(4), in_turn(8), in_turn(16)};
+  const std::vector<Subject> testing = {paper_model(), in_turn(1), in_turn(4), in_turn(8), in_turn(16), triggering(16), triggering(64), many_components(16), many_components(32)};
+  head("Components that are not confluent alone: the test, also where urgent outputs trigger one another and on confluent models of 1,024 rows; settling with a budget of 100 after paths of 0, 64 and 4,096 steps");
+  lines(testing, orderly);
+  lines(walking, [](const Subject& s) { return settle_after("settle_after, no step", s, 0); });
+  lines(walking, [](const Subject& s) { return settle_after("settle_after, 64 steps", s, 64); });
+  lines(walking, [](const Subject& s) { return settle_after("settle_after, 4,096 steps", s, second::max_path); });
 
   const std::vector<Subject> timing = {waiting(1), waiting(4), waiting(16), waiting(32)};
   head("The timed step");

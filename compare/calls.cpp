@@ -39,6 +39,11 @@ std::string simulated_kind(const Said& said, const Lent& lent) {
   return a.kind == FLOODNEEDLE_DONE && a.count < lent.number ? "quiet" : answered_kind(said, lent);
 }
 
+// Of settling after a path: which 22 it is, the path's or the call's own.
+std::string walked_kind(const Said& said, const Lent& lent) {
+  return said.answer.number == 22 && lent.path.length > 2 * second::max_path ? "22 of the path" : answered_kind(said, lent);
+}
+
 // Of a report: the number or the verdict that its last line begins with.
 std::string printed_kind(const Said& said, const Lent& lent) {
   if (said.answer.kind == FLOODNEEDLE_REFUSED) return answered_kind(said, lent);
@@ -131,6 +136,26 @@ Said engine_settle_list(const Lent& l) {
 }
 Said second_settle_list(const Lent& l) { return said(second::settle_list(l.table, l.state, l.bytes)); }
 
+Said engine_orderly(const Lent& l) {
+  floodneedle_orderly(l.table.front, l.table.length, l.answer);
+  return answered(l);
+}
+Said second_orderly(const Lent& l) { return said(second::orderly(l.table)); }
+
+Said engine_settle_after(const Lent& l) {
+  floodneedle_settle_after(l.table.front, l.table.length, l.path.front, l.path.length, l.number, l.out.front, l.out.length, l.after->data(),
+                           l.answer);
+  return answered_with_state(l);
+}
+Said second_settle_after(const Lent& l) { return said(second::settle_after(l.table, l.path, l.number, l.out)); }
+
+Said engine_settle_list_after(const Lent& l) {
+  floodneedle_settle_list_after(l.table.front, l.table.length, l.path.front, l.path.length, l.bytes.front, l.bytes.length, l.after->data(),
+                                l.answer);
+  return answered_with_state(l);
+}
+Said second_settle_list_after(const Lent& l) { return said(second::settle_list_after(l.table, l.path, l.bytes)); }
+
 Said engine_timed_step(const Lent& l) {
   floodneedle_timed_step(l.table.front, l.table.length, l.state.front, l.state.length, l.clocks.front, l.clocks.length,
                          l.after->data(), l.answer);
@@ -199,16 +224,23 @@ const Call step_by = {"step_by", engine_step_by, second_step_by, numbers({{10, 1
 const Call settle = {"settle", engine_settle, second_settle, numbers({{10, 22}, {24, 24}}, {"stable", "unsettled"}), answered_kind};
 const Call settle_list = {"settle_list", engine_settle_list, second_settle_list, numbers({{10, 23}}, {"stable", "unsettled"}),
                           answered_kind};
+const Call orderly = {"orderly", engine_orderly, second_orderly, numbers({{10, 18}, {20, 20}, {45, 45}}, {"done"}), answered_kind};
+const Call settle_after = {"settle_after", engine_settle_after, second_settle_after,
+                           numbers({{10, 18}, {20, 20}, {22, 22}, {24, 24}, {45, 46}}, {"22 of the path", "stable", "unsettled"}), walked_kind};
+const Call settle_list_after = {"settle_list_after", engine_settle_list_after, second_settle_list_after,
+                                numbers({{10, 18}, {20, 20}, {22, 23}, {45, 46}}, {"22 of the path", "stable", "unsettled"}), walked_kind};
 const Call timed_step = {"timed_step", engine_timed_step, second_timed_step, numbers({{10, 17}, {20, 21}, {27, 30}}, {"fired", "quiet"}),
                          answered_kind};
 const Call simulate = {"simulate", engine_simulate, second_simulate,
-                       numbers({{10, 18}, {20, 20}, {22, 22}, {28, 28}, {30, 30}, {40, 42}}, {"42 later", "done", "quiet"}), simulated_kind};
+                       numbers({{10, 18}, {20, 20}, {22, 22}, {28, 28}, {30, 30}, {40, 42}, {45, 45}}, {"42 later", "done", "quiet"}),
+                       simulated_kind};
 const Call repair = {"repair", engine_repair, second_repair, numbers({{20, 20}, {24, 24}, {26, 26}}, {"done", "nothing"}), repaired_kind};
 const Call merge = {"merge", engine_merge, second_merge, numbers({{10, 17}, {20, 20}, {24, 26}}, {"done"}), answered_kind};
 const Call report = {"report", engine_report, second_report, numbers({{1, 19}, {21, 22}, {24, 24}}, {"stable", "unsettled"}), printed_kind};
 const Call advance = {"advance", engine_advance, second_advance, numbers({{10, 17}, {20, 21}}, {"moved", "stable"}), answered_kind};
 
-const Call* const all[19] = {&recognise, &check_text, &read,   &write,       &start,      &component, &compatible, &accept, &confluent, &step,
-                             &step_by,   &settle,     &settle_list, &timed_step, &simulate, &merge, &repair, &report, &advance};
+const Call* const all[22] = {&recognise, &check_text,  &read,    &write,        &start,             &component,  &compatible, &accept,
+                             &confluent, &step,        &step_by, &settle,       &settle_list,       &orderly,    &settle_after, &settle_list_after,
+                             &timed_step, &simulate,   &merge,   &repair,       &report,            &advance};
 
 }  // namespace calls

@@ -3,6 +3,7 @@
 #include "acceptance.hpp"
 #include "composition.hpp"
 #include "damage.hpp"
+#include "path.hpp"
 #include "reach.hpp"
 #include "text_writing.hpp"
 
@@ -68,7 +69,35 @@ second::Model model(Random& random) {
   if (kind < 7) return second::generate_failing(random, 10 + random.below(9), of_size);
   if (kind < 8 && random.chance(20)) return second::generate_overlong(random);
   // The families at the limits are large and slow.
-  return second::generate(random, second::families[random.chance(90) ? random.below(5) : random.below(9)], of_size);
+  return second::generate(random, second::families[random.chance(90) ? random.below(5) : random.below(10)], of_size);
+}
+
+second::Model turned(Random& random, second::Model model) {
+  for (unsigned turns = random.between(1, 2); turns > 0; --turns) {
+    second::Component& component = model.components[random.below(model.components.size())];
+    if (component.rows.empty()) continue;
+    component.rows[random.below(component.rows.size())].target = random.below(component.states);
+  }
+  return model;
+}
+
+second::Model opened(Random& random, second::Model model) {
+  unsigned action = random.below(second::members);
+  const auto has = [&](unsigned a) {
+    return std::any_of(model.components.begin(), model.components.end(), [a](const second::Component& c) { return c.kind[a] != second::Kind::absent; });
+  };
+  for (unsigned n = 0; n < second::members && has(action); ++n) action = (action + 1) % second::members;
+  if (has(action)) return model;
+  second::Component& component = model.components[random.below(model.components.size())];
+  component.kind[action] = random.chance(50) ? second::Kind::in : second::Kind::uin;
+  return second::repaired(model, second::lacking_rows(model));
+}
+
+second::Model not_alone(Random& random) {
+  const auto of_size = size(random);
+  const second::Model closed = second::generate(random, second::Family::orderly, of_size);
+  const unsigned style = random.below(10);
+  return style < 6 ? closed : style < 9 ? turned(random, closed) : opened(random, closed);
 }
 
 std::string misfit_text(Random& random, std::string text) {
@@ -185,6 +214,30 @@ Bytes unreached_state(Random& random, const Drawn& drawn) {
 Bytes odd_state(Random& random, const Drawn& drawn) {
   if (random.chance(10)) return unreached_state(random, drawn);
   return random.chance(85) ? state(random, drawn) : second::generate_odd_state(random, drawn.model);
+}
+
+Bytes path(Random& random, const Drawn& drawn) {
+  if (!drawn.accepted) return noise_bytes(random, 4);
+  const unsigned most = random.chance(95) ? random.below(14) : random.chance(80) ? random.below(200) : static_cast<unsigned>(second::max_path);
+  return second::generate_path(random, drawn.model, most);
+}
+
+Bytes odd_path(Random& random, const Drawn& drawn) {
+  return drawn.accepted ? second::generate_odd_path(random, drawn.model) : noise_bytes(random, 5);
+}
+
+Bytes long_path(Random& random, const Drawn& drawn) {
+  Bytes bytes = path(random, drawn);
+  const std::size_t most = 2 * second::max_path;
+  const auto byte = static_cast<std::uint8_t>(random.next());
+  bytes.resize(most + 1 + (random.chance(70) ? random.below(3) : random.below(5000)), byte);
+  return bytes;
+}
+
+Bytes after_path(const Drawn& drawn, const Bytes& path) {
+  if (!drawn.accepted) return {};
+  const second::Walk walk = second::walked(drawn.model, lent(path));
+  return walk.refusal ? Bytes() : Bytes(walk.state.parts, walk.state.parts + walk.state.count);
 }
 
 Bytes list(Random& random, const Drawn& drawn, const Bytes& state) {

@@ -27,6 +27,13 @@ second::Size size(Random& random);
 // Of any family, or faulty.
 second::Model model(Random& random);
 
+// Components that are not confluent alone, in a closed system that passes the test for such; at times with a row or two that lead elsewhere, so
+// that it may fail that test, and at times with an input that nobody outputs.
+second::Model not_alone(Random& random);
+// The same with one or two rows that lead elsewhere; with an input that nobody outputs, and its rows.
+second::Model turned(Random& random, second::Model model);
+second::Model opened(Random& random, second::Model model);
+
 // A text with some values of one line exchanged, so that one line has several faults and the first of them has to be told: numbers out of range,
 // not declared, not ascending, or of wrong shape. Mostly in a row with a list of resets.
 std::string misfit_text(Random& random, std::string text);
@@ -50,6 +57,14 @@ Table odd_room(Random& random);
 Bytes state(Random& random, const Drawn& drawn);
 Bytes unreached_state(Random& random, const Drawn& drawn);
 Bytes odd_state(Random& random, const Drawn& drawn);
+
+// Steps that are possible from the start, if the model is accepted, few as a rule and up to 4,096; in the odd path something is wrong, or there is a
+// byte too many; the long one is over 8,192 bytes.
+Bytes path(Random& random, const Drawn& drawn);
+Bytes odd_path(Random& random, const Drawn& drawn);
+Bytes long_path(Random& random, const Drawn& drawn);
+// The state after it; none where the model is not accepted, or the path not possible.
+Bytes after_path(const Drawn& drawn, const Bytes& path);
 
 // Actions to take one after the other; the odd ones need not be enabled, and there may be too many.
 Bytes list(Random& random, const Drawn& drawn, const Bytes& state);

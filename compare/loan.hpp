@@ -10,6 +10,7 @@ struct Loan {
   Table table;                // read; `repair` writes it too
   Bytes state;                // read; `advance` writes it too
   std::uint64_t missing = 0;  // parts that the state is said to have beyond its bytes
+  Bytes path;                 // read: a listed path
   Bytes bytes;                // read: a text, a list, recorded samples, or the program's input
   std::uint64_t number = 0;   // a budget, a named action, an index, or rounds
   Table into;                 // written: a table
@@ -23,6 +24,7 @@ struct Lent {
   second::WordsToWrite repaired;  // the table again, for `repair`
   second::Bytes state;
   second::BytesToWrite advanced;  // the state again, for `advance`
+  second::Bytes path;
   second::Bytes bytes;
   std::uint64_t number;
   second::WordsToWrite into;
@@ -82,8 +84,8 @@ class Framed {
 // A loan kept for one program.
 struct Kept {
   explicit Kept(const Loan& loan)
-      : table(loan.table), state(loan.state), missing(loan.missing), bytes(loan.bytes), number(loan.number), into(loan.into),
-        out(loan.out), clocks(loan.clocks) {}
+      : table(loan.table), state(loan.state), missing(loan.missing), path(loan.path), bytes(loan.bytes), number(loan.number),
+        into(loan.into), out(loan.out), clocks(loan.clocks) {}
 
   Lent lent() {
     const std::uint64_t parts = state.size() + missing;
@@ -91,6 +93,7 @@ struct Kept {
             {table.front(), table.size()},
             {state.front(), parts},
             {state.front(), parts},
+            {path.front(), path.size()},
             {bytes.front(), bytes.size()},
             number,
             {into.front(), into.size()},
@@ -101,18 +104,19 @@ struct Kept {
   }
 
   bool holds(const Loan& loan) const {
-    return table.holds(loan.table) && state.holds(loan.state) && bytes.holds(loan.bytes) && into.holds(loan.into) && out.holds(loan.out) &&
-           clocks.holds(loan.clocks);
+    return table.holds(loan.table) && state.holds(loan.state) && path.holds(loan.path) && bytes.holds(loan.bytes) && into.holds(loan.into) &&
+           out.holds(loan.out) && clocks.holds(loan.clocks);
   }
   // Whether all guards hold what they held.
   bool intact() const {
-    return table.intact() && state.intact() && bytes.intact() && into.intact() && out.intact() && clocks.intact() && answer.intact() &&
-           after.intact();
+    return table.intact() && state.intact() && path.intact() && bytes.intact() && into.intact() && out.intact() && clocks.intact() &&
+           answer.intact() && after.intact();
   }
 
   Guarded<std::uint64_t> table;
   Guarded<std::uint8_t> state;
   std::uint64_t missing;
+  Guarded<std::uint8_t> path;
   Guarded<std::uint8_t> bytes;
   std::uint64_t number;
   Guarded<std::uint64_t> into;

@@ -118,6 +118,7 @@ void PagedLoan::hold(const Loan& loan) {
   table.hold(loan.table);
   state.hold(loan.state);
   missing = loan.missing;
+  path.hold(loan.path);
   bytes.hold(loan.bytes);
   number = loan.number;
   into.hold(loan.into);
@@ -131,12 +132,14 @@ Lent PagedLoan::lent(bool read_only) {
   const auto words = table.lent(true);
   const auto repaired = table.lent(read_only);
   const auto read = bytes.lent(true);
+  const auto listed = path.lent(true);
   const auto parts = state.lent(true);
   const auto advanced = state.lent(read_only);
   return {{words.front, words.length},
           repaired,
           {parts.front, parts.length + missing},
           {advanced.front, advanced.length + missing},
+          {listed.front, listed.length},
           {read.front, read.length},
           number,
           into.lent(read_only),
@@ -147,12 +150,12 @@ Lent PagedLoan::lent(bool read_only) {
 }
 
 bool PagedLoan::holds(const Kept& other) const {
-  return table.holds(other.table) && state.holds(other.state) && bytes.holds(other.bytes) && into.holds(other.into) && out.holds(other.out) &&
-         clocks.holds(other.clocks) && answer.intact() && after.intact();
+  return table.holds(other.table) && state.holds(other.state) && path.holds(other.path) && bytes.holds(other.bytes) && into.holds(other.into) &&
+         out.holds(other.out) && clocks.holds(other.clocks) && answer.intact() && after.intact();
 }
 
 std::string PagedLoan::place_of(const void* address) const {
-  const std::pair<const char*, const Pages*> all[] = {{"table", &table}, {"state", &state}, {"bytes", &bytes},
+  const std::pair<const char*, const Pages*> all[] = {{"table", &table}, {"state", &state}, {"path", &path}, {"bytes", &bytes},
                                                       {"into", &into},   {"out", &out},     {"clocks", &clocks}};
   std::ptrdiff_t byte = 0;
   for (const auto& [name, pages] : all)

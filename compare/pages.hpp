@@ -52,6 +52,7 @@ class PagedLoan {
   Paged<std::uint64_t> table;
   Paged<std::uint8_t> state;
   std::uint64_t missing = 0;
+  Paged<std::uint8_t> path;
   Paged<std::uint8_t> bytes;
   std::uint64_t number = 0;
   Paged<std::uint64_t> into;

@@ -48,11 +48,27 @@ void try_simulation(Random& random, const Table& table, const Drawn& drawn) {
   try_call(calls::simulate, loan);
 }
 
+// Settling after a path, by rule and by list. A list that comes to an end has taken the steps in some order: the rule must have come to the same.
+void try_walk(Random& random, const Table& table, const Drawn& drawn) {
+  Loan loan;
+  loan.table = table;
+  loan.path = random.chance(70) ? drawing::path(random, drawn) : random.chance(90) ? drawing::odd_path(random, drawn) : drawing::long_path(random, drawn);
+  loan.number = drawing::budget(random);
+  loan.out = drawing::trace(random, loan.number);
+  try_call(calls::settle_after, loan);
+  loan.bytes = drawing::odd_list(random, drawn, drawing::after_path(drawn, loan.path));
+  const Said listed = try_call(calls::settle_list_after, loan).engine;
+  if (listed.answer.kind != FLOODNEEDLE_STABLE) return;
+  loan.number = second::max_budget;
+  loan.out = drawing::noise_bytes(random, second::max_budget);
+  hold("any order after a path ends alike", try_call(calls::settle_after, loan).engine == listed, where);
+}
+
 // Every call that takes a table, on one that need not be the model's.
 void try_calls(Random& random, const Table& table, const Drawn& drawn) {
   Loan loan;
   loan.table = table;
-  for (const Call* call : {&calls::recognise, &calls::start, &calls::compatible, &calls::accept, &calls::confluent}) try_call(*call, loan);
+  for (const Call* call : {&calls::recognise, &calls::start, &calls::compatible, &calls::accept, &calls::confluent, &calls::orderly}) try_call(*call, loan);
 
   const unsigned length = random.below(4);
   const std::size_t exact = drawn.text.size();
@@ -75,6 +91,7 @@ void try_calls(Random& random, const Table& table, const Drawn& drawn) {
   try_call(calls::timed_step, loan);
 
   try_simulation(random, table, drawn);
+  try_walk(random, table, drawn);
 
   loan.number = second::generate_index(random, drawn.model);
   try_call(calls::component, loan);
@@ -100,6 +117,20 @@ void try_plant(Random& random) {
     if (made.second.answer.kind == FLOODNEEDLE_REFUSED) break;
     loan.clocks = made.left.clocks.content();
   }
+}
+
+// Components that are not confluent alone: both tests, settling from the start and after paths, and simulations.
+void try_not_alone(Random& random) {
+  const Drawn drawn(drawing::not_alone(random));
+  const Table table = drawing::lengthened(random, drawn.table);
+  Loan loan;
+  loan.table = table;
+  loan.state = drawing::state(random, drawn);
+  loan.number = drawing::budget(random);
+  loan.out = drawing::trace(random, loan.number);
+  for (const Call* call : {&calls::confluent, &calls::orderly, &calls::settle}) try_call(*call, loan);
+  for (unsigned turn = 0; turn < 3; ++turn) try_walk(random, table, drawn);
+  try_simulation(random, table, drawn);
 }
 
 // A model that lacks rows of inputs is repaired, then checked, repaired again and written.
@@ -226,6 +257,7 @@ void try_input(std::uint64_t seed, std::uint64_t index) {
   try_sequence(random, drawn.text);
   try_repairs(random, drawn);
   try_plant(random);
+  try_not_alone(random);
   if (index % 4 == 0) try_report(random, drawn);
   if (index % 16 == 0) try_nonsense(random);
   for (unsigned n = 0; n < aims_for_a_model; ++n) {

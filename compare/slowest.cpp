@@ -39,7 +39,7 @@ void tell(const Call& call, std::vector<Timed>& timed) {
     sum += t.ratio();
     if (t.ratio() > 1) ++over[t.outcome];
   }
-  std::printf("%-12s %6zu inputs, ratio %.3f on average; over 1.0:", call.name, timed.size(), sum / static_cast<double>(timed.size()));
+  std::printf("%-17s %6zu inputs, ratio %.3f on average; over 1.0:", call.name, timed.size(), sum / static_cast<double>(timed.size()));
   for (const auto& [outcome, times] : over) std::printf("  %s %u", outcome.c_str(), times);
   std::printf("\n");
   for (std::size_t w = 0; w < shown && w < timed.size(); ++w)

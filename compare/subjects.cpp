@@ -1,5 +1,6 @@
 #include "subjects.hpp"
 
+#include "generate.hpp"
 #include "random.hpp"
 #include "samples.hpp"
 #include "text_writing.hpp"
@@ -174,6 +175,49 @@ Subject plant(unsigned components, unsigned counts) {
     model.components.push_back(component);
   }
   return subject(counted(components, "components running"), model);
+}
+
+Subject in_turn(unsigned sources) {
+  Model model;
+  for (unsigned c = 0; c < sources; ++c) {
+    Component component;
+    component.states = 4;
+    component.clocks = component.started = second::only(c);
+    component.kind[3 * c] = Kind::out;
+    for (unsigned turn = 0; turn < 2; ++turn) {
+      component.kind[3 * c + 1 + turn] = Kind::uout;
+      add_row(component, 2 * turn, 3 * c, 0, 2 * turn + 1, static_cast<int>(c));
+      add_row(component, 2 * turn + 1, 3 * c + 1 + turn, component.clocks, (2 * turn + 2) % 4);
+    }
+    model.components.push_back(component);
+  }
+  for (unsigned c = 0; c < sources; ++c) {
+    Component component;
+    component.states = 3;
+    for (unsigned other = c; other < c + 4 && other < c + sources; ++other)
+      for (unsigned turn = 0; turn < 2; ++turn) {
+        const unsigned heard = 3 * (other % sources) + 1 + turn;
+        component.kind[heard] = Kind::uin;
+        for (unsigned s = 0; s < 3; ++s) add_row(component, s, heard, 0, s == 0 ? 1 + turn : s);
+      }
+    model.components.push_back(component);
+  }
+  return subject(counted(2 * sources, "components, in turn"), model);
+}
+
+Subject triggering(unsigned states) {
+  Component component;
+  component.states = states;
+  for (unsigned s = 0; s < states; ++s) {
+    component.kind[s] = Kind::uout;
+    add_row(component, s, s, 0, (s + 1) % states);
+  }
+  return subject(counted(states, "that trigger one another"), {{component}});
+}
+
+Bytes path_of(const Subject& of, unsigned steps) {
+  second::Random random(1);
+  return second::generate_path(random, of.model, steps);
 }
 
 Bytes recorded(const Subject& of, unsigned samples) {

@@ -41,6 +41,16 @@ Subject waiting(unsigned components);
 // So many components that run on a clock each, tell when it has ended, which resets it, and count, to so many, what the next three do and tell.
 Subject plant(unsigned components, unsigned counts);
 
+// So many sources that say two things in turn, each time their clock ends, and as many listeners that remember which they heard first of those of
+// four sources: none of these is confluent, but the system passes the test for such.
+Subject in_turn(unsigned sources);
+
+// One component of so many states and urgent outputs, each of which triggers the next; it never settles.
+Subject triggering(unsigned states);
+
+// A path of so many steps from the model's start, or as many as there are.
+Bytes path_of(const Subject& of, unsigned steps);
+
 // A text with so many samples for each clock of the model; no two clocks ever tie.
 Bytes recorded(const Subject& of, unsigned samples);
 

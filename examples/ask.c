@@ -1,10 +1,13 @@
 /* One call of the C library from the command line: it reads a model text from standard input, makes the call and prints its answer on one line.
  * usage: ask VERB WORDS.. < MODEL
- *   accept | confluent | start                 no words; of the start its state and the clocks set there are told
+ *   accept | confluent | orderly | start       no words; of the start its state and the clocks set there are told
  *   component I | merge I                      a component's number
  *   compatible                                 no words
  *   step STATE | by STATE ACTION               a state is numbers joined by commas
  *   settle STATE BUDGET | list STATE ACTIONS   actions are numbers joined by commas, or - for none
+ *   after PATH BUDGET | list-after PATH ACTIONS
+ *                                              settling after a path from the start: steps joined by commas, each ACTION/CLOCK, or ACTION/- where
+ *                                              it is urgent; - for no step
  *   timed STATE VALUES                         the values of clocks 0, 1, .. joined by commas; the others are 0
  *   simulate ROUNDS SAMPLES                    the samples as their text, with a comma for each tab and a semicolon for each LF, or - for none;
  *                                              told are the rounds done, the state, and the values of the clocks
@@ -24,7 +27,7 @@ enum { most = 8192 };
 static uint8_t text[FLOODNEEDLE_TEXT + 1];
 static uint64_t table[FLOODNEEDLE_TABLE], merged[FLOODNEEDLE_TABLE];
 static int64_t clocks[FLOODNEEDLE_CLOCKS], numbers[most];
-static uint8_t state[most], list[most], after[FLOODNEEDLE_STATE], trace[FLOODNEEDLE_BUDGET];
+static uint8_t state[most], list[most], path[2 * FLOODNEEDLE_BUDGET + 2], after[FLOODNEEDLE_STATE], trace[FLOODNEEDLE_BUDGET];
 static struct floodneedle_answer answer;
 
 static int usage(void) {
@@ -43,10 +46,28 @@ static size_t numbers_of(const char *word) {
   return n;
 }
 
-/* The same as bytes; a number that is no byte becomes 255, which no state and no action is. */
+/* A number that is no byte becomes 255, which no state, no action and no guard is. */
+static uint8_t byte_of(int64_t number) { return number < 0 || number > 255 ? 255 : (uint8_t)number; }
+
+/* The same as bytes. */
 static size_t bytes_of(const char *word, uint8_t *to) {
   size_t n = numbers_of(word);
-  for (size_t i = 0; i < n; ++i) to[i] = numbers[i] < 0 || numbers[i] > 255 ? 255 : (uint8_t)numbers[i];
+  for (size_t i = 0; i < n; ++i) to[i] = byte_of(numbers[i]);
+  return n;
+}
+
+/* Reads a path, two bytes for each step: its action, and its guard, 0 for - and x + 1 for clock x. A step without its guard is one byte. */
+static size_t path_of(const char *word) {
+  size_t n = 0;
+  if (strcmp(word, "-") == 0) return 0;
+  for (char *end; n + 2 <= sizeof path; word = end + 1) {
+    path[n++] = byte_of(strtoll(word, &end, 10));
+    if (*end == '/') {
+      int64_t clock = end[1] == '-' ? (end += 2, -1) : strtoll(end + 1, &end, 10);
+      path[n++] = byte_of(clock + 1);
+    }
+    if (*end != ',') break;
+  }
   return n;
 }
 
@@ -113,6 +134,19 @@ static int merge(uint64_t i) {
   return 1;
 }
 
+/* Settling after a path, by rule with a budget or by list. */
+static void settle_after(const char *steps, const char *budget, const char *actions, size_t *n) {
+  size_t length = path_of(steps);
+  floodneedle_start(table, FLOODNEEDLE_TABLE, after, &answer);
+  *n = (size_t)answer.count;
+  if (budget != 0) {
+    floodneedle_settle_after(table, FLOODNEEDLE_TABLE, path, length, strtoull(budget, 0, 10), trace, sizeof trace, after, &answer);
+  } else {
+    size_t listed = bytes_of(actions, list);
+    floodneedle_settle_list_after(table, FLOODNEEDLE_TABLE, path, length, list, listed, after, &answer);
+  }
+}
+
 static int timed(size_t n, const char *values) {
   size_t count = numbers_of(values);
   for (size_t x = 0; x < count && x < FLOODNEEDLE_CLOCKS; ++x) clocks[x] = numbers[x];
@@ -155,6 +189,9 @@ static int call(int words, char **word, size_t *n) {
     return 0;
   }
   if (words == 2 && strcmp(verb, "confluent") == 0) return floodneedle_confluent(table, FLOODNEEDLE_TABLE, &answer), 0;
+  if (words == 2 && strcmp(verb, "orderly") == 0) return floodneedle_orderly(table, FLOODNEEDLE_TABLE, &answer), 0;
+  if (words == 4 && strcmp(verb, "after") == 0) return settle_after(word[2], word[3], 0, n), 0;
+  if (words == 4 && strcmp(verb, "list-after") == 0) return settle_after(word[2], 0, word[3], n), 0;
   if (words == 2 && strcmp(verb, "compatible") == 0) return floodneedle_compatible(table, FLOODNEEDLE_TABLE, &answer), 0;
   if (words == 3 && strcmp(verb, "component") == 0)
     return floodneedle_component(table, FLOODNEEDLE_TABLE, strtoull(word[2], 0, 10), &answer), 0;

@@ -13,15 +13,18 @@
  * 0, and so is every field that the answer does not use.
  *
  * In a model that `confluent` accepts, from a state each part of which its component can reach (19), urgent steps that come to an end come
- * to the same one in whatever order they are taken. settle and settle_list ask for both each time; simulate asks for the first, and begins
- * at the start. step, step_by, advance and timed_step ask for neither: in a model that `confluent` refuses with 18, what a loop over them
- * arrives at can depend on which of several enabled actions is taken first. Whoever loops over them asks `confluent` once, and begins at the
- * start or where settling led to.
+ * to the same one in whatever order they are taken. settle and settle_list ask for both each time. In a model that `orderly` accepts the
+ * same holds of every state that the whole system reaches: from the start by steps of which each non-urgent one leaves a stable state.
+ * settle_after, settle_list_after and simulate take models that either of the two accepts, and begin at the start. step, step_by, advance
+ * and timed_step ask for neither: in a model that `confluent` refuses with 18, what a loop over them arrives at can depend on which of
+ * several enabled actions is taken first. Whoever loops over them asks `confluent` once, and begins at the start or where settling led to;
+ * or asks `orderly` once, and begins at the start or where such a loop or settle_after led to.
  *
  * Stack, in bytes, the deepest seen of each call (`make -C compare stack` measures it, and holds these numbers to it):
  *   recognise 240, check_text 832, read 1376, write 400, start 496, component 1568, compatible 656, accept 1872, confluent 2128, merge 2048,
- *   repair 368, step 2224, advance 2288, step_by 2016, settle 2736, settle_list 2688, timed_step 2048, simulate 6944,
- *   report 70672 (it keeps a table of its own).
+ *   repair 368, step 2224, advance 2288, step_by 2016, settle 2736, settle_list 2688, timed_step 2048, simulate 11800,
+ *   orderly 6968, settle_after 7928, settle_list_after 7928,
+ *   report 70384 (it keeps a table of its own).
  *
  * A model is a text (docs/MODEL.md), without the request line that the program `settle` reads in front of it. A table is what
  * floodneedle_read makes of it, 64-bit words at the front of a buffer; what lies behind the image is neither read nor changed. No caller
@@ -47,7 +50,7 @@ extern "C" {
 #define FLOODNEEDLE_TEXT 32768
 
 /* Sizes: words of a component's block (137) and of a table (8,481), bytes of a state, the largest budget, which is also the longest list or
- * trace and the most rounds of a simulation, the number of clock values, and bytes of the longest report there can be. */
+ * trace, the most rounds of a simulation and the most steps of a path, the number of clock values, and bytes of the longest report there can be. */
 #define FLOODNEEDLE_BLOCK (8 + FLOODNEEDLE_STATES + 1)
 #define FLOODNEEDLE_TABLE (1 + FLOODNEEDLE_BLOCK * FLOODNEEDLE_COMPONENTS + 4 * FLOODNEEDLE_ROWS)
 #define FLOODNEEDLE_STATE FLOODNEEDLE_COMPONENTS
@@ -88,7 +91,7 @@ enum floodneedle_refusal {
   FLOODNEEDLE_NOT_REACHED = 19,          /* a part of the state is one that its component cannot reach */
   FLOODNEEDLE_NO_IMAGE = 20,             /* the table is not the image of a model */
   FLOODNEEDLE_STATE_MISFITS = 21,        /* a state of wrong length or range */
-  FLOODNEEDLE_TOO_MANY_STEPS = 22,       /* a budget, a list or rounds over FLOODNEEDLE_BUDGET */
+  FLOODNEEDLE_TOO_MANY_STEPS = 22,       /* a budget, a list, rounds or a path over FLOODNEEDLE_BUDGET */
   FLOODNEEDLE_NOT_ENABLED = 23,          /* an action that was named or listed is no enabled urgent output */
   FLOODNEEDLE_BUFFER_TOO_SHORT = 24,     /* the place is the number of bytes needed */
   FLOODNEEDLE_COMPONENT_ABSENT = 25,     /* no component has this index, or none the next one in merging */
@@ -99,7 +102,9 @@ enum floodneedle_refusal {
   FLOODNEEDLE_CLOCKS_TIE = 30,           /* two enabling clocks share the least value */
   FLOODNEEDLE_SAMPLES_MISSHAPEN = 40,    /* simulation: a line of the sample text is bad, or one lacks; line */
   FLOODNEEDLE_SAMPLES_RAN_OUT = 41,      /* simulation: a clock that is due a sample has none left */
-  FLOODNEEDLE_ROUND_UNSETTLED = 42       /* simulation: a round does not settle; the round, from 0 */
+  FLOODNEEDLE_ROUND_UNSETTLED = 42,      /* simulation: a round does not settle; the round, from 0 */
+  FLOODNEEDLE_INPUT_OPEN = 45,           /* an action that is heard and nobody's output; the lowest such action */
+  FLOODNEEDLE_PATH_NOT_POSSIBLE = 46     /* a step of the path is not possible where it is taken; its index, from 0 */
 };
 
 struct floodneedle_answer {
@@ -107,7 +112,7 @@ struct floodneedle_answer {
   uint64_t number;   /* of the refusal, else 0 */
   uint64_t places;   /* how many values the refusal's place has, 1 to 4; 0 where nothing is refused */
   uint64_t place[4];
-  uint64_t count;    /* bytes written (write, report), rows added (repair), steps taken (settle, settle_list), components (start),
+  uint64_t count;    /* bytes written (write, report), rows added (repair), steps taken (all that settle), components (start),
                       * later rounds done (simulate); else 0 */
   uint64_t action;   /* where moved or fired, else 0 */
   uint64_t resets;   /* a set of clocks: where moved or fired, of a settling, and those set at the start (start); else 0 */
@@ -222,6 +227,32 @@ void floodneedle_settle(const uint64_t *table, size_t table_words, const uint8_t
 void floodneedle_settle_list(const uint64_t *table, size_t table_words, const uint8_t *state, size_t parts,
                              const uint8_t *list, size_t list_bytes, uint8_t after[FLOODNEEDLE_STATE], struct floodneedle_answer *answer);
 
+/* Done exactly where the model is accepted, closed (every action that some component hears is an output of one) and passes the test for
+ * systems of components that are not confluent alone: no two urgent actions whose order matters in a component, in a state that it can
+ * reach, are led to by urgent outputs that become enabled together, at the start or by one non-urgent action. Where confluent is done and
+ * the model is closed, this is done too. 18 tells the place that confluent tells: it may name a pair that does no harm while another does.
+ * Refuses: as accept, then 45 (the lowest action that is heard and nobody's output), 18. */
+void floodneedle_orderly(const uint64_t *table, size_t table_words, struct floodneedle_answer *answer);
+
+/* Settles as settle does, from the state to which a path leads from the start. `path` has two bytes for each step, its action and its
+ * guard: 0 for none, x + 1 for clock x. A step is possible if its action is an enabled urgent output and the guard 0; or if the state is
+ * stable, and the component that outputs the action has a row by it with that clock as its guard from where it is. Clock values play no
+ * part. The empty path is the start; the path may end where urgent outputs are enabled. `count`, `resets` and the trace are those of the
+ * settling alone; places of `after` past the components are 0. The model need pass confluent or orderly, not both: in either the answer
+ * does not depend on the order of the urgent steps.
+ * Refuses: as accept; then, where confluent refuses with 18, as orderly: 45, 18; 22 (a path over 8,192 bytes, that is over 4,096 steps);
+ * 46 (the index of the first step that is not possible; a last byte alone begins such a step); 22 (budget over 4,096), 24 (trace shorter
+ * than the budget). */
+void floodneedle_settle_after(const uint64_t *table, size_t table_words, const uint8_t *path, size_t path_bytes, uint64_t budget,
+                              uint8_t *trace, size_t trace_bytes, uint8_t after[FLOODNEEDLE_STATE], struct floodneedle_answer *answer);
+
+/* Takes the listed actions in order from the state to which a path leads, and answers as settle_after does.
+ * Refuses: as settle_after as far as 46; then 22 (list over 4,096), 23 at the index of the first listed action that is not an enabled
+ * urgent output. */
+void floodneedle_settle_list_after(const uint64_t *table, size_t table_words, const uint8_t *path, size_t path_bytes,
+                                   const uint8_t *list, size_t list_bytes, uint8_t after[FLOODNEEDLE_STATE],
+                                   struct floodneedle_answer *answer);
+
 /* In a stable state the enabling clock with the least value fires: fired, with that value as `ticks`, action and resets, and `after` the
  * state after its row; every declared clock falls by it, down to -2^40 at the lowest, and undeclared places stay. With no enabling clock
  * it is quiet and nothing changes. Storing new samples for the clocks in `resets` is the caller's work.
@@ -238,10 +269,11 @@ void floodneedle_timed_step(const uint64_t *table, size_t table_words, const uin
  * often it was reset; the others keep what they have. Where no clock is waited for the simulation is over, and this round does not count.
  * Done, with `count` the later rounds done and `after` the state, whose places past the components are 0. The declared clocks' values are
  * written to their places in `clocks`; the others stay. What the values were before does not matter.
- * In whatever order the urgent steps are taken, every round ends with the same state and values.
- * Refuses: as confluent, then 22 (over 4,096 rounds), 28 (not FLOODNEEDLE_CLOCKS values), 40 (the first bad line, from 1; one past the last
- * where all are good and too few); then round by round 30 (two enabling clocks share the least value: the lowest such clock; not in round
- * 0), 42 (the round, which does not settle), 41 (the lowest clock that is due a sample and has none left). */
+ * In whatever order the urgent steps are taken, every round ends with the same state and values. The model need pass confluent or orderly.
+ * Refuses: as accept; then, where confluent refuses with 18, as orderly: 45, 18; 22 (over 4,096 rounds), 28 (not FLOODNEEDLE_CLOCKS
+ * values), 40 (the first bad line, from 1; one past the last where all are good and too few); then round by round 30 (two enabling clocks
+ * share the least value: the lowest such clock; not in round 0), 42 (the round, which does not settle), 41 (the lowest clock that is due a
+ * sample and has none left). */
 void floodneedle_simulate(const uint64_t *table, size_t table_words, const uint8_t *samples, size_t sample_bytes, uint64_t rounds,
                           int64_t *clocks, size_t clock_values, uint8_t after[FLOODNEEDLE_STATE], struct floodneedle_answer *answer);
 

@@ -11,6 +11,12 @@ Loan with_front(Loan loan, const Table& front) {
   return loan;
 }
 
+Bytes repeated_bytes(const Bytes& piece, std::uint64_t times) {
+  Bytes bytes;
+  for (std::uint64_t t = 0; t < times; ++t) bytes.insert(bytes.end(), piece.begin(), piece.end());
+  return bytes;
+}
+
 // A text of so many lines, each alike, behind a head: done, and one line more is refused.
 void most_lines(const Text& head, const Text& line, std::uint64_t most, unsigned number, std::uint64_t place) {
   Loan loan;
@@ -126,6 +132,14 @@ void BUDGET() {
   expect("the longest list", calls::settle_list, loan, unsettled);
   loan.bytes.push_back(3);
   expect("a list of one more", calls::settle_list, loan, refused(22, {0}));
+  // Steps of a path, two bytes each.
+  loan.path = repeated_bytes({3, 0}, most);
+  loan.number = 0;
+  loan.bytes.clear();
+  expect("the longest path", calls::settle_after, loan, settled(FLOODNEEDLE_UNSETTLED, 0, 0, {0}));
+  expect("the longest path, by list", calls::settle_list_after, loan, settled(FLOODNEEDLE_UNSETTLED, 0, 0, {0}));
+  loan.path.push_back(3);
+  for (const Call* call : {&calls::settle_after, &calls::settle_list_after}) expect("a path of a byte more", *call, loan, refused(22, {0}));
   // Rounds of a simulation; here no clock is waited for.
   loan = lent_table(image(tabbed("comp 1 0\n")));
   loan.clocks = Clocks(FLOODNEEDLE_CLOCKS, 5);

@@ -24,6 +24,7 @@ void try_stated() {
   stated_components();
   stated_runs();
   stated_reached();
+  stated_orderly();
   stated_clocks();
   stated_simulations();
   stated_merges();
@@ -125,5 +126,9 @@ void expect_checks(const std::string& why, const Table& table, const Said& accep
     for (const Call* call : {&calls::step, &calls::step_by, &calls::timed_step, &calls::merge, &calls::advance})
       expect(why, *call, loan, accepted);
   if (confluent.answer.kind == FLOODNEEDLE_REFUSED)
-    for (const Call* call : {&calls::settle, &calls::settle_list, &calls::simulate}) expect(why, *call, loan, confluent);
+    for (const Call* call : {&calls::settle, &calls::settle_list}) expect(why, *call, loan, confluent);
+  for (const Call* call : {&calls::orderly, &calls::settle_after, &calls::settle_list_after, &calls::simulate}) {
+    if (accepted.answer.kind == FLOODNEEDLE_REFUSED) expect(why, *call, loan, accepted);
+    else compare(Input::stated, *call, loan, why);
+  }
 }

@@ -16,6 +16,7 @@ void stated_models();
 void stated_components();
 void stated_runs();
 void stated_reached();
+void stated_orderly();
 void stated_clocks();
 void stated_simulations();
 void stated_merges();
@@ -58,5 +59,6 @@ Loan lent_state(const Table& table, const Bytes& state);
 // A report with bytes to spare: just this is printed.
 void expect_report(const std::string& input, const std::string& report);
 
-// Both checks on a table, and every other call that makes them, whose own refusals all come later.
+// Both checks on a table, and every other call that makes them, whose own refusals all come later. Where only check 18 fails it is stated apart what
+// the calls answer that look at the new test then (orderly.cpp): of such a table both programs must agree there.
 void expect_checks(const std::string& why, const Table& table, const Said& accepted, const Said& confluent);

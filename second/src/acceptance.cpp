@@ -3,6 +3,7 @@
 #include "compatible.hpp"
 #include "conditions.hpp"
 #include "confluence.hpp"
+#include "triggering.hpp"
 
 namespace second {
 
@@ -21,6 +22,17 @@ Refusal acceptance(const Model& model) {
 Refusal acceptance_and_confluence(const Model& model) {
   if (Refusal broken = acceptance(model)) return broken;
   return confluence(model);
+}
+
+Refusal acceptance_and_orderliness(const Model& model) {
+  if (Refusal broken = acceptance(model)) return broken;
+  return orderliness(model);
+}
+
+Refusal acceptance_and_either(const Model& model) {
+  if (Refusal broken = acceptance(model)) return broken;
+  if (!confluence(model)) return {};
+  return orderliness(model);
 }
 
 }  // namespace second

@@ -14,4 +14,11 @@ Refusal acceptance(const Model& model);
 // As acceptance, then 18.
 Refusal acceptance_and_confluence(const Model& model);
 
+// As acceptance, then the new test: 45, 18.
+Refusal acceptance_and_orderliness(const Model& model);
+
+// As acceptance; then nothing where the check of confluence passes, else 45, and 18 where neither
+// test passes.
+Refusal acceptance_and_either(const Model& model);
+
 }  // namespace second

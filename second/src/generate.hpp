@@ -23,11 +23,13 @@ enum class Family {
   rows_1024,      // confluent, 1,024 rows
   states_128,     // confluent, a component of 128 states
   text_32768,     // confluent, a text within a few bytes of the limit or at it
+  orderly,        // not confluent, but closed, and the test for such systems passes
 };
 
 constexpr Family families[] = {
     Family::accepted,      Family::confluent, Family::clashing,  Family::endless,   Family::sharing,
-    Family::components_32, Family::rows_1024, Family::states_128, Family::text_32768};
+    Family::components_32, Family::rows_1024, Family::states_128, Family::text_32768,
+    Family::orderly};
 
 Model generate(Random& random, Family family, Size size);
 
@@ -71,6 +73,11 @@ std::vector<std::int64_t> generate_ticks(Random& random);
 std::vector<std::int64_t> generate_ticks_for(Random& random, const Model& model,
                                              const std::vector<std::uint8_t>& state);
 std::vector<std::int64_t> generate_odd_ticks(Random& random);
+
+// Steps that are possible from the start of an accepted model, two bytes each, at most `most` of them;
+// the odd path may hold any byte, have a byte too many or be over 4,096 steps long.
+std::vector<std::uint8_t> generate_path(Random& random, const Model& model, unsigned most);
+std::vector<std::uint8_t> generate_odd_path(Random& random, const Model& model);
 
 // Recorded samples, so many for each declared clock or a few fewer; small ones tie. The exact ones are
 // just those that a simulation of so many rounds of this accepted model takes, until a round is refused;

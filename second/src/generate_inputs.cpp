@@ -3,6 +3,7 @@
 #include "composition.hpp"
 #include "damage.hpp"
 #include "generate.hpp"
+#include "path.hpp"
 #include "reach.hpp"
 #include "samples.hpp"
 #include "simulation.hpp"
@@ -203,6 +204,41 @@ std::vector<std::int64_t> generate_odd_ticks(Random& random) {
   if (random.chance(10))
     ticks.resize(random.pick(std::vector<unsigned>{0, 1, 2, 31, 62, 63, 65, 66, 127, 128, 129, 1000}), 1);
   return ticks;
+}
+
+std::vector<std::uint8_t> generate_path(Random& random, const Model& model, unsigned most) {
+  std::vector<std::uint8_t> path;
+  State at = start_of(model);
+  while (path.size() < 2 * most) {
+    const Set urgent = urgent_outputs(model, at);
+    const Set from = urgent != 0 ? urgent : enabling(model, at);
+    if (from == 0) break;
+    unsigned member = random.below(members);
+    while (!has(from, member)) member = (member + 1) % members;
+    const Move move = urgent != 0 ? *urgent_step(model, at, member) : clock_step(model, at, member);
+    path.push_back(static_cast<std::uint8_t>(move.action));
+    path.push_back(static_cast<std::uint8_t>(urgent != 0 ? 0 : member + 1));
+    at = move.after;
+  }
+  return path;
+}
+
+std::vector<std::uint8_t> generate_odd_path(Random& random, const Model& model) {
+  std::vector<std::uint8_t> path = generate_path(random, model, random.below(12));
+  const auto byte = static_cast<std::uint8_t>(random.chance(60) ? random.below(66) : random.below(256));
+  switch (random.below(6)) {
+    case 0: path.push_back(byte); break;
+    case 1:
+      if (!path.empty()) path[random.below(path.size())] = byte;
+      break;
+    case 2:
+      if (!path.empty()) path.erase(path.begin() + random.below(path.size()));
+      break;
+    case 3: path.resize(random.between(8191, 8194), byte); break;
+    case 4: path = generate_path(random, model, random.chance(20) ? 4096 : 40); break;
+    default: break;
+  }
+  return path;
 }
 
 std::string generate_samples(Random& random, const Model& model, unsigned most) {

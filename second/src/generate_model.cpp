@@ -8,6 +8,7 @@
 #include "generate_rows.hpp"
 #include "generate_signatures.hpp"
 #include "text_writing.hpp"
+#include "triggering.hpp"
 
 namespace second {
 namespace {
@@ -109,6 +110,109 @@ Model modest_model(Random& random, unsigned most_components) {
   }
 }
 
+// A source waits for its clock and then says one urgent thing, a few of them in turn.
+Component source(Random& random, unsigned timed_action, unsigned clock, const std::vector<unsigned>& says) {
+  Component component;
+  component.kind[timed_action] = Kind::out;
+  component.clocks = component.started = only(clock);
+  component.states = static_cast<unsigned>(2 * says.size());
+  component.start = 2 * random.below(says.size());
+  for (unsigned turn = 0; turn < says.size(); ++turn) {
+    component.kind[says[turn]] = Kind::uout;
+    Row waits, speaks;
+    waits.from = 2 * turn;
+    waits.guard = static_cast<int>(clock);
+    waits.action = timed_action;
+    waits.target = 2 * turn + 1;
+    speaks.from = 2 * turn + 1;
+    speaks.action = says[turn];
+    speaks.resets = only(clock);
+    speaks.target = (2 * turn + 2) % component.states;
+    component.rows.push_back(waits);
+    component.rows.push_back(speaks);
+  }
+  std::sort(component.rows.begin(), component.rows.end());
+  return component;
+}
+
+// An echo says one thing when it has heard one of these, and no more until some clock has ended: several of them
+// that hear one thing speak at once.
+Component echo(Random& random, unsigned own, const std::vector<unsigned>& hears, const std::vector<unsigned>& timed) {
+  Component component;
+  component.states = 3;
+  component.kind[own] = Kind::uout;
+  const auto hear = [&component](Kind kind, unsigned action, unsigned moves, unsigned to) {
+    component.kind[action] = kind;
+    for (unsigned state = 0; state < component.states; ++state) {
+      Row row;
+      row.from = state;
+      row.action = action;
+      row.target = state == moves ? to : state;
+      component.rows.push_back(row);
+    }
+  };
+  const unsigned always = hears[random.below(hears.size())];
+  for (unsigned action : hears)
+    if (random.chance(40) || action == always) hear(Kind::uin, action, 0, 1);
+  for (unsigned action : timed) hear(Kind::in, action, 2, 0);
+  Row speaks;
+  speaks.from = 1;
+  speaks.action = own;
+  speaks.target = 2;
+  component.rows.push_back(speaks);
+  std::sort(component.rows.begin(), component.rows.end());
+  return component;
+}
+
+// Sources, echoes, and listeners that needn't be confluent and speak in turn themselves.
+Model sources_and_listeners(Random& random, Size size) {
+  std::vector<unsigned> numbers;
+  for (unsigned number = 0; number < members; ++number) numbers.push_back(number);
+  random.shuffle(numbers);
+  const auto taken = [&] {
+    const unsigned number = numbers.back();
+    numbers.pop_back();
+    return number;
+  };
+  Model model;
+  std::vector<unsigned> said, timed, echoed;
+  for (unsigned count = random.between(1, size == Size::small ? 2 : 4); count > 0; --count) {
+    std::vector<unsigned> says;
+    for (unsigned turns = random.between(1, 3); turns > 0; --turns) says.push_back(taken());
+    said.insert(said.end(), says.begin(), says.end());
+    timed.push_back(taken());
+    model.components.push_back(source(random, timed.back(), taken(), says));
+  }
+  for (unsigned count = random.chance(50) ? random.between(1, 3) : 0; count > 0; --count) {
+    echoed.push_back(taken());
+    model.components.push_back(echo(random, echoed.back(), said, timed));
+  }
+  for (unsigned count = random.between(1, size == Size::small ? 2 : 5); count > 0; --count) {
+    Component listener;
+    for (unsigned action : echoed)
+      if (random.chance(20)) listener.kind[action] = Kind::uin;
+    for (unsigned action : said)
+      if (random.chance(60)) listener.kind[action] = Kind::uin;
+    for (unsigned action : timed)
+      if (random.chance(15)) listener.kind[action] = Kind::in;
+    for (unsigned own = random.below(3); own > 0; --own) {
+      listener.kind[numbers.back()] = Kind::uout;
+      said.push_back(taken());
+    }
+    fill_accepted(random, listener, random.between(2, size == Size::small ? 3 : 6));
+    model.components.push_back(listener);
+  }
+  return model;
+}
+
+Model orderly_model(Random& random, Size size) {
+  for (;;) {
+    const Model model = sources_and_listeners(random, size);
+    if (too_large(model) || acceptance(model) || !confluence(model) || orderliness(model)) continue;
+    return model;
+  }
+}
+
 }  // namespace
 
 Model generate(Random& random, Family family, Size size) {
@@ -138,6 +242,8 @@ Model generate(Random& random, Family family, Size size) {
       const std::uint64_t shortfall = random.chance(50) ? 0 : random.below(4);
       return padded_to_text(modest_model(random, max_components - 1), max_text - shortfall);
     }
+    case Family::orderly:
+      return orderly_model(random, size);
   }
   return accepted_model(random, shape);
 }

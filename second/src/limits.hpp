@@ -12,6 +12,7 @@ constexpr unsigned members = 64;  // actions and clocks are both 0 to 63
 constexpr std::uint64_t max_text = 32768;
 constexpr std::uint64_t max_budget = 4096;   // also the longest list
 constexpr std::uint64_t max_rounds = 4096;
+constexpr std::uint64_t max_path = 4096;  // steps, of two bytes each
 constexpr std::uint64_t max_request = 256;   // with its LF
 constexpr std::uint64_t clock_values = 64;
 constexpr std::int64_t tick_bound = std::int64_t{1} << 40;  // also the floor, negated

@@ -9,6 +9,7 @@
 #include "compatible.hpp"
 #include "composition.hpp"
 #include "merging.hpp"
+#include "path.hpp"
 #include "reach.hpp"
 #include "repairing.hpp"
 #include "samples.hpp"
@@ -44,6 +45,16 @@ Ground ground(Words table, Refusal (*checks)(const Model&), Bytes state) {
   return found;
 }
 
+// As settling after a path takes them: the state is the one after the path.
+Ground walked_ground(Words table, Bytes path) {
+  Ground found = ground(table, acceptance_and_either);
+  if (found.refusal) return found;
+  const Walk walk = walked(found.model, path);
+  if (walk.refusal) return {walk.refusal, {}, {}};
+  found.state = walk.state;
+  return found;
+}
+
 // As settling takes them: each part must be a state that its component can get to, or 19.
 Ground settling_ground(Words table, Bytes state) {
   Ground found = ground(table, acceptance_and_confluence, state);
@@ -66,6 +77,26 @@ StepAnswer moved(const Move& move) {
 SettleAnswer settled(const Run& run) {
   return {Refusal{}, run.stable ? Verdict::stable : Verdict::unsettled, run.moves.size(),
           resets_of(run), run.last};
+}
+
+// 22, 24.
+SettleAnswer settle_from(const Ground& on, std::uint64_t budget, BytesToWrite trace) {
+  if (on.refusal) return refused<SettleAnswer>(on.refusal);
+  if (budget > max_budget) return refused<SettleAnswer>(refuse(22, {0}));
+  if (trace.length < budget) return refused<SettleAnswer>(refuse(24, {budget}));
+  const Run run = settle_by_rule(on.model, on.state, budget);
+  for (std::size_t m = 0; m < run.moves.size(); ++m)
+    trace.front[m] = static_cast<std::uint8_t>(run.moves[m].action);
+  return settled(run);
+}
+
+// 22, 23.
+SettleAnswer settle_list_from(const Ground& on, Bytes list) {
+  if (on.refusal) return refused<SettleAnswer>(on.refusal);
+  if (list.length > max_budget) return refused<SettleAnswer>(refuse(22, {0}));
+  const ListRun listed = settle_by_list(on.model, on.state, list);
+  if (listed.refusal) return refused<SettleAnswer>(listed.refusal);
+  return settled(listed.run);
 }
 
 std::string_view text_in(Bytes text) {
@@ -145,23 +176,21 @@ StepAnswer step_by(Words table, Bytes state, std::uint64_t action) {
 }
 
 SettleAnswer settle(Words table, Bytes state, std::uint64_t budget, BytesToWrite trace) {
-  const Ground on = settling_ground(table, state);
-  if (on.refusal) return refused<SettleAnswer>(on.refusal);
-  if (budget > max_budget) return refused<SettleAnswer>(refuse(22, {0}));
-  if (trace.length < budget) return refused<SettleAnswer>(refuse(24, {budget}));
-  const Run run = settle_by_rule(on.model, on.state, budget);
-  for (std::size_t m = 0; m < run.moves.size(); ++m)
-    trace.front[m] = static_cast<std::uint8_t>(run.moves[m].action);
-  return settled(run);
+  return settle_from(settling_ground(table, state), budget, trace);
 }
 
 SettleAnswer settle_list(Words table, Bytes state, Bytes list) {
-  const Ground on = settling_ground(table, state);
-  if (on.refusal) return refused<SettleAnswer>(on.refusal);
-  if (list.length > max_budget) return refused<SettleAnswer>(refuse(22, {0}));
-  const ListRun listed = settle_by_list(on.model, on.state, list);
-  if (listed.refusal) return refused<SettleAnswer>(listed.refusal);
-  return settled(listed.run);
+  return settle_list_from(settling_ground(table, state), list);
+}
+
+Answer orderly(Words table) { return {ground(table, acceptance_and_orderliness).refusal}; }
+
+SettleAnswer settle_after(Words table, Bytes path, std::uint64_t budget, BytesToWrite trace) {
+  return settle_from(walked_ground(table, path), budget, trace);
+}
+
+SettleAnswer settle_list_after(Words table, Bytes path, Bytes list) {
+  return settle_list_from(walked_ground(table, path), list);
 }
 
 TimedAnswer timed_step(Words table, Bytes state, Ticks ticks) {
@@ -177,7 +206,7 @@ TimedAnswer timed_step(Words table, Bytes state, Ticks ticks) {
 }
 
 SimulateAnswer simulate(Words table, Bytes samples, std::uint64_t rounds, Ticks clocks) {
-  const Ground on = ground(table, acceptance_and_confluence);
+  const Ground on = ground(table, acceptance_and_either);
   if (on.refusal) return refused<SimulateAnswer>(on.refusal);
   if (rounds > max_rounds) return refused<SimulateAnswer>(refuse(22, {0}));
   if (clocks.length != clock_values) return refused<SimulateAnswer>(refuse(28, {0}));

@@ -94,9 +94,15 @@ StepAnswer step_by(Words table, Bytes state, std::uint64_t action);
 SettleAnswer settle(Words table, Bytes state, std::uint64_t budget, BytesToWrite trace);
 // As confluent, then 21, 19, 22, 23.
 SettleAnswer settle_list(Words table, Bytes state, Bytes list);
+// As accept, then 45, 18: the test for systems of components that are not confluent alone.
+Answer orderly(Words table);
+// As accept; 45, 18 where neither test passes; 22 and 46 of the path, then 22, 24.
+SettleAnswer settle_after(Words table, Bytes path, std::uint64_t budget, BytesToWrite trace);
+// As accept; 45, 18 where neither test passes; 22 and 46 of the path, then 22, 23.
+SettleAnswer settle_list_after(Words table, Bytes path, Bytes list);
 // As accept, then 21, 27 to 30.
 TimedAnswer timed_step(Words table, Bytes state, Ticks ticks);
-// As confluent, then 22, 28, 40; then round by round 30, 42, 41. Writes the declared clocks.
+// As accept; 45, 18 where neither test passes; then 22, 28, 40; then round by round 30, 42, 41. Writes the declared clocks.
 SimulateAnswer simulate(Words table, Bytes samples, std::uint64_t rounds, Ticks clocks);
 // Adds the missing self-loops of inputs in the lent table. 20, 24 (of the list), 26.
 RepairAnswer repair(WordsToWrite table, BytesToWrite list);

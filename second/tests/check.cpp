@@ -14,7 +14,7 @@ std::uint64_t lent_digest = 0;
 
 const std::uint64_t all_refusals[] = {1,  2,  3,  4,  5,  6,  7,  8,  9,  10, 11, 12, 13, 14, 15,
                                       16, 17, 18, 19, 20, 21, 22, 23, 24, 25, 26, 27, 28, 29, 30,
-                                      40, 41, 42};
+                                      40, 41, 42, 45, 46};
 
 const char* const all_outcomes[] = {
     "read",          "written",          "recognised",     "accepted",       "confluent",
@@ -22,7 +22,8 @@ const char* const all_outcomes[] = {
     "step moved",    "step stable",      "step_by moved",  "settle stable",  "settle unsettled",
     "list stable",   "list unsettled",   "timed fired",    "timed quiet",    "merged",
     "simulated",     "simulated to quiet",
-    "repaired",      "repaired nothing",
+    "repaired",      "repaired nothing", "orderly",
+    "settle_after stable", "settle_after unsettled", "list_after stable", "list_after unsettled",
     "report stable", "report unsettled", "report refused"};
 
 }  // namespace

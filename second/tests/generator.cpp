@@ -34,8 +34,9 @@ void check_family(second::Random& random, Family family, second::Size size) {
   check(!refusal, what + " is accepted, not " + shown(refusal));
   check(!lend_recognise(second::image_of_model(model)).refusal, what + " has an image");
   const std::uint64_t clash = second::confluence(model).number;
-  if (family == Family::clashing) check(clash == 18, what + " clashes");
+  if (family == Family::clashing || family == Family::orderly) check(clash == 18, what + " clashes");
   else if (family != Family::accepted) check(clash == 0, what + " is confluent");
+  if (family == Family::orderly) check(!lend_orderly(second::image_of_model(model)).refusal, what + " is orderly");
   if (family == Family::components_32) check(model.components.size() == 32, what);
   if (family == Family::rows_1024) check(second::count_rows(model) == 1024, what);
   if (family == Family::states_128) check(some_128_states(model), what);
@@ -73,7 +74,7 @@ std::uint64_t digest(std::uint64_t seed) {
   Digest of;
   for (unsigned round = 0; round < 400; ++round) {
     const auto size = static_cast<second::Size>(round % 3);
-    const Model model = second::generate(random, second::families[round % 9], size);
+    const Model model = second::generate(random, second::families[round % 10], size);
     of.take_model(model);
     of.take_model(second::generate_faulty(random, size));
     of.take_model(second::generate_failing(random, 10 + round % 9, second::Size::small));
@@ -90,6 +91,8 @@ std::uint64_t digest(std::uint64_t seed) {
     of.take_all(second::generate_ticks_for(random, model, state));
     of.take_all(second::generate_odd_ticks(random));
     of.take(second::generate_index(random, model));
+    of.take_all(second::generate_path(random, model, 12));
+    of.take_all(second::generate_odd_path(random, model));
     of.take_text(second::generate_samples(random, model, 5));
     of.take_text(second::generate_odd_samples(random, model, 5));
     const Model plant = second::generate_plant(random, size);
@@ -109,7 +112,7 @@ std::uint64_t digest(std::uint64_t seed) {
 void test_generator() {
   second::Random random(10);
   for (unsigned round = 0; round < 540; ++round)
-    check_family(random, second::families[round % 9], static_cast<second::Size>(round / 9 % 3));
+    check_family(random, second::families[round % 10], static_cast<second::Size>(round / 10 % 3));
   for (unsigned round = 0; round < 300; ++round) check_plant(random, static_cast<second::Size>(round % 3));
   for (unsigned number = 10; number <= 18; ++number)
     for (unsigned round = 0; round < 12; ++round) {
@@ -127,6 +130,6 @@ void test_generator() {
   }
   // Drawn once and written down: another machine or compiler that draws otherwise shows here.
   const std::uint64_t drawn = digest(11);
-  check(drawn == 16223392972080969019u, "the series of seed 11, which is now " + std::to_string(drawn));
+  check(drawn == 14746131583927256551u, "the series of seed 11, which is now " + std::to_string(drawn));
   check(digest(11) != digest(12), "another seed, another series");
 }

@@ -182,6 +182,26 @@ second::TimedAnswer lend_timed_step(const Table& table, const Part& state, Clock
   return answer;
 }
 
+second::Answer lend_orderly(const Table& table) {
+  const auto answer = second::orderly(lent(table));
+  count(answer.refusal, "orderly");
+  return answer;
+}
+
+second::SettleAnswer lend_settle_after(const Table& table, const Part& path, std::uint64_t budget, Part& trace) {
+  const Part before = trace;
+  const auto answer = second::settle_after(lent(table), lent(path), lent(budget), lent_to_write(trace));
+  check_settled(answer, "settle_after stable", "settle_after unsettled");
+  check(same_from(before, trace, answer.steps), "later bytes of the trace stay");
+  return answer;
+}
+
+second::SettleAnswer lend_settle_list_after(const Table& table, const Part& path, const Part& list) {
+  const auto answer = second::settle_list_after(lent(table), lent(path), lent(list));
+  check_settled(answer, "list_after stable", "list_after unsettled");
+  return answer;
+}
+
 second::SimulateAnswer lend_simulate(const Table& table, const Text& samples, std::uint64_t rounds, Clocks& clocks) {
   const Clocks before = clocks;
   const auto answer = second::simulate(lent(table), lent(samples), lent(rounds), lent_to_write(clocks));

@@ -27,6 +27,9 @@ second::StepAnswer lend_step_by(const Table& table, const Part& state, std::uint
 second::SettleAnswer lend_settle(const Table& table, const Part& state, std::uint64_t budget, Part& trace);
 second::SettleAnswer lend_settle_list(const Table& table, const Part& state, const Part& list);
 second::TimedAnswer lend_timed_step(const Table& table, const Part& state, Clocks& ticks);
+second::Answer lend_orderly(const Table& table);
+second::SettleAnswer lend_settle_after(const Table& table, const Part& path, std::uint64_t budget, Part& trace);
+second::SettleAnswer lend_settle_list_after(const Table& table, const Part& path, const Part& list);
 second::SimulateAnswer lend_simulate(const Table& table, const Text& samples, std::uint64_t rounds, Clocks& clocks);
 second::RepairAnswer lend_repair(Table& table, Part& list);
 second::Answer lend_merge(const Table& table, std::uint64_t i, Table& into);

@@ -39,6 +39,7 @@ int main(int count, char** arguments) {
   timed("all orders", test_all_orders);
   timed("merged runs", test_merged_runs);
   timed("timed runs", test_timed_runs);
+  timed("triggering", test_triggering);
   timed("simulation", test_simulation);
   timed("repairs", test_repairs);
   timed("damaged inputs", test_damaged_inputs);

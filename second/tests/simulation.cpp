@@ -308,6 +308,7 @@ Model drawn_model(Random& random, unsigned round) {
   const auto size = round % 10 == 0 ? second::Size::medium : second::Size::small;
   if (round % 9 == 0) return second::generate(random, second::Family::endless, size);
   if (round % 2 == 0) return second::generate_plant(random, size);
+  if (round % 3 == 0) return second::generate(random, second::Family::orderly, size);
   return second::generate(random, round % 4 == 1 ? second::Family::sharing : second::Family::confluent, size);
 }
 

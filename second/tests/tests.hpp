@@ -21,6 +21,7 @@ void test_literal_product();
 void test_all_orders();
 void test_merged_runs();
 void test_timed_runs();
+void test_triggering();
 void test_simulation();
 void test_repairs();
 void test_damaged_inputs();

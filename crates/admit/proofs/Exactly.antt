@@ -45,7 +45,7 @@ confluent-fine t e =
     (admitted t im a, p .1, confluent-exactly (modelOf t) (well-formed t im) a .0 (p .1))
 
 -- ---- both ways
-passes-fine : (t : List ℕ) (check : Model → Option Told) (r : Checked) → Image t → check (modelOf t) ≡ none → saysChecked r ≡ some (checkOn t check) → r ≡ Fine
+pub passes-fine : (t : List ℕ) (check : Model → Option Told) (r : Checked) → Image t → check (modelOf t) ≡ none → saysChecked r ≡ some (checkOn t check) → r ≡ Fine
 unfolding saysChecked
 passes-fine t check r im e s =
     checked-fixed r Fine (answered tt) (s ∙ ap some (on-image t (λ m. unless (check m) tt) (image-exactly t .1 im) ∙ ap (λ o. unless o tt) e)) refl

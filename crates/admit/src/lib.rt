@@ -84,7 +84,7 @@ fn check_model(t: &[u64]) -> Checked
 }
 
 // 18 for each component in turn.
-fn check_meeting(t: &[u64]) -> Checked
+pub fn check_meeting(t: &[u64]) -> Checked
     requires { ⌜ Image (now t) × (acceptOf (modelOf (now t)) ≡ none) ⌝ }
     ensures { λ r. ⌜ Says r (clashAmong 0 (modelOf (now (t .entry)))) ⌝ }
 {

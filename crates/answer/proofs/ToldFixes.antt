@@ -6,9 +6,9 @@ use Prim.Native.Nat.{ℕ}
 use native.Mathlib.Omega.{arith}
 use lib.ListN.{getD}
 use Rattle.answer.specs.declared.Place.{Place}
-use Rattle.answer.specs.declared.Place.the-variants.{Whole, Line, Row, Bytes, Index, Clock, Component, Cell, Clash, SharedAction, SharedClock, Spot}
+use Rattle.answer.specs.declared.Place.the-variants.{Whole, Line, Row, Bytes, Index, Clock, Component, Cell, Clash, SharedAction, SharedClock, Spot, Condition, Action}
 use Rattle.answer.specs.declared.Refusal.{Refusal}
-use Rattle.answer.specs.Told.{Told, Shape, nowhere, whole, line, row, bytes, index, clock, component, cell, clash, shared-action, shared-clock, spot, same-shape, tell, told, shapeOf, shapeAt, valuesAt}
+use Rattle.answer.specs.Told.{Told, Shape, nowhere, whole, line, row, bytes, index, clock, component, cell, clash, shared-action, shared-clock, spot, condition, action, same-shape, tell, told, shapeOf, shapeAt, valuesAt}
 
 -- the place of a shape with these values
 placeOf : Shape → List ℕ → Place
@@ -25,6 +25,8 @@ placeOf clash l = Clash (getD l 0 0) (getD l 1 0) (getD l 2 0) (getD l 3 0)
 placeOf shared-action l = SharedAction (getD l 0 0) (getD l 1 0) (getD l 2 0)
 placeOf shared-clock l = SharedClock (getD l 0 0) (getD l 1 0) (getD l 2 0)
 placeOf spot l = Spot (getD l 0 0) (getD l 1 0)
+placeOf condition l = Condition (getD l 0 0)
+placeOf action l = Action (getD l 0 0)
 
 place-of : (p : Place) → placeOf (shapeAt p) (valuesAt p) ≡ p
 unfolding placeOf
@@ -40,6 +42,8 @@ place-of (Clash i s a b) = refl
 place-of (SharedAction a i j) = refl
 place-of (SharedClock x i j) = refl
 place-of (Spot n k) = refl
+place-of (Condition n) = refl
+place-of (Action a) = refl
 
 told-parts : (r : Refusal) (t : Told) → told r ≡ some t → (shapeOf (r .number) ≡ shapeAt (r .place)) × (tell (r .number) (valuesAt (r .place)) ≡ t)
 unfolding told

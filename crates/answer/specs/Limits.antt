@@ -49,6 +49,14 @@ maxTicks = 1099511627776
 abbrev pub maxTickDigits : ℕ
 maxTickDigits = 13
 
+-- a tree's elements: "number 0 to 63" (02, 9/13)
+abbrev pub maxElements : ℕ
+maxElements = 64
+
+-- "gates have two inputs, boxes one to five" (02, 9/13)
+abbrev pub maxInputs : ℕ
+maxInputs = 5
+
 abbrev pub limitsOf : Limits
 limitsOf =
     record {

@@ -5,7 +5,7 @@ use mathlib.Core.Bool.{Bool, true, false}
 use Prim.Native.Nat.{ℕ}
 use lib.ListN.{getD}
 use Rattle.answer.specs.declared.Place.{Place}
-use Rattle.answer.specs.declared.Place.the-variants.{Whole, Line, Row, Bytes, Index, Clock, Component, Cell, Clash, SharedAction, SharedClock, Spot}
+use Rattle.answer.specs.declared.Place.the-variants.{Whole, Line, Row, Bytes, Index, Clock, Component, Cell, Clash, SharedAction, SharedClock, Spot, Condition, Action}
 use Rattle.answer.specs.declared.Refusal.{Refusal}
 use Rattle.answer.specs.declared.Checked.{Checked}
 use Rattle.answer.specs.declared.Checked.the-variants as OfChecked
@@ -30,16 +30,19 @@ tell n p = record { number = n; place = p }
 
 -- the shapes of place in the table's last column
 pub data Shape : Type 0 where
-  nowhere whole line row bytes index clock component cell clash shared-action shared-clock spot : Shape
+  nowhere whole line row bytes index clock component cell clash shared-action shared-clock spot condition action : Shape
   deriving Discrete as same-shape
 
--- the shape of place of each number, from 0, which is none, nor do 31 to 39 have one yet; 2, 4 and 5 "carry line and column" since request 2.
--- Of a simulation (02, 4/13): 40 "first bad line, or one past the last", 41 "lowest such clock", 42 "the round"
+-- the shape of place of each number, from 0, which is none, nor do 31 to 39, 43 and 44 have one yet; 2, 4 and 5 "carry line and column" since request 2.
+-- Of a simulation (02, 4/13): 40 "first bad line, or one past the last", 41 "lowest such clock", 42 "the round".
+-- Of a system that is not closed (02, 8/13): 45 "the lowest" action that is an input and nobody's output; of a path: 46 "with its index".
+-- Of a tree (02, 9/13): 47 "lowest condition broken, as a number", 48 "at 0"
 abbrev pub shapes : List Shape
 shapes =
     nowhere ∷ whole ∷ spot ∷ line ∷ spot ∷ spot ∷ line ∷ line ∷ whole ∷ whole ∷ row ∷ row ∷ cell ∷ cell ∷ component ∷ shared-action ∷ shared-clock
     ∷ shared-action ∷ clash ∷ component ∷ whole ∷ whole ∷ whole ∷ index ∷ bytes ∷ whole ∷ whole ∷ whole ∷ whole ∷ clock ∷ clock
-    ∷ nowhere ∷ nowhere ∷ nowhere ∷ nowhere ∷ nowhere ∷ nowhere ∷ nowhere ∷ nowhere ∷ nowhere ∷ line ∷ clock ∷ index ∷ []
+    ∷ nowhere ∷ nowhere ∷ nowhere ∷ nowhere ∷ nowhere ∷ nowhere ∷ nowhere ∷ nowhere ∷ nowhere ∷ line ∷ clock ∷ index
+    ∷ nowhere ∷ nowhere ∷ action ∷ index ∷ condition ∷ whole ∷ []
 
 abbrev pub shapeOf : ℕ → Shape
 shapeOf n = getD shapes n nowhere
@@ -58,6 +61,8 @@ shapeAt (Clash i s a b) = clash
 shapeAt (SharedAction a i j) = shared-action
 shapeAt (SharedClock x i j) = shared-clock
 shapeAt (Spot n k) = spot
+shapeAt (Condition n) = condition
+shapeAt (Action a) = action
 
 abbrev pub valuesAt : Place → List ℕ
 valuesAt Whole = 0 ∷ []
@@ -72,6 +77,8 @@ valuesAt (Clash i s a b) = i ∷ s ∷ a ∷ b ∷ []
 valuesAt (SharedAction a i j) = a ∷ i ∷ j ∷ []
 valuesAt (SharedClock x i j) = x ∷ i ∷ j ∷ []
 valuesAt (Spot n k) = n ∷ k ∷ []
+valuesAt (Condition n) = n ∷ []
+valuesAt (Action a) = a ∷ []
 
 -- number and values of a refusal, and nothing where the place's shape is not that number's
 unfoldable pub told : Refusal → Option Told

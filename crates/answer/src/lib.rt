@@ -48,7 +48,7 @@ pub struct Limits {
     pub ticks: i64,
 }
 
-// Where a refusal points: a case for each shape of place in paper 01's table, and line and column, bytes from 1, since request 2.
+// Where a refusal points: a case for each shape of place in paper 01's table, line and column, bytes from 1, since request 2, an action since request 8, a condition's number since request 9.
 pub enum Place {
     Whole,
     Line(usize),
@@ -82,6 +82,8 @@ pub enum Place {
         line: usize,
         column: usize,
     },
+    Condition(usize),
+    Action(u64),
 }
 
 pub struct Refusal {

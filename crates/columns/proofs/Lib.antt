@@ -1,3 +1,4 @@
+pub mod MemberLaws
 pub mod OutLaws
 pub mod CaseLaws
 pub mod ValueColumn

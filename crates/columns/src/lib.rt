@@ -43,7 +43,7 @@ pub fn column_at(text: &[u8], at: usize, stop: Cursor) -> usize
     end - at + 1
 }
 
-fn is_in(set: u64, n: u64) -> bool
+pub fn is_in(set: u64, n: u64) -> bool
     ensures { λ r. ⌜ r ≡ memberOf set n ⌝ }
 {
     if n < WORD { sets::has(set, n) } else { false }

@@ -20,7 +20,8 @@ use Rattle.run.specs.Calls.{stepOn, stepByOn, settleOn, settleListOn, traceAfte
 use Rattle.words.specs.Words.{checkedWords, writtenWords}
 use Rattle.words.specs.Bytes.{stateOf}
 use Rattle.outset.specs.Start.{startOn}
-use Rattle.floodneedle.specs.Told.{componentOn, compatibleOn, acceptOn, confluentOn, timedOn, TimingTold, StartTold, StepTold, AdvanceTold, SettlingTold, SimulationTold}
+use Rattle.floodneedle.specs.Told.{componentOn, compatibleOn, acceptOn, confluentOn, orderlyOn, timedOn, TimingTold, StartTold, StepTold, AdvanceTold, SettlingTold, AfterTold, SimulationTold}
+use Rattle.after.specs.Calls.{settleAfterOn, settleListAfterOn}
 use Rattle.simulate.specs.Simulate.{simulateOn}
 
 -- one value for two that are it
@@ -55,6 +56,9 @@ module _ (t : List ℕ) (p q b d : List ℕ) where
 
   pub floodneedle_confluent-determined : p ≡ checkedWords (confluentOn t) → q ≡ checkedWords (confluentOn t) → p ≡ q
   floodneedle_confluent-determined e f = one e f
+
+  pub floodneedle_orderly-determined : p ≡ checkedWords (orderlyOn t) → q ≡ checkedWords (orderlyOn t) → p ≡ q
+  floodneedle_orderly-determined e f = one e f
 
   module _ (old : List ℕ) where
     pub floodneedle_read-determined : (p ≡ checkedWords (doneOf (readOn t old))) × (b ≡ tableAfter (readOn t old) old)
@@ -100,6 +104,18 @@ module _ (t : List ℕ) (p q b d : List ℕ) where
         → (b ≡ d) × (p ≡ q) × (u ≡ v)
     floodneedle_settle-determined budget old u v g h =
         let r = settling-told (settleOn t (stateOf s) budget old) (stateOf s) b d p q (g .0) (h .0) in (r .0, r .1, one (g .1) (h .1))
+
+    -- s is the path
+    pub floodneedle_settle_list_after-determined : (l : List ℕ) → AfterTold (settleListAfterOn t s l) b p → AfterTold (settleListAfterOn t s l) d q
+        → (b ≡ d) × (p ≡ q)
+    floodneedle_settle_list_after-determined l g h = (one (g .state) (h .state), one (g .words) (h .words))
+
+    -- s is the path, u and v are the trace after the call
+    pub floodneedle_settle_after-determined : (budget : ℕ) (old u v : List ℕ)
+        → AfterTold (settleAfterOn t s budget old) b p × (u ≡ traceAfter (settleAfterOn t s budget old) old)
+        → AfterTold (settleAfterOn t s budget old) d q × (v ≡ traceAfter (settleAfterOn t s budget old) old) → (b ≡ d) × (p ≡ q) × (u ≡ v)
+    floodneedle_settle_after-determined budget old u v g h =
+        (one (g .0 .state) (h .0 .state), one (g .0 .words) (h .0 .words), one (g .1) (h .1))
 
     -- u and v are the clock values after the call
     pub floodneedle_timed_step-determined : (was u v : List ℤ) → TimingTold (timedOn t (stateOf s) was) (stateOf s) was u b p

@@ -29,8 +29,9 @@ use Rattle.run.specs.Calls.{stepOn}
 use Rattle.words.specs.Bytes.{stateOf, laidOver, movedOver}
 use Rattle.words.proofs.Laid.{laid-own, laid-with}
 use Rattle.words.specs.Words.{startedWords, steppedWords, settledWords, firedWords, writtenWords}
+use Rattle.after.specs.Calls.{AfterAnswers}
 use Rattle.simulation.specs.Call.{Simulating, SimulationAnswers}
-use Rattle.floodneedle.specs.Told.{StartTold, StepTold, AdvanceTold, bytesMoved, bytesAfter, SettlingTold, TimingTold, SimulationTold}
+use Rattle.floodneedle.specs.Told.{StartTold, StepTold, AdvanceTold, bytesMoved, bytesAfter, SettlingTold, AfterTold, TimingTold, SimulationTold}
 
 -- ---- where a system begins
 pub start-told : (v : Answer Beginning) (r : Outset) (w : List ℕ) → StartLeaves r v
@@ -90,6 +91,19 @@ settling-told (refused t) x r w g h =
     record {
       words = h (refused t) (g .0) ∙ ap₂ (settledWords (refused t)) (g .1) (g .2);
       state = ap (λ s. s .parts) (g .3);
+    }
+
+pub after-told : (v : Answer (Settling (List ℕ))) (r : Settled) (w : List ℕ) → AfterAnswers v r
+    → ((a : Answer Bool) → saysVerdict (r .verdict) ≡ some a → w ≡ settledWords a (r .steps) (r .resets)) → AfterTold v (r .state .parts) w
+after-told (answered d) r w g h =
+    record {
+      words = h (answered (d .stable)) (g .verdict) ∙ ap₂ (settledWords (answered (d .stable))) (g .steps) (g .resets);
+      state = ap (λ (s : State). s .parts) (g .state);
+    }
+after-told (refused t) r w g h =
+    record {
+      words = h (refused t) (g .0) ∙ ap₂ (settledWords (refused t)) (g .1) (g .2);
+      state = ap (λ (s : State). s .parts) (g .3);
     }
 
 pub timing-told : (v : Answer Timing) (x : State) (was : List ℤ) (r : Timed) (vs : List ℤ) (w : List ℕ) → TimingAnswers v x was r vs

@@ -14,6 +14,7 @@ use Rattle.iosa.specs.Stepped.{Stepping}
 use Rattle.iosa.specs.Orders.{Settling}
 use Rattle.iosa.specs.Timed.{timedOf}
 use Rattle.iosa.specs.TimedExactly.{Timing}
+use Rattle.triggering.specs.Test.{orderlyOf}
 use Rattle.outset.specs.Start.{stateIn}
 use Rattle.panel.specs.Advance.{outcomeOf}
 use Rattle.table.specs.OnTable.{onTable, checkOn}
@@ -34,6 +35,10 @@ acceptOn t = checkOn t acceptOf
 
 abbrev pub confluentOn : List ℕ → Answer (Unit {0})
 confluentOn t = checkOn t confluentOf
+
+-- "the new test is called" (02, 8/13): as acceptance, then 45, then 18
+abbrev pub orderlyOn : List ℕ → Answer (Unit {0})
+orderlyOn t = checkOn t orderlyOf
 
 -- "it answers the outcome and, unless refused, the state": beside a refusal the bytes are 0
 abbrev pub stepBytes : State → Answer Stepping → List ℕ
@@ -69,6 +74,15 @@ settlingBytes x (refused t) = noState .parts
 pub record SettlingTold (v : Answer (Settling (List ℕ))) (x : State) (after told : List ℕ) : Type 0 where
   pub words : told ≡ settlingWords v
   pub state : after ≡ settlingBytes x v
+
+-- after a path no state was given: behind its numbers the bytes are 0
+abbrev pub afterBytes : Answer (Settling (List ℕ)) → List ℕ
+afterBytes (answered d) = stateOf (d .state) .parts
+afterBytes (refused t) = noState .parts
+
+pub record AfterTold (v : Answer (Settling (List ℕ))) (after told : List ℕ) : Type 0 where
+  pub words : told ≡ settlingWords v
+  pub state : after ≡ afterBytes v
 
 -- "The answer gives v, action, resets, state"
 abbrev pub timedOn : List ℕ → State → List ℤ → Answer Timing

@@ -20,7 +20,8 @@ ghost use Rattle.report.specs.Reported.{lengthTold, reportIn};
 ghost use Rattle.iosa.specs.Reading.{readOf};
 ghost use Rattle.table.specs.IsImage.{isImage};
 ghost use Rattle.words.specs.Bytes.{stateOf};
-ghost use Rattle.floodneedle.specs.Told.{componentOn, compatibleOn, acceptOn, confluentOn, timedOn, StartTold, TimingTold, StepTold, AdvanceTold, SettlingTold, SimulationTold};
+ghost use Rattle.floodneedle.specs.Told.{componentOn, compatibleOn, acceptOn, confluentOn, orderlyOn, timedOn, StartTold, TimingTold, StepTold, AdvanceTold, SettlingTold, AfterTold, SimulationTold};
+ghost use Rattle.after.specs.Calls.{settleAfterOn, settleListAfterOn};
 ghost use Rattle.simulate.specs.Simulate.{simulateOn};
 ghost use Rattle.run.specs.Calls.{stepOn, stepByOn, settleOn, settleListOn, traceAfter};
 
@@ -307,6 +308,55 @@ pub extern "C" fn floodneedle_settle_list(
 {
     let given = words::state_of(state);
     let r = run::settle_list(table, given, list);
+    let next = r.state;
+    let verdict = r.verdict;
+    let parts = next.parts;
+    *after = parts;
+    *answer = words::settled_words(verdict, r.steps, r.resets);
+}
+
+// Whether the system passes the test for components that are not confluent alone.
+#[no_mangle]
+pub extern "C" fn floodneedle_orderly(table: &[u64], answer: &mut [u64; Words::COUNT])
+    ensures { λ _. ⌜ now (answer .exit) ≡ checkedWords (orderlyOn (now (table .entry))) ⌝ }
+{
+    let checked = orderly::orderly(table);
+    *answer = words::checked_words(checked);
+}
+
+// Settling by our rule, after a path.
+#[no_mangle]
+pub extern "C" fn floodneedle_settle_after(
+    table: &[u64],
+    path: &[u8],
+    budget: usize,
+    trace: &mut [u8],
+    after: &mut [u8; State::PARTS],
+    answer: &mut [u64; Words::COUNT],
+)
+    ensures { λ _. ⌜ AfterTold (settleAfterOn (now (table .entry)) (now (path .entry)) budget (now (trace .entry))) (now (after .exit)) (now (answer .exit)) ⌝ }
+    ensures { λ _. ⌜ now (trace .exit) ≡ traceAfter (settleAfterOn (now (table .entry)) (now (path .entry)) budget (now (trace .entry))) (now (trace .entry)) ⌝ }
+{
+    let r = after::settle_after(table, path, budget, trace);
+    let next = r.state;
+    let verdict = r.verdict;
+    let parts = next.parts;
+    *after = parts;
+    *answer = words::settled_words(verdict, r.steps, r.resets);
+}
+
+// Settling by a list, after a path.
+#[no_mangle]
+pub extern "C" fn floodneedle_settle_list_after(
+    table: &[u64],
+    path: &[u8],
+    list: &[u8],
+    after: &mut [u8; State::PARTS],
+    answer: &mut [u64; Words::COUNT],
+)
+    ensures { λ _. ⌜ AfterTold (settleListAfterOn (now (table .entry)) (now (path .entry)) (now (list .entry))) (now (after .exit)) (now (answer .exit)) ⌝ }
+{
+    let r = after::settle_list_after(table, path, list);
     let next = r.state;
     let verdict = r.verdict;
     let parts = next.parts;

@@ -7,6 +7,7 @@ pub mod Lines
 pub mod Members
 pub mod Tests
 pub mod Local
+pub mod Stopped
 pub mod WrongByte
 pub mod FirstValue
 pub mod LowestFault

@@ -13,26 +13,33 @@ use Rattle.iosa.specs.Reading.{Entry, comp-entry, act-entry, clk-entry, 
 use Rattle.iosa.specs.Line.{listField, lineOf, LineFits}
 
 -- ---- 2
--- these bytes begin some well-shaped line
-pub record Begins (bs : List ℕ) : Type 0 where
-  pub line : Entry
-  pub fits : LineFits line
+-- these bytes begin some well-shaped line, of lines that are printed so
+pub record BeginsOf {A : Type 0} (print : A → List ℕ) (Fits : A → Type 0) (bs : List ℕ) : Type 0 where
+  pub line : A
+  pub fits : Fits line
   pub rest : List ℕ
-  pub printed : lineOf line ≡ bs ++ rest
+  pub printed : print line ≡ bs ++ rest
 
 -- the bytes end here, or these bytes and the next one begin no line
-abbrev pub NoneWith : List ℕ → List ℕ → Type 0
-NoneWith before [] = Unit {0}
-NoneWith before (b ∷ bs) = ¬ Begins (before ++ b ∷ [])
+abbrev pub NoneWithOf : {A : Type 0} → (A → List ℕ) → (A → Type 0) → List ℕ → List ℕ → Type 0
+NoneWithOf print Fits before [] = Unit {0}
+NoneWithOf print Fits before (b ∷ bs) = ¬ BeginsOf print Fits (before ++ b ∷ [])
 
 -- the bytes before the column begin some line; with the byte at the column they begin none, or there is none
-pub record WrongByte (bs : List ℕ) (column : ℕ) : Type 0 where
+pub record WrongByteOf {A : Type 0} (print : A → List ℕ) (Fits : A → Type 0) (bs : List ℕ) (column : ℕ) : Type 0 where
   pub before : List ℕ
   pub behind : List ℕ
   pub bytes : bs ≡ before ++ behind
-  pub begins : Begins before
-  pub none-with : NoneWith before behind
+  pub begins : BeginsOf print Fits before
+  pub none-with : NoneWithOf print Fits before behind
   pub at : column ≡ suc (length before)
+
+-- the lines of a model's text
+abbrev pub Begins : List ℕ → Type 0
+Begins bs = BeginsOf lineOf LineFits bs
+
+abbrev pub WrongByte : List ℕ → ℕ → Type 0
+WrongByte bs column = WrongByteOf lineOf LineFits bs column
 
 -- ---- 4 and 5
 -- the fields behind a line's first word, each behind a tab, and a tab

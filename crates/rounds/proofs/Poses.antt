@@ -1,25 +1,19 @@
 -- A state with zeros behind its parts, given other parts, has zeros behind them again; what is posed stays so.
 use mathlib.Core.Path.{_≡_, sym, _∙_, ap}
-use mathlib.Core.Logic.{by-cases}
-use mathlib.Core.List.{List, _++_}
-use Prim.Native.Nat.{ℕ, _+_, _-_, _≤_, _<_}
-use native.Mathlib.Decide.{decLt}
-use native.Mathlib.Nat.{le-refl}
-use native.Mathlib.Omega.{arith}
-use lib.ListN.{length, getD, drop, length-append, length-drop, List·getD-append, List·getD-eq-default}
-use lib.Seq.{getD-append-add, getD-drop}
+use mathlib.Core.List.{List}
+use Prim.Native.Nat.{ℕ}
+use lib.ListN.{length}
 use lib.IntN.{ℤ}
-use Rattle.answer.specs.Limits.{maxComponents}
 use Rattle.answer.specs.declared.State.{State}
 use Rattle.answer.specs.State.{partsOf, withParts}
-use Rattle.answer.proofs.StateLaws.{parts-length, parts-at, with-parts}
+use Rattle.answer.proofs.StateLaws.{with-parts}
 use Rattle.iosa.specs.Model.{Model, declared}
 use Rattle.iosa.specs.Product.{Within}
 use Rattle.iosa.specs.TimedExactly.{InTicks}
 use Rattle.iosa.proofs.Settling.Parts.{within-length}
 use Rattle.layout.specs.Image.{modelOf}
 use Rattle.words.specs.Bytes.{stateOf}
-use Rattle.words.proofs.Filled.{made}
+use Rattle.words.proofs.Zeros.{with-zeros}
 use Rattle.ticks.specs.Ticks.{Ticking}
 use Rattle.moves.proofs.Ready.{count-model, count-few}
 use Rattle.rounds.specs.Rounds.{Posed}
@@ -29,41 +23,6 @@ ticking-in m vs k = record { count = k .count; each = λ x h. record { low = k .
 
 pub in-ticking : (m : Model) (vs : List ℤ) → Ticking (declared m) vs → InTicks m vs
 in-ticking m vs k = record { count = k .count; low = λ x h. k .each x h .low; high = λ x h. k .each x h .high }
-
-module _ (x : State) (ps : List ℕ) (z : x ≡ stateOf (partsOf x)) (e : length ps ≡ x .count) (few : x .count ≤ maxComponents) where
-  -- all places, as numbers
-  all-places : State
-  all-places = record { count = maxComponents; parts = partsOf x }
-
-  places-are : x .parts ≡ partsOf all-places
-  unfolding stateOf partsOf all-places
-  places-are = ap (λ (y : State). y .parts) z
-
-  places-length : length (x .parts) ≡ maxComponents
-  unfolding all-places
-  places-length = ap length places-are ∙ parts-length all-places
-
-  pub with-zeros : withParts x ps ≡ stateOf ps
-  unfolding withParts all-places
-  with-zeros =
-      ap (λ (n : ℕ). record { count = n; parts = ps ++ drop (x .count) (x .parts) }) (sym e)
-      ∙ made ps (ps ++ drop (x .count) (x .parts)) maxComponents
-      (length-append ps (drop (x .count) (x .parts)) ∙ omega (arith, length-drop (x .count) (x .parts), places-length))
-      (le-refl maxComponents)
-      (λ k h. by-cases (decLt k (length ps)) (λ l. List·getD-append ps (drop (x .count) (x .parts)) 0 k l) (λ l. behind k h (omega arith)))
-    where
-      behind : (k : ℕ) → k < maxComponents → length ps ≤ k → getD (ps ++ drop (x .count) (x .parts)) k 0 ≡ getD ps k 0
-      behind k h l =
-          let j : k ≡ length ps + (k - length ps) = omega arith in
-          let i : x .count + (k - length ps) ≡ k = omega (arith, e) in
-          ap (λ n. getD (ps ++ drop (x .count) (x .parts)) n 0) j
-          ∙ getD-append-add ps (drop (x .count) (x .parts)) (k - length ps) 0
-          ∙ getD-drop (x .count) (x .parts) (k - length ps) 0
-          ∙ ap (λ n. getD (x .parts) n 0) i
-          ∙ ap (λ l. getD l k 0) places-are
-          ∙ parts-at all-places k h
-          ∙ List·getD-eq-default (partsOf x) 0 (omega (arith, parts-length x, e))
-          ∙ sym (List·getD-eq-default ps 0 l)
 
 -- the state with other parts of the model, and other values in range
 module _ (t : List ℕ) (x : State) (vs : List ℤ) (k : Posed t x vs) (y : State) (ps : List ℕ) (e : y ≡ withParts x ps) (w : Within (modelOf t) ps) where

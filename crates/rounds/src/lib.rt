@@ -1,4 +1,4 @@
-// The rounds of a simulation in a model that is accepted and confluent: the checks are the caller's.
+// The rounds of a simulation in a model that is accepted: the checks are the caller's.
 use answer::Ended;
 use answer::Firing;
 use answer::Model;

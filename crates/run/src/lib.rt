@@ -18,7 +18,7 @@ ghost use Rattle.run.specs.Refusals.{wholeAt, bytesAt, refusedStep, refu
 ghost use Rattle.run.specs.Calls.{StepCall, StepByCall, SettleCall, SettleListCall};
 
 // A refusal of the whole: its place is 0.
-fn refusal(number: u8) -> Refusal
+pub fn refusal(number: u8) -> Refusal
     ensures { λ r. ⌜ r ≡ wholeAt number ⌝ }
 {
     Refusal {
@@ -70,7 +70,7 @@ fn step_by_after(table: &[u64], state: State, action: u64, checked: Checked) -> 
     }
 }
 
-fn refused_settling(why: Refusal) -> Settled
+pub fn refused_settling(why: Refusal) -> Settled
     ensures { λ r. ⌜ r ≡ refusedSettling why ⌝ }
 {
     Settled {
@@ -82,7 +82,7 @@ fn refused_settling(why: Refusal) -> Settled
 }
 
 // 24: the trace is shorter than the budget.
-fn short_trace(budget: usize) -> Refusal
+pub fn short_trace(budget: usize) -> Refusal
     ensures { λ r. ⌜ r ≡ bytesAt budget ⌝ }
 {
     Refusal {

@@ -18,15 +18,15 @@ use Rattle.answer.specs.declared.Ended.the-variants as OfEnded
 use Rattle.answer.specs.declared.Place.the-variants as OfPlace
 use Rattle.answer.specs.declared.Simulated.{Simulated}
 use Rattle.iosa.specs.Model.{Model, declared}
-use Rattle.iosa.specs.Checks.{confluentOf}
 use Rattle.iosa.specs.Settle.{budgetFault}
+use Rattle.triggering.specs.Test.{entryOf}
 use Rattle.layout.specs.Image.{modelOf}
 use Rattle.table.specs.OnTable.{onTable}
 use Rattle.table.proofs.OnTableLaws.{on-image}
 use Rattle.table.proofs.CheckedLaws.{refused-tells, call-refuses}
 use Rattle.table.proofs.ImageExactly.{image-exactly}
-use Rattle.admit.specs.Admit.{Confluently}
-use Rattle.admit.proofs.Exactly.{confluent-fine}
+use Rattle.orderly.specs.Calls.{MayWalk}
+use Rattle.orderly.proofs.Exactly.{walk-fine}
 use Rattle.samples.specs.declared.Scanned.{Scanned}
 use Rattle.samples.specs.declared.Feed.{Feed}
 use Rattle.samples.specs.Text.{Scans}
@@ -45,26 +45,28 @@ refuses a f e q h was r i = subst (λ b. SimulationAnswers b was r was) (sym e) 
   values = refl;
 })
 
--- ---- 20 and 10 to 18
+-- ---- 20, 10 to 17, and 18 or else 45 and 18
 -- the first of three faults, or what stands behind them
 abbrev behind : Option Told → Option Told → Option Told → Answer Simulating → Answer Simulating
 behind a b d x = elim (orElse a (orElse b d)) as (λ _. Answer Simulating) [ some t ↦ refused t | none ↦ x ]
 
--- what `confluent` refuses the call refuses alike
-follows : (m : Model) (text : List ℕ) (n : ℕ) (was : List ℤ) (f : Told) → confluentOf m ≡ some f → simulateText m text n was ≡ refused f
+-- what `may_walk` refuses the call refuses alike
+follows : (m : Model) (text : List ℕ) (n : ℕ) (was : List ℤ) (f : Told) → entryOf m ≡ some f → simulateText m text n was ≡ refused f
 unfolding simulateText simulateWith
 follows m text n was f e =
     ap (λ o. behind o (budgetFault n) (lentFault was) (andThen (supplied m text) (λ q. andThen (simulateOf m q n) (λ d. answered (putOut m was d))))) e
 
-module _ (t text : List ℕ) (n : ℕ) (was : List ℤ) (c : Checked) (check : Confluently t c) where
+module _ (t text : List ℕ) (n : ℕ) (was : List ℤ) (c : Checked) (check : MayWalk t c) where
   pub refused-before : (q : Refusal) → c ≡ OfChecked.Refused q → (r : Simulated) → r ≡ refusedWith q → SimulateCall t text n was r was
   refused-before q e r i =
-      let p = refused-tells t confluentOf q (ap saysChecked (sym e) ∙ check) in
+      let p = refused-tells t entryOf q (ap saysChecked (sym e) ∙ check) in
       refuses (onTable t (λ m. simulateText m text n was)) (p .0)
-      (call-refuses t confluentOf (λ m. simulateText m text n was) (λ m f k. follows m text n was f k) (p .0) (p .2)) q (p .1) was r i
+      (call-refuses t entryOf (λ m. simulateText m text n was) (λ m f k. follows m text n was f k) (p .0) (p .2)) q (p .1) was r i
 
-  pub runnable : c ≡ OfChecked.Fine → Runnable t × (confluentOf (modelOf t) ≡ none)
-  runnable e = let p = confluent-fine t (ap saysChecked (sym e) ∙ check) in (record { image = p .0 .image; conforming = p .0 .conforming; joinable = p .0 .joinable }, p .1)
+  pub runnable : c ≡ OfChecked.Fine → Runnable t × (entryOf (modelOf t) ≡ none)
+  runnable e =
+      let p = walk-fine t (ap saysChecked (sym e) ∙ check) in
+      (record { image = p .image; conforming = p .settles .conforms; joinable = p .settles .joins }, p .entry)
 
   pub goes-on : c ≡ OfChecked.Fine → (r : Simulated) (vs : List ℤ) → SimulationAnswers (simulateText (modelOf t) text n was) was r vs → SimulateCall t text n was r vs
   goes-on e r vs a = rw (on-image t (λ m. simulateText m text n was) (image-exactly t .1 (runnable e .0 .image))) a
@@ -74,7 +76,7 @@ budget-fine : (n : ℕ) → n ≤ maxBudget → budgetFault n ≡ none
 unfolding budgetFault
 budget-fine n h = ap (λ b. when b (tell 22 (0 ∷ []))) (le-ltb maxBudget n h)
 
-module _ (m : Model) (text : List ℕ) (n : ℕ) (was : List ℤ) (e : confluentOf m ≡ none) where
+module _ (m : Model) (text : List ℕ) (n : ℕ) (was : List ℤ) (e : entryOf m ≡ none) where
   abbrev played : Answer Supply → Answer Simulating
   played p = andThen p (λ q. andThen (simulateOf m q n) (λ d. answered (putOut m was d)))
 

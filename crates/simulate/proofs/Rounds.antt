@@ -11,11 +11,12 @@ use Rattle.answer.specs.Limits.{maxBudget, maxClocks}
 use Rattle.answer.specs.Told.{Told, Answer, answered, refused, saysEnded}
 use Rattle.answer.specs.declared.Simulated.{Simulated}
 use Rattle.iosa.specs.Model.{Comp, declared}
-use Rattle.iosa.specs.Automaton.{Joinable, AllConfluent}
+use Rattle.iosa.specs.Automaton.{Joinable}
 use Rattle.iosa.specs.Thesis.{AllDefinition41}
 use Rattle.iosa.specs.InOrder.{refuses, passes}
-use Rattle.iosa.proofs.Acceptance.ConfluentExactly.{confluent-exactly}
+use Rattle.iosa.proofs.Acceptance.Accepted.{accepted-exactly}
 use Rattle.iosa.proofs.Thesis.Proposition41.{accepted-is-definition-4-1}
+use Rattle.walkable.specs.Orderly.{EitherTest}
 use Rattle.table.proofs.OnImageExactly.{on-table-exactly}
 use Rattle.layout.specs.OnImage.{Holds, OnImage, is20, of-model}
 use Rattle.simulation.specs.Samples.{LinesOf, recorded, are}
@@ -37,8 +38,8 @@ module _ (t samples : List ℕ) (n : ℕ) (was : List ℤ) (r : Simulated) (vs :
         let e : _≡_ {A = Option (Answer ℕ)} (some (answered k)) (some (refused f)) = sym says ∙ l .ended in
         let z : _≡_ {A = ℕ} 0 1 = cc in absurd (omega arith)
 
-    from-rounds : {c : Comp} {cs : List Comp} {a : Answer Simulating} → Holds t (c ∷ cs) → AllDefinition41 (c ∷ cs) × Joinable (c ∷ cs) → AllConfluent (c ∷ cs)
-        → RoundsAnswer c cs samples n was a → SimulationAnswers a was r vs → SimulatedFrom t samples n was k r vs
+    from-rounds : {c : Comp} {cs : List Comp} {a : Answer Simulating} → Holds t (c ∷ cs) → AllDefinition41 (c ∷ cs) × Joinable (c ∷ cs)
+        → EitherTest (c ∷ cs) → RoundsAnswer c cs samples n was a → SimulationAnswers a was r vs → SimulatedFrom t samples n was k r vs
     from-rounds h d al (refused-in s x) l = refusal l
     from-rounds {c} {cs} h d al (gives {ls = ls} (are text) (is-done {k = j} {q = q} a most over) put) l =
         let e : j ≡ k = let w : _≡_ {A = Option (Answer ℕ)} (some (answered j)) (some (answered k)) = sym (l .ended) ∙ says in cc in
@@ -48,7 +49,7 @@ module _ (t samples : List ℕ) (n : ℕ) (was : List ℤ) (r : Simulated) (vs :
           holds = h;
           definition = d .0;
           joinable = d .1;
-          confluent = al;
+          either = al;
           lists = ls;
           text = text;
           last = q;
@@ -85,15 +86,15 @@ module _ (t samples : List ℕ) (n : ℕ) (was : List ℤ) (r : Simulated) (vs :
         let same : g ≡ f = cc in
         subst (λ u. (u .number ≡ 30) ⊎ ((u .number ≡ 42) ⊎ (u .number ≡ 41))) same (refused-why x)
 
-    -- the table holds an accepted and confluent model, no more than 4,096 rounds are asked for, 64 values are lent, and the text is that of lists
+    -- the table holds an accepted model that passes either test, no more than 4,096 rounds are asked for, 64 values are lent, and the text is that of lists
     pub simulate-refused-why : SimulateCall t samples n was r vs → (c : Comp) (cs : List Comp) → Holds t (c ∷ cs) → AllDefinition41 (c ∷ cs)
-        → Joinable (c ∷ cs) → AllConfluent (c ∷ cs)
+        → Joinable (c ∷ cs) → EitherTest (c ∷ cs)
         → n ≤ maxBudget → length was ≡ maxClocks → (ls : List (List ℕ)) → LinesOf (declared (c ∷ cs)) maxClocks 0 samples ls
         → (f .number ≡ 30) ⊎ ((f .number ≡ 42) ⊎ (f .number ≡ 41))
     simulate-refused-why call c cs h d join al b g ls text =
         let m = c ∷ cs in
-        let fine = confluent-exactly m (h .well) (accepted-is-definition-4-1 m (h .well) .1 (d, join)) .1 al in
-        let x = rounds-answered c cs (h .well) samples n was fine (are text) in
+        let k = accepted-exactly m (h .well) .0 (accepted-is-definition-4-1 m (h .well) .1 (d, join)) in
+        let x = rounds-answered c cs (h .well) samples n was (record { conforms = k .0; joins = k .1; either = al }) (are text) in
         let R : Comp → List Comp → Answer Simulating → Type 0 = λ c cs. SimulateAnswer c cs samples n was in
         let e = on-table-exactly t (λ m. simulateText m samples n was) R (λ c cs w. simulate-model-exactly c cs w samples n was) (x .0) .1
         (of-model h (passes (d, join) (passes al (passes b (passes g (passes (ls, are text) (x .1))))))) in

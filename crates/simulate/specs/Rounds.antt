@@ -7,24 +7,25 @@ use Rattle.answer.specs.Limits.{maxClocks}
 use Rattle.answer.specs.declared.Simulated.{Simulated}
 use Rattle.words.specs.Bytes.{stateOf}
 use Rattle.iosa.specs.Model.{Comp, declared}
-use Rattle.iosa.specs.Automaton.{Joinable, AllConfluent}
+use Rattle.iosa.specs.Automaton.{Joinable}
 use Rattle.iosa.specs.Thesis.{AllDefinition41}
 use Rattle.iosa.specs.TimedExactly.{Waits}
+use Rattle.walkable.specs.Orderly.{EitherTest}
 use Rattle.layout.specs.OnImage.{Holds}
 use Rattle.simulation.specs.Simulate.{Round}
 use Rattle.simulation.specs.Samples.{recorded, LinesOf}
 use Rattle.simulation.specs.Free.{After}
 use Rattle.simulation.specs.Exactly.{PutsOut}
 
--- the table holds a model whose components are of Definition 4.1, compatible, and confluent where they can get, and the text is that of lists;
--- k of n later rounds were done, and the last of them ended so, whatever urgent steps are chosen in it and before it
+-- the table holds a model whose components are of Definition 4.1 and compatible, that passes check 18, or else is closed and passes the new test, and the text
+-- is that of lists; k of n later rounds were done, and the last of them ended so, whatever urgent steps are chosen in it and before it
 pub record SimulatedFrom (t samples : List ℕ) (n : ℕ) (was : List ℤ) (k : ℕ) (r : Simulated) (vs : List ℤ) : Type 0 where
   pub first : Comp
   pub others : List Comp
   pub holds : Holds t (first ∷ others)
   pub definition : AllDefinition41 (first ∷ others)
   pub joinable : Joinable (first ∷ others)
-  pub confluent : AllConfluent (first ∷ others)
+  pub either : EitherTest (first ∷ others)
   pub lists : List (List ℕ)
   pub text : LinesOf (declared (first ∷ others)) maxClocks 0 samples lists
   pub last : Round

@@ -14,8 +14,8 @@ ghost use Prim.Native.Nat.{ℕ, _<_};
 ghost use lib.ListN.{length};
 ghost use Rattle.laws.specs.Sets.{has};
 ghost use Rattle.answer.specs.Limits.{maxClocks};
-ghost use Rattle.iosa.specs.Checks.{confluentOf};
 ghost use Rattle.layout.specs.Image.{modelOf};
+ghost use Rattle.triggering.specs.Test.{entryOf};
 ghost use Rattle.rounds.specs.Rounds.{Runnable};
 ghost use Rattle.simulation.specs.Simulate.{eachFrom};
 ghost use Rattle.simulation.specs.Call.{putAt, simulateText, SimulationAnswers};
@@ -68,9 +68,9 @@ fn play(t: &[u64], text: &[u8], rounds: usize, feed: Feed, clocks: &mut [i64]) -
     }
 }
 
-// 22, 28 and 40, then the rounds, in a model that is accepted and confluent.
+// 22, 28 and 40, then the rounds, in a model that is accepted and passes either test.
 fn play_text(t: &[u64], text: &[u8], rounds: usize, clocks: &mut [i64]) -> Simulated
-    requires { ⌜ Runnable (now t) × (confluentOf (modelOf (now t)) ≡ none) ⌝ }
+    requires { ⌜ Runnable (now t) × (entryOf (modelOf (now t)) ≡ none) ⌝ }
     ensures { λ r.
         ⌜ SimulationAnswers (simulateText (modelOf (now (t .entry))) (now (text .entry)) rounds (now (clocks .entry)))
         (now (clocks .entry)) r (now (clocks .exit)) ⌝ }
@@ -96,11 +96,11 @@ fn play_text(t: &[u64], text: &[u8], rounds: usize, clocks: &mut [i64]) -> Simul
     }
 }
 
-// So many later rounds over the samples of a text: the checks of `confluent` once, then 22, 28 and 40, then round by round 30, 42 and 41.
+// So many later rounds over the samples of a text: 20, 10 to 17 and check 18, or else 45 and 18, once; then 22, 28 and 40, then round by round 30, 42 and 41.
 pub fn simulate(table: &[u64], samples: &[u8], rounds: usize, clocks: &mut [i64]) -> Simulated
     ensures { λ r. ⌜ SimulateCall (now (table .entry)) (now (samples .entry)) rounds (now (clocks .entry)) r (now (clocks .exit)) ⌝ }
 {
-    let checked = admit::confluent(table);
+    let checked = orderly::may_walk(table);
     match checked {
         Checked::Fine => play_text(table, samples, rounds, clocks),
         Checked::Refused(f) => refused(f),

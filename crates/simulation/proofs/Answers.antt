@@ -19,22 +19,23 @@ use Rattle.answer.specs.Limits.{maxBudget, maxClocks, maxTicks}
 use Rattle.answer.specs.Told.{Answer, answered, refused}
 use Rattle.iosa.specs.Model.{Comp, Model, declared}
 use Rattle.iosa.specs.WellFormed.{WellFormed}
-use Rattle.iosa.specs.Product.{Reached}
-use Rattle.iosa.specs.Checks.{acceptOf, clashAmong, confluentOf}
+use Rattle.iosa.specs.Checks.{acceptOf}
 use Rattle.iosa.specs.Settle.{budgetFault}
-use Rattle.iosa.specs.InOrder.{_▹_, refuses, passes, needs, confluent}
+use Rattle.iosa.specs.InOrder.{_▹_, refuses, passes, needs}
 use Rattle.iosa.specs.TimedExactly.{valueOf}
-use Rattle.iosa.proofs.Acceptance.ConfluentExactly.{confluent-accepted, confluent-exactly}
 use Rattle.iosa.proofs.Answers.InOrder.{Decided, refusedOr, either, or-refused, check-exactly, needs-decided}
-use Rattle.iosa.proofs.Answers.Models.{check-accepted, confluent-decided, budget-decided}
+use Rattle.iosa.proofs.Answers.Models.{budget-decided}
 use Rattle.iosa.proofs.Acceptance.Accepted.{accepted-exactly}
+use Rattle.triggering.specs.Test.{entryOf}
+use Rattle.walkable.specs.Orderly.{Settles}
+use Rattle.walkable.proofs.Entry.{check-settles}
 use Rattle.simulation.specs.Simulate.{Simulation, andThen, simulateOf}
 use Rattle.simulation.specs.Samples.{nth, recorded, samplesOf, AllTicks, GoodFrom, SamplesAnswer, are}
 use Rattle.simulation.specs.Free.{Fair, Simulates}
 use Rattle.simulation.specs.Call.{Simulating, putAt, putOut, lentFault, supplied, simulateWith, simulateText}
 use Rattle.simulation.specs.Exactly.{PutsOut, readable, RoundsAnswer, gives, refuses as refused-in, SimulateAnswer}
 use Rattle.simulation.proofs.Each.{each-length, each-at, each-beyond}
-use Rattle.simulation.proofs.Counts.{reached-parts-count}
+use Rattle.simulation.proofs.Counts.{Reaches, reached-states-count}
 use Rattle.simulation.proofs.Ours.{simulates-exactly}
 use Rattle.simulation.proofs.ReadExactly.{samples-read-exactly}
 
@@ -102,10 +103,13 @@ module _ (c : Comp) (cs : List Comp) (well : WellFormed (c ∷ cs)) (t : List �
   abbrev overLists : Answer (List (List ℕ)) → Answer Simulating
   overLists o = andThen (andThen o (λ ls. answered (recorded ls))) (λ p. leave (simulateOf m p n))
 
-  module _ (fine : confluentOf m ≡ none) where
+  module _ (ok : Settles m) where
+    acc : acceptOf m ≡ none
+    acc = accepted-exactly m well .1 (ok .conforms, ok .joins)
+
     exact : {ls : List (List ℕ)} → SamplesAnswer (declared m) t (answered ls) → (a : Answer Simulation)
         → (simulateOf m (recorded ls) n ≡ a) ↔ Simulates c cs (recorded ls) n a
-    exact {ls} s = simulates-exactly c cs well (confluent-accepted m fine) (Reached m) (reached-parts-count c cs well fine) (recorded ls) (recorded-fair s) n
+    exact {ls} s = simulates-exactly c cs well acc (Reaches c cs) (reached-states-count c cs well ok) (recorded ls) (recorded-fair s) n
 
     rounds-there : {ls : List (List ℕ)} → SamplesAnswer (declared m) t (answered ls) → (o : Answer Simulation) → simulateOf m (recorded ls) n ≡ o
         → RoundsAnswer c cs t n was (leave o)
@@ -139,7 +143,7 @@ module _ (c : Comp) (cs : List Comp) (well : WellFormed (c ∷ cs)) (t : List �
 
   -- ---- "after the table's, 22 .., 28 .."
   pub simulate-model-exactly : (a : Answer Simulating) → (simulateText m t n was ≡ a) ↔ SimulateAnswer c cs t n was a
-  unfolding simulateText simulateWith supplied confluentOf
+  unfolding simulateText simulateWith supplied
   simulate-model-exactly a =
       let x = overLists (samplesOf (declared m) t) in
       let b = budgetFault n in
@@ -147,10 +151,7 @@ module _ (c : Comp) (cs : List Comp) (well : WellFormed (c ∷ cs)) (t : List �
       let R = readable m t ▹ RoundsAnswer c cs t n was in
       let y = refusedOr d x in
       let z = refusedOr b y in
-      let k = orElse (acceptOf m) (clashAmong 0 m) in
-      rw (either (orElse k (orElse b d)) x ∙ or-refused k (orElse b d) x ∙ ap (refusedOr k) (or-refused b d x) ∙ or-refused (acceptOf m) (clashAmong 0 m) z) (
-      check-accepted m well (refusedOr (clashAmong 0 m) z) (confluent m ▹ needs 22 (n ≤ maxBudget) ▹ needs 28 (length was ≡ maxClocks) ▹ R) (λ k.
-      check-exactly (confluent m) (clashAmong 0 m) (confluent-decided m well k) z (needs 22 (n ≤ maxBudget) ▹ needs 28 (length was ≡ maxClocks) ▹ R) (λ al.
+      rw (either (orElse (entryOf m) (orElse b d)) x ∙ or-refused (entryOf m) (orElse b d) x ∙ ap (refusedOr (entryOf m)) (or-refused b d x)) (
+      check-settles m well z (needs 22 (n ≤ maxBudget) ▹ needs 28 (length was ≡ maxClocks) ▹ R) (λ ok.
       check-exactly (needs 22 (n ≤ maxBudget)) b (budget-decided n) y (needs 28 (length was ≡ maxClocks) ▹ R) (λ h.
-      check-exactly (needs 28 (length was ≡ maxClocks)) d (lent-decided was) x R (λ i.
-      lists-exactly (confluent-exactly m well (accepted-exactly m well .1 k) .1 al))))) a)
+      check-exactly (needs 28 (length was ≡ maxClocks)) d (lent-decided was) x R (λ i. lists-exactly ok))) a)

@@ -1,6 +1,6 @@
 -- The examples of a simulation hold: antt computes every one.
 use mathlib.Core.Path.{refl}
-use Rattle.simulation.specs.Examples.{reply, modelCases, roundCases, textCases, lineRefused, Hold, HoldTexts}
+use Rattle.simulation.specs.Examples.{reply, modelCases, roundCases, eitherCases, textCases, lineRefused, Hold, HoldTexts}
 
 -- M of paper 01
 pub model-examples-hold : Hold modelCases
@@ -11,6 +11,11 @@ model-examples-hold = refl
 pub round-examples-hold : Hold roundCases
 unfolding reply roundCases
 round-examples-hold = refl
+
+-- systems that are not confluent, or open
+pub either-examples-hold : Hold eitherCases
+unfolding reply eitherCases
+either-examples-hold = refl
 
 -- sample texts
 pub text-examples-hold : HoldTexts textCases

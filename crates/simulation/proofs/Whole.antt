@@ -7,17 +7,17 @@ use Prim.Native.Nat.{ℕ, _≤_}
 use Rattle.answer.specs.Told.{Told, refused}
 use Rattle.iosa.specs.Model.{Comp}
 use Rattle.iosa.specs.WellFormed.{WellFormed}
-use Rattle.iosa.specs.Automaton.{Joinable, AllConfluent}
+use Rattle.iosa.specs.Automaton.{Joinable}
 use Rattle.iosa.specs.Thesis.{AllDefinition41}
-use Rattle.iosa.specs.Product.{Reached}
 use Rattle.iosa.specs.Checks.{acceptOf}
 use Rattle.iosa.specs.TimedExactly.{Waits, BelowZero, Fires, Ready}
-use Rattle.iosa.proofs.Acceptance.ConfluentExactly.{confluent-exactly}
+use Rattle.iosa.proofs.Acceptance.Accepted.{accepted-exactly}
 use Rattle.iosa.proofs.Thesis.Proposition41.{accepted-is-definition-4-1}
+use Rattle.walkable.specs.Orderly.{EitherTest}
 use Rattle.simulation.specs.Simulate.{Supply, Round}
 use Rattle.simulation.specs.Free.{After, Fair, Simulates, is30, is41, is42}
 use Rattle.simulation.proofs.Agree.{rounds-agree-over}
-use Rattle.simulation.proofs.Counts.{reached-parts-count}
+use Rattle.simulation.proofs.Counts.{Reaches, reached-states-count}
 use Rattle.simulation.proofs.Sound.{always-ready, none-below-zero, firing-takes-a-tick}
 
 module _ (c : Comp) (cs : List Comp) (well : WellFormed (c ∷ cs)) (d : AllDefinition41 (c ∷ cs)) (join : Joinable (c ∷ cs)) (p : Supply) where
@@ -25,10 +25,11 @@ module _ (c : Comp) (cs : List Comp) (well : WellFormed (c ∷ cs)) (d : AllDefi
   acc = accepted-is-definition-4-1 (c ∷ cs) well .1 (d, join)
 
   -- "two simulations over the same lists, urgent steps freely chosen and neither refused, end each round with equal state and clock values"
-  pub rounds-agree : AllConfluent (c ∷ cs) → {k : ℕ} {q q′ : Round} → After c cs p k q → After c cs p k q′ → q ≡ q′
-  rounds-agree al h h′ =
-      let e = confluent-exactly (c ∷ cs) well acc .1 al in
-      rounds-agree-over c cs well acc (Reached (c ∷ cs)) (reached-parts-count c cs well e) p h h′
+  pub rounds-agree : EitherTest (c ∷ cs) → {k : ℕ} {q q′ : Round} → After c cs p k q → After c cs p k q′ → q ≡ q′
+  rounds-agree either h h′ =
+      let k = accepted-exactly (c ∷ cs) well .0 acc in
+      let count = reached-states-count c cs well (record { conforms = k .0; joins = k .1; either = either }) in
+      rounds-agree-over c cs well acc (Reaches c cs) count p h h′
 
   -- as a round ends the timed step is ready: none of 21, 27 and 28, nor 29
   pub rounds-are-ready : Fair p → {k : ℕ} {q : Round} → After c cs p k q

@@ -15,9 +15,9 @@ use Rattle.answer.specs.Told.{Told, tell, Answer, answered, refused, saysEnded}
 use Rattle.answer.specs.declared.Simulated.{Simulated}
 use Rattle.words.specs.Bytes.{stateOf}
 use Rattle.iosa.specs.Model.{Model, declared}
-use Rattle.iosa.specs.Checks.{confluentOf}
 use Rattle.iosa.specs.Settle.{budgetFault}
 use Rattle.iosa.specs.TimedExactly.{valueOf}
+use Rattle.triggering.specs.Test.{entryOf}
 use Rattle.simulation.specs.Simulate.{Supply, Simulation, eachFrom, andThen, simulateOf}
 use Rattle.simulation.specs.Samples.{samplesOf, recorded}
 
@@ -45,7 +45,7 @@ simulateWith m p n was =
     let b = budgetFault n in
     let d = lentFault was in
     let x = andThen p (λ q. andThen (simulateOf m q n) (λ e. answered (putOut m was e))) in
-    elim (orElse (confluentOf m) (orElse b d)) [ some t ↦ refused t | none ↦ x ]
+    elim (orElse (entryOf m) (orElse b d)) [ some t ↦ refused t | none ↦ x ]
 
 -- the lists of a text
 unfoldable pub supplied : Model → List ℕ → Answer Supply

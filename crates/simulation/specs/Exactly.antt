@@ -9,8 +9,9 @@ use Rattle.laws.specs.Sets.{has, _∈_}
 use Rattle.answer.specs.Limits.{maxBudget, maxClocks}
 use Rattle.answer.specs.Told.{Told, Answer, answered, refused}
 use Rattle.iosa.specs.Model.{Comp, Model, declared}
-use Rattle.iosa.specs.InOrder.{Check, _▹_, needs, accepted, confluent}
+use Rattle.iosa.specs.InOrder.{Check, _▹_, needs, accepted}
 use Rattle.iosa.specs.TimedExactly.{valueOf}
+use Rattle.walkable.specs.Entry.{settles}
 use Rattle.simulation.specs.Simulate.{Simulation}
 use Rattle.simulation.specs.Samples.{recorded, SamplesAnswer}
 use Rattle.simulation.specs.Free.{Simulates}
@@ -36,4 +37,4 @@ pub data RoundsAnswer (c : Comp) (cs : List Comp) (t : List ℕ) (n : ℕ) (was 
 -- "after the table's, 22 for more rounds, 28 if not 64 values, 40 .., then round by round"
 abbrev pub SimulateAnswer : Comp → List Comp → List ℕ → ℕ → List ℤ → Answer Simulating → Type 0
 SimulateAnswer c cs t n was =
-    accepted (c ∷ cs) ▹ confluent (c ∷ cs) ▹ needs 22 (n ≤ maxBudget) ▹ needs 28 (length was ≡ maxClocks) ▹ readable (c ∷ cs) t ▹ RoundsAnswer c cs t n was
+    accepted (c ∷ cs) ▹ settles (c ∷ cs) ▹ needs 22 (n ≤ maxBudget) ▹ needs 28 (length was ≡ maxClocks) ▹ readable (c ∷ cs) t ▹ RoundsAnswer c cs t n was

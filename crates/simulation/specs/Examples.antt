@@ -1,4 +1,4 @@
--- Examples of a simulation (02, 4/13), on M of paper 01 and on small models: the model as its text, the sample text, the rounds asked for, the answer.
+-- Examples of a simulation (02, 4/13 and 8/13), on M of paper 01 and on small models: the model as its text, the sample text, the rounds asked for, the answer.
 use mathlib.Core.Path.{_≡_}
 use mathlib.Core.List.{List, [], _∷_, _++_, map}
 use Prim.Native.Nat.{ℕ}
@@ -13,10 +13,12 @@ use Rattle.iosa.specs.Text.{digitsOf, decimal, joined, members, guardField, set
 use Rattle.iosa.specs.WellFormed.{lower, before}
 use Rattle.iosa.specs.Reading.{exactly, moreDigits, number, moreNumbers, numbers, guardOrDash, numbersOrDash, kind, compEntry, actEntry, clkEntry, rowEntry, entry, shorter, resetValues, firstBad, columnOf, outOfTurn, allBelow, outOfRange, allIn, lacks, ascending, setOf, follows, outOfOrder, tooMany, faultOf, takeIn, linesFrom, readOf}
 use Rattle.laws.specs.Search.{seek}
-use Rattle.iosa.specs.Checks.{rowFor, badGuard, check10, repeats, check11, lacksRow, check12, twice, check13, enablingOf, unstable, allowed, narrow, greatest, check14, faultAt, faultFrom, clashFor, check15, check16, check17, follow, unreached, reachOf, clashes, check18, clashAmong, acceptOf, confluentOf}
+use Rattle.laws.specs.Fold.{over}
+use Rattle.iosa.specs.Checks.{rowFor, badGuard, check10, repeats, check11, lacksRow, check12, twice, check13, enablingOf, unstable, allowed, narrow, greatest, check14, faultAt, faultFrom, clashFor, check15, check16, check17, follow, unreached, reachOf, clashes, check18, clashAmong, acceptOf}
 use Rattle.iosa.specs.Step.{move, moveAll, isUout, urgentStep, lowest, isStable, inRange, stateFault}
 use Rattle.iosa.specs.Settle.{settle, unreachedFrom, reachFault, beginFault, budgetFault}
 use Rattle.iosa.specs.Timed.{enablingAll, unstableFault, outOfTicks, valuesFault, belowZero, check29, isLeast, shares, check30, clockRow, clockRowOf, fireOne, fireAll, fallen, agedFrom, fire, timedFrom}
+use Rattle.triggering.specs.Test.{crossed, nothing, uoutsAt, stirred, woken, triggersIn, setsIn, wakersIn, triggersOf, goOn, leadsOf, startsOf, setsOf, wakersOf, ownOf, sharing, elsewhere, togetherOf, spreadBy, ledBy, ledOf, harmed, passesOf, inputsOf, outputsOf, openFault, entryOf}
 use Rattle.simulation.specs.Simulate.{lacks as lacksOne, fedAt, countedAt, eachFrom, endOf, closeOf, noValues, noneTaken, roundZero, roundsFrom, simulateOf}
 use Rattle.simulation.specs.Samples.{sampleAt, samplesAt, lineAt, listsFrom, samplesOf, nth}
 use Rattle.simulation.specs.Call.{Simulating, putAt, putOut, lentFault, simulateWith, supplied, simulateText}
@@ -47,7 +49,7 @@ onModel f (refused t) = refuses-with (t .number) (t .place)
 
 -- what antt opens to compute a reply stands on the line below
 unfoldable pub reply : Ask → Reply
-unfolding declared rowCount digitsOf decimal joined members guardField setField fieldsAfter lower before exactly moreDigits number moreNumbers numbers guardOrDash numbersOrDash kind compEntry actEntry clkEntry rowEntry entry shorter resetValues firstBad columnOf outOfTurn allBelow outOfRange allIn lacks ascending setOf follows outOfOrder tooMany faultOf takeIn linesFrom readOf seek rowFor badGuard check10 repeats check11 lacksRow check12 twice check13 enablingOf unstable allowed narrow greatest check14 faultAt faultFrom clashFor check15 check16 check17 follow unreached reachOf clashes check18 clashAmong acceptOf confluentOf move moveAll isUout urgentStep lowest isStable inRange stateFault settle unreachedFrom reachFault beginFault budgetFault enablingAll unstableFault outOfTicks valuesFault belowZero check29 isLeast shares check30 clockRow clockRowOf fireOne fireAll fallen agedFrom fire timedFrom startAll startedAll lacksOne fedAt countedAt eachFrom endOf closeOf noValues noneTaken roundZero roundsFrom simulateOf sampleAt samplesAt lineAt listsFrom samplesOf nth putAt putOut lentFault simulateWith supplied simulateText
+unfolding declared rowCount digitsOf decimal joined members guardField setField fieldsAfter lower before exactly moreDigits number moreNumbers numbers guardOrDash numbersOrDash kind compEntry actEntry clkEntry rowEntry entry shorter resetValues firstBad columnOf outOfTurn allBelow outOfRange allIn lacks ascending setOf follows outOfOrder tooMany faultOf takeIn linesFrom readOf seek rowFor badGuard check10 repeats check11 lacksRow check12 twice check13 enablingOf unstable allowed narrow greatest check14 faultAt faultFrom clashFor check15 check16 check17 follow unreached reachOf clashes check18 clashAmong acceptOf over crossed nothing uoutsAt stirred woken triggersIn setsIn wakersIn triggersOf goOn leadsOf startsOf setsOf wakersOf ownOf sharing elsewhere togetherOf spreadBy ledBy ledOf harmed passesOf inputsOf outputsOf openFault entryOf move moveAll isUout urgentStep lowest isStable inRange stateFault settle unreachedFrom reachFault beginFault budgetFault enablingAll unstableFault outOfTicks valuesFault belowZero check29 isLeast shares check30 clockRow clockRowOf fireOne fireAll fallen agedFrom fire timedFrom startAll startedAll lacksOne fedAt countedAt eachFrom endOf closeOf noValues noneTaken roundZero roundsFrom simulateOf sampleAt samplesAt lineAt listsFrom samplesOf nth putAt putOut lentFault simulateWith supplied simulateText
 reply a = onModel (λ m. says (simulateText m (bytesOf (a .samples)) (a .rounds) (kept (a .lent)))) (readOf (bytesOf (a .model)))
 
 -- ---- small models
@@ -70,6 +72,22 @@ still = "comp\t1\t0\n"
 -- clocks 0 and 3, which nothing waits for
 abbrev pub idle : String
 idle = "comp\t1\t0\nclk\t0\t0\nclk\t3\t0\n"
+
+-- 02, 8/13: a source says 1 and 2 in turn, each woken by action 0; a listener remembers which it heard first. Not confluent, and let through by the new test
+abbrev pub turns : String
+turns = "comp\t4\t0\nact\t0\tout\nact\t1\tuout\nact\t2\tuout\nclk\t0\t1\nrow\t0\t0\t0\t-\t1\nrow\t1\t-\t1\t0\t2\nrow\t2\t0\t0\t-\t3\nrow\t3\t-\t2\t0\t0\ncomp\t3\t0\nact\t1\tuin\nact\t2\tuin\nrow\t0\t-\t1\t-\t1\nrow\t0\t-\t2\t-\t2\nrow\t1\t-\t1\t-\t1\nrow\t1\t-\t2\t-\t1\nrow\t2\t-\t1\t-\t2\nrow\t2\t-\t2\t-\t2\n"
+
+-- the same with an input 3 that nobody outputs
+abbrev pub openTurns : String
+openTurns = "comp\t4\t0\nact\t0\tout\nact\t1\tuout\nact\t2\tuout\nclk\t0\t1\nrow\t0\t0\t0\t-\t1\nrow\t1\t-\t1\t0\t2\nrow\t2\t0\t0\t-\t3\nrow\t3\t-\t2\t0\t0\ncomp\t3\t0\nact\t1\tuin\nact\t2\tuin\nact\t3\tin\nrow\t0\t-\t1\t-\t1\nrow\t0\t-\t2\t-\t2\nrow\t0\t-\t3\t-\t0\nrow\t1\t-\t1\t-\t1\nrow\t1\t-\t2\t-\t1\nrow\t1\t-\t3\t-\t1\nrow\t2\t-\t1\t-\t2\nrow\t2\t-\t2\t-\t2\nrow\t2\t-\t3\t-\t2\n"
+
+-- confluent and open: clock 0 fires action 0, and an input 5 that nobody outputs is heard
+abbrev pub openLoop : String
+openLoop = "comp\t1\t0\nact\t0\tout\nact\t5\tin\nclk\t0\t1\nrow\t0\t0\t0\t0\t0\nrow\t0\t-\t5\t-\t0\n"
+
+-- neither test passes: from the start 0 and 1 lead to different states
+abbrev pub parted : String
+parted = "comp\t2\t0\nact\t0\tuout\nact\t1\tuout\nrow\t0\t-\t0\t-\t1\nrow\t0\t-\t1\t-\t0\n"
 
 pub record Case : Type 0 where
   pub asked : Ask
@@ -102,6 +120,15 @@ roundCases =
     ∷ S once "0\t8\t9\n" 0 64 (done 0 (1 ∷ []) (pos 8 ∷ kept 63))
     ∷ S still "" 5 64 (done 0 (0 ∷ []) (kept 64))
     ∷ S idle "0\t5\n3\n" 4096 64 (done 0 (0 ∷ []) (pos 0 ∷ kept 2 ++ pos 0 ∷ kept 60))
+    ∷ []
+
+-- systems that are not confluent: one that the new test lets through, an open one, one that neither test lets through; and an open one that is confluent
+unfoldable pub eitherCases : List Case
+eitherCases =
+    S turns "0\t5\t7\t9\n" 2 64 (done 2 (0 ∷ 1 ∷ []) (pos 9 ∷ kept 63))
+    ∷ S openTurns "0\t5\t7\t9\n" 2 64 (refuses-with 45 (3 ∷ []))
+    ∷ S parted "" 0 64 (refuses-with 18 (0 ∷ 0 ∷ 0 ∷ 1 ∷ []))
+    ∷ S openLoop "0\t5\t7\n" 1 64 (done 1 (0 ∷ []) (pos 7 ∷ kept 63))
     ∷ []
 
 -- the places of 40, clocks 0 and 3 declared (the set 9), or none; 0 where the text is read

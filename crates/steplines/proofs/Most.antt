@@ -11,7 +11,7 @@ use lib.ListN.{length, length-append}
 use Rattle.answer.specs.Limits.{maxComponents, maxStates, maxActions, maxBudget}
 use Rattle.answer.specs.Told.{Told, tell, valuesAt}
 use Rattle.answer.specs.declared.Place.{Place}
-use Rattle.answer.specs.declared.Place.the-variants.{Whole, Line, Row, Bytes, Index, Clock, Component, Cell, Clash, SharedAction, SharedClock, Spot}
+use Rattle.answer.specs.declared.Place.the-variants.{Whole, Line, Row, Bytes, Index, Clock, Component, Cell, Clash, SharedAction, SharedClock, Spot, Condition, Action}
 use Rattle.answer.specs.declared.Refusal.{Refusal}
 use Rattle.iosa.specs.Model.{Model, compAt}
 use Rattle.iosa.specs.Automaton.{Conforming, Joinable}
@@ -124,6 +124,8 @@ values-few (Clash i s a b) = omega arith
 values-few (SharedAction a i j) = omega arith
 values-few (SharedClock x i j) = omega arith
 values-few (Spot n k) = omega arith
+values-few (Condition n) = omega arith
+values-few (Action a) = omega arith
 
 pub refused-most : (r : Refusal) → length (refusedText r) ≤ mostBytes
 unfolding refusedText

@@ -24,6 +24,7 @@ use Rattle.iosa.proofs.Reading.Tests.{range-decided}
 use Rattle.iosa.proofs.Reading.LowestFault.{fault-some, fault-number}
 use Rattle.columns.specs.declared.Allowed.{Allowed}
 use Rattle.columns.specs.Columns.{memberOf, beyond}
+use Rattle.columns.proofs.MemberLaws.{member-all}
 use Rattle.answer.specs.declared.Place.the-variants.{Line, Spot}
 use Rattle.judge.specs.declared.Progress.{Progress as CodeProgress}
 use Rattle.survey.specs.Places.{allowedOf, placeOf}
@@ -70,14 +71,6 @@ unfolding firstBad
 same-first P a b h k [] p = refl
 same-first P a b h k (v ∷ []) p = refl
 same-first P a b h k (v ∷ w ∷ vs) p = rw (h v (p .0)) (ap (cond (b v) k) (same-first P a b h (k + suc (length (valueText v))) (w ∷ vs) (p .1)))
-
--- every number below 64 is one of all
-member-all : (x : ℕ) → memberOf (2 ^ wordBits - 1) x ≡ ltb x wordBits
-member-all x = go (decLt x wordBits)
-  where
-    go : Dec (x < wordBits) → memberOf (2 ^ wordBits - 1) x ≡ ltb x wordBits
-    go (yes h) = let b : has (2 ^ wordBits - 1) x ≡ true = eq-eqb (bit (2 ^ wordBits - 1) x) 1 (bit-ones wordBits x h) in rw (lt-ltb x wordBits h) b
-    go (no h) = rw (le-ltb x wordBits (omega arith))
 
 -- 4
 anyValue : (vs : List Value) → All (λ _. Unit {0}) vs

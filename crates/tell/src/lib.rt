@@ -134,6 +134,8 @@ fn put_place(out: &mut [u8], at: usize, p: Place) -> usize
             second,
         } => put_three(out, at, clock, first as u64, second as u64),
         Place::Spot { line, column } => put_two(out, at, line as u64, column as u64),
+        Place::Condition(n) => put_one(out, at, n as u64),
+        Place::Action(a) => put_one(out, at, a),
     }
 }
 

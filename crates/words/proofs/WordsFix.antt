@@ -6,7 +6,7 @@ use native.Mathlib.Omega.{arith}
 use lib.ListN.{length, getD}
 use lib.Seq.{ext-getD}
 use Rattle.answer.specs.declared.Place.{Place}
-use Rattle.answer.specs.declared.Place.the-variants.{Whole, Line, Row, Bytes, Index, Clock, Component, Cell, Clash, SharedAction, SharedClock, Spot}
+use Rattle.answer.specs.declared.Place.the-variants.{Whole, Line, Row, Bytes, Index, Clock, Component, Cell, Clash, SharedAction, SharedClock, Spot, Condition, Action}
 use Rattle.answer.specs.Told.{valuesAt}
 use Rattle.words.specs.Words.{toldWords}
 
@@ -24,6 +24,8 @@ at-most-four (Clash i s a b) = omega arith
 at-most-four (SharedAction a i j) = omega arith
 at-most-four (SharedClock x i j) = omega arith
 at-most-four (Spot n k) = omega arith
+at-most-four (Condition n) = omega arith
+at-most-four (Action a) = omega arith
 
 -- the value at a place below four is a word
 word-at : (n m : ℕ) (p q : List ℕ) → toldWords n p ≡ toldWords m q → (k : ℕ) → k < 4 → getD p k 0 ≡ getD q k 0

@@ -121,6 +121,8 @@ fn refusal_words(r: Refusal) -> [u64; Words::COUNT]
             second,
         } => told(number, 3, clock, first as u64, second as u64, 0),
         Place::Spot { line, column } => told(number, 2, line as u64, column as u64, 0, 0),
+        Place::Condition(n) => told(number, 1, n as u64, 0, 0, 0),
+        Place::Action(a) => told(number, 1, a, 0, 0, 0),
     }
 }
 

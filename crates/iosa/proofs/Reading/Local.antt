@@ -55,7 +55,7 @@ module _ {A : Type 0} where
   stops-local = record { front = λ bs. ([], refl); same = λ p c r s q h. ap (λ l. stops l) (behind p q c r s h) }
 
   -- a byte is tested: it is taken, and the scan goes on behind it, or nothing is
-  abbrev testing : (ℕ → Bool) → (ℕ → List ℕ → Scan A) → (List ℕ → Scan A) → List ℕ → Scan A
+  abbrev pub testing : (ℕ → Bool) → (ℕ → List ℕ → Scan A) → (List ℕ → Scan A) → List ℕ → Scan A
   testing t T H [] = H []
   testing t T H (b ∷ bs) = elim (t b) as (λ _. Scan A) [ true ↦ T b bs | false ↦ H (b ∷ bs) ]
 

@@ -9,17 +9,17 @@ use native.Mathlib.Omega.{arith}
 use lib.ListN.{length, length-append}
 use lib.Dec.{eqb}
 use borrow.Author.Tests.{eqb-true}
-use Rattle.laws.proofs.TestLaws.{apart-cases}
 use Rattle.answer.specs.Limits.{maxDigits}
 use Rattle.iosa.specs.Text.{byte0, tab, lf, comma, dash, compWord, actWord, clkWord, rowWord, Kind, in-kind, out-kind, uin-kind, uout-kind, kindWord, decimal, guardField, joined, fieldsAfter}
 use Rattle.iosa.specs.Reading.{Scan, is, stops, got, then, shorter, furthest, exactly, theByte, isDigit, moreDigits, number, moreNumbers, numbers, guardOrDash, numbersOrDash, kind, guardOf, field, ended}
 use Rattle.iosa.specs.Reading.{Entry, comp-entry, act-entry, clk-entry, row-entry, compEntry, actEntry, clkEntry, rowEntry, entry, stopColumn}
-use Rattle.iosa.specs.Line.{Fits, AllFit, GuardFits, listField, lineOf, LineFits, Exact}
-use Rattle.iosa.specs.Column.{Begins, NoneWith, WrongByte}
+use Rattle.iosa.specs.Line.{Fits, AllFit, GuardFits, listField, lineOf, LineFits, Ends, Any, Exact}
+use Rattle.iosa.specs.Column.{Begins, WrongByte}
 use Rattle.iosa.proofs.Reading.Scans.{stops-inj, no-is}
 use Rattle.iosa.proofs.Reading.Fields.{exactly-scanned, number-exact, kind-exact, guard-exact, list-exact, further, joined-first}
 use Rattle.iosa.proofs.Reading.Lines.{field-scanned, entry-exact}
-use Rattle.iosa.proofs.Reading.Local.{Local, StopLocal, stop-local, behind, then-local, exactly-local, number-local, guard-local, list-local, kind-local, field-local, ended-local, both-stop, furthest-local, shorter-either}
+use Rattle.iosa.proofs.Reading.Stopped.{front-begins, stop-is-wrong, one-wrong}
+use Rattle.iosa.proofs.Reading.Local.{restOf, leaving, Local, StopLocal, stop-local, behind, then-local, exactly-local, number-local, guard-local, list-local, kind-local, field-local, ended-local, both-stop, furthest-local, shorter-either}
 
 -- ---- the bytes up to where a scan stops can be gone on with
 -- of one field: they begin what is printed of some good value
@@ -31,10 +31,10 @@ pub record Opens {A : Type 0} (print : A → List ℕ) (Good : A → Type 0) (bs
   pub rest : List ℕ
   pub printed : print value ≡ front ++ rest
 
-abbrev AlwaysOpens : {A : Type 0} → (List ℕ → Scan A) → (A → List ℕ) → (A → Type 0) → Type 0
+abbrev pub AlwaysOpens : {A : Type 0} → (List ℕ → Scan A) → (A → List ℕ) → (A → Type 0) → Type 0
 AlwaysOpens S print Good = (bs m : List ℕ) → S bs ≡ stops m → Opens print Good bs m
 
-exactly-opens : (ws bs m : List ℕ) → exactly ws bs ≡ stops m → (f : List ℕ) × (rest : List ℕ) × (bs ≡ f ++ m) × (ws ≡ f ++ rest)
+pub exactly-opens : (ws bs m : List ℕ) → exactly ws bs ≡ stops m → (f : List ℕ) × (rest : List ℕ) × (bs ≡ f ++ m) × (ws ≡ f ++ rest)
 unfolding exactly
 exactly-opens [] bs m e = absurd (no-is e refl)
 exactly-opens (w ∷ ws) [] m e = ([], w ∷ ws, stops-inj e, refl)
@@ -67,7 +67,7 @@ number-stops (b ∷ bs) m e = go (isDigit b) (eqb b byte0) e
     go true true e = absurd (no-is e refl)
     go true false e = absurd (no-is e refl)
 
-number-opens : AlwaysOpens number decimal Fits
+pub number-opens : AlwaysOpens number decimal Fits
 number-opens bs m e = record { front = []; bytes = number-stops bs m e; value = 0; good = omega arith; rest = decimal 0; printed = refl }
 
 kind-opens : AlwaysOpens kind kindWord (λ _. Unit {0})
@@ -100,7 +100,7 @@ kind-opens bs m e = all
         (stopped uout-kind))) m e
 
 -- one byte that is not there
-byte-stops : (w : ℕ) (bs m : List ℕ) → theByte w bs ≡ stops m → bs ≡ m
+pub byte-stops : (w : ℕ) (bs m : List ℕ) → theByte w bs ≡ stops m → bs ≡ m
 unfolding exactly
 byte-stops w [] m e = stops-inj e
 byte-stops w (b ∷ bs) m e = go (eqb w b) e
@@ -197,7 +197,7 @@ list-opens bs m e = go (theByte dash bs) (number bs) refl e
                   (p .front) (p .rest));
             }
 
-field-opens : {A : Type 0} {S : List ℕ → Scan A} {print : A → List ℕ} {Good : A → Type 0} → (x : A) → Good x → AlwaysOpens S print Good
+pub field-opens : {A : Type 0} {S : List ℕ → Scan A} {print : A → List ℕ} {Good : A → Type 0} → (x : A) → Good x → AlwaysOpens S print Good
     → AlwaysOpens (field S) (λ x. tab ∷ print x) Good
 field-opens {S = S} {print} {Good} x good o bs m e = go (theByte tab bs) refl e
   where
@@ -225,8 +225,8 @@ field-opens {S = S} {print} {Good} x good o bs m e = go (theByte tab bs) refl e
         }
 
 -- ---- of a line: behind the bytes u, the bytes up to where the scan stops begin a line
-pub begins-front : (a b : List ℕ) → Begins (a ++ b) → Begins a
-begins-front a b h = record { line = h .line; fits = h .fits; rest = b ++ h .rest; printed = h .printed ∙ append-assoc a b (h .rest) }
+begins-front : (a b : List ℕ) → Begins (a ++ b) → Begins a
+begins-front = front-begins lineOf LineFits
 
 abbrev GoesOn : List ℕ → (List ℕ → Scan Entry) → Type 0
 GoesOn u S = (bs m : List ℕ) → S bs ≡ stops m → (f : List ℕ) × (bs ≡ f ++ m) × Begins (u ++ f)
@@ -485,54 +485,12 @@ entry-stops = record { front = λ bs m e. let t = entry-begins bs m e in (t .0, 
             let at : p ++ c ∷ s ≡ (w ++ m) ++ c ∷ s = behind p (w ++ m) c r s (h ∙ ap (λ (l : List ℕ). w ++ l) left ∙ sym (append-assoc w m (c ∷ r))) in
             ap entry (at ∙ append-assoc w m (c ∷ s)) ∙ x .found (m ++ c ∷ s) ∙ l .same m c r s q (ap (x .fields) (sym left) ∙ k)
 
--- ---- the wrong byte
--- a line with its LF, whatever is behind it, is read
-no-more : (f : List ℕ) (b : ℕ) (cs : List ℕ) → entry (f ++ b ∷ cs) ≡ stops (b ∷ cs) → ¬ Begins (f ++ b ∷ [])
-no-more f b cs e h =
-    let bytes : lineOf (h .line) ++ [] ≡ f ++ b ∷ h .rest = append-nil (lineOf (h .line)) ∙ h .printed ∙ append-assoc f (b ∷ []) (h .rest) in
-    let stopped : entry (f ++ b ∷ h .rest) ≡ stops (b ∷ h .rest) = entry-stops .same f b cs (h .rest) [] e in
-    no-is stopped (ap entry (sym bytes) ∙ entry-exact .printed (h .line) [] (h .fits) tt)
-
--- where a line's scan stops is the wrong byte
+-- ---- the wrong byte: where a line's scan stops, and there is no other
 pub wrong-byte-here : (bs cs : List ℕ) → entry bs ≡ stops cs → WrongByte bs (stopColumn bs cs)
-wrong-byte-here bs cs e =
-    let t = entry-begins bs cs e in
-    record {
-      before = t .0;
-      behind = cs;
-      bytes = t .1;
-      begins = t .2;
-      none-with = none-with (t .0) cs (ap entry (sym (t .1)) ∙ e);
-      at = let l = ap length (t .1) in let k = length-append (t .0) cs in omega arith;
-    }
-  where
-    none-with : (f cs : List ℕ) → entry (f ++ cs) ≡ stops cs → NoneWith f cs
-    none-with f [] e = tt
-    none-with f (b ∷ cs) e = no-more f b cs e
-
--- and there is no other
-longer-begins : (f m g n : List ℕ) → f ++ m ≡ g ++ n → length f < length g → (b : ℕ) × (k : List ℕ) × (l : List ℕ) × (m ≡ b ∷ k) × (g ≡ (f ++ b ∷ []) ++ l)
-longer-begins f m [] n e h = absurd (omega arith)
-longer-begins [] m (y ∷ g) n e h = (y, g ++ n, g, e, refl)
-longer-begins (x ∷ f) m (y ∷ g) n e h =
-    let t = longer-begins f m g n (tails e) (omega arith) in
-    (t .0, t .1, t .2, t .3, ap {B = List ℕ} (λ z. z ∷ g) (sym (heads e)) ∙ ap {B = List ℕ} (λ l. x ∷ l) (t .4))
-  where
-    tails : {a b : ℕ} {l k : List ℕ} → a ∷ l ≡ b ∷ k → l ≡ k
-    tails {l = l} e = ap (λ (z : List ℕ). elim z as (λ _. List ℕ) [ [] ↦ l | x ∷ xs ↦ xs ]) e
-
-    heads : {a b : ℕ} {l k : List ℕ} → a ∷ l ≡ b ∷ k → a ≡ b
-    heads {a} e = ap (λ (z : List ℕ). elim z as (λ _. ℕ) [ [] ↦ a | x ∷ xs ↦ x ]) e
+wrong-byte-here = stop-is-wrong entry lineOf LineFits entry-exact entry-stops entry-begins
 
 pub one-wrong-byte : {bs : List ℕ} {j k : ℕ} → WrongByte bs j → WrongByte bs k → j ≡ k
-one-wrong-byte {bs} {j} {k} a b =
-    apart-cases (length (a .before)) (length (b .before)) (λ e. a .at ∙ ap suc e ∙ sym (b .at)) (λ h. absurd (no-earlier a b h)) (λ h. absurd
-    (no-earlier b a h))
-  where
-    no-earlier : {j k : ℕ} (a : WrongByte bs j) (b : WrongByte bs k) → length (a .before) < length (b .before) → ⊥
-    no-earlier a b h =
-        let t = longer-begins (a .before) (a .behind) (b .before) (b .behind) (sym (a .bytes) ∙ b .bytes) h in
-        subst (NoneWith (a .before)) (t .3) (a .none-with) (begins-front (a .before ++ t .0 ∷ []) (t .2) (subst Begins (t .4) (b .begins)))
+one-wrong-byte = one-wrong lineOf LineFits
 
 -- where a line's scan stops, the column that is told is that of the wrong byte, and no other
 pub wrong-byte-exactly : (bs cs : List ℕ) → entry bs ≡ stops cs → (column : ℕ) → (stopColumn bs cs ≡ column) ↔ WrongByte bs column

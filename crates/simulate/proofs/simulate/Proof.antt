@@ -1,12 +1,12 @@
--- `simulate::simulate` meets its contract: what `confluent` refuses, and else what stands behind it.
+-- `simulate::simulate` meets its contract: what `may_walk` refuses, and else what stands behind it.
 use borrow.Author.Needs.{needs}
 use denote.Ref.{now}
 use Rattle.simulate.proofs.Called.{refused-before, runnable, goes-on}
 use Rattle.simulate.proofs.simulate.Statement.{statement}
 use Rattle.simulate.proofs.simulate.Tie as tie
 
-confluent-requires : tie.Need-confluent-requires
-confluent-requires c κs = search needs
+may-walk-requires : tie.Need-may-walk-requires
+may-walk-requires c κs = search needs
 
 enum-told : tie.Need-enum-told
 enum-told c = search needs
@@ -16,7 +16,7 @@ play-text-requires c κs =
     let e = c .before in
     let k = e .before .before in
     let a = k .before .before .before .args in
-    runnable (now (a .table)) (now (a .samples)) (a .rounds) (now (a .clocks)) _ (k .confluent .ensures) (e .enum-told .given .1)
+    runnable (now (a .table)) (now (a .samples)) (a .rounds) (now (a .clocks)) _ (k .may-walk .ensures) (e .enum-told .given .1)
 
 enum-known-checked : tie.Need-enum-known-checked
 enum-known-checked c = search needs
@@ -31,18 +31,18 @@ returns : tie.Need-returns
 returns c =
     let p = c .before in
     let e = p .before .before in
-    goes-on _ _ _ _ _ (e .before .before .confluent .ensures) (e .enum-told .given .1) _ _ (p .play-text .ensures)
+    goes-on _ _ _ _ _ (e .before .before .may-walk .ensures) (e .enum-told .given .1) _ _ (p .play-text .ensures)
 
 returns-2 : tie.Need-returns-2
 returns-2 c =
     let e = c .before .before in
-    refused-before _ _ _ _ _ (e .before .before .confluent .ensures) _ (e .checked .given .1) _ (c .refused .ensures)
+    refused-before _ _ _ _ _ (e .before .before .may-walk .ensures) _ (e .checked .given .1) _ (c .refused .ensures)
 
 pub simulate-spec : {M : Type 1} → statement M
 simulate-spec =
     tie.close
     (tie.spec
-    confluent-requires
+    may-walk-requires
     enum-told
     play-text-requires
     enum-known-checked

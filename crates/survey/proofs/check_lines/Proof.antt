@@ -107,9 +107,6 @@ add-n c =
       l .before .before .before .good,
     )
 
-loop-less : tie.Need-loop-less Inv-loop μ-loop
-loop-less c = read-on (here (c .before .before .before .before))
-
 loop-again : tie.Need-loop-again Inv-loop μ-loop
 loop-again c =
     let k = c .before .before .before .before in (
@@ -117,6 +114,9 @@ loop-again c =
       line-taken (k .before .before .before .before .before .loop .inv .1) (lineAt k) (nextAt k) (here k) (c .before .q .given .0 .0) (sym
           (c .before .before .before .step .ensures) ∙ c .before .q .given .1),
     )
+
+loop-less : tie.Need-loop-less Inv-loop μ-loop
+loop-less c = read-on (here (c .before .before .before .before))
 
 enum-known-stop : tie.Need-enum-known-stop Inv-loop μ-loop
 enum-known-stop c = search needs

@@ -89,6 +89,22 @@ put-two-requires c κs =
     room-as (now (c .before .before .before .before .before .args .out)) (c .before .before .before .before .before .args .at) (ap placed
     (c .before .before .p11 .given .1)) (c .before .before .before .before .before .pre)
 
+enum-known-p-12 : tie.Need-enum-known-p-12
+enum-known-p-12 c = search needs
+
+put-one-requires-8 : tie.Need-put-one-requires-8
+put-one-requires-8 c κs =
+    room-as (now (c .before .before .before .before .before .args .out)) (c .before .before .before .before .before .args .at) (ap placed
+    (c .before .before .p12 .given .1)) (c .before .before .before .before .before .pre)
+
+enum-known-p-13 : tie.Need-enum-known-p-13
+enum-known-p-13 c = search needs
+
+put-one-requires-9 : tie.Need-put-one-requires-9
+put-one-requires-9 c κs =
+    room-as (now (c .before .before .before .before .before .args .out)) (c .before .before .before .before .before .args .at) (ap placed
+    (c .before .before .p13 .given .1)) (c .before .before .before .before .before .pre)
+
 same-length : tie.Need-same-length
 same-length c = search needs
 
@@ -161,6 +177,18 @@ same-length-12 c = search needs
 returns-12 : tie.Need-returns-12
 returns-12 c = put-as (sym (ap placed (c .before .before .before .before .before .p11 .given .1))) (c .before .before .put-two .ensures)
 
+same-length-13 : tie.Need-same-length-13
+same-length-13 c = search needs
+
+returns-13 : tie.Need-returns-13
+returns-13 c = put-as (sym (ap placed (c .before .before .before .before .before .p12 .given .1))) (c .before .before .put-one8 .ensures)
+
+same-length-14 : tie.Need-same-length-14
+same-length-14 c = search needs
+
+returns-14 : tie.Need-returns-14
+returns-14 c = put-as (sym (ap placed (c .before .before .before .before .before .p13 .given .1))) (c .before .before .put-one9 .ensures)
+
 pub put-place-spec : {M : Type 1} → statement M
 put-place-spec =
     tie.close
@@ -189,6 +217,10 @@ put-place-spec =
     put-three-requires-3
     enum-known-p-11
     put-two-requires
+    enum-known-p-12
+    put-one-requires-8
+    enum-known-p-13
+    put-one-requires-9
     same-length
     returns
     same-length-2
@@ -212,4 +244,8 @@ put-place-spec =
     same-length-11
     returns-11
     same-length-12
-    returns-12)
+    returns-12
+    same-length-13
+    returns-13
+    same-length-14
+    returns-14)

@@ -86,6 +86,18 @@ enum-known-place-11 c = search needs
 told-requires-12 : tie.Need-told-requires-12
 told-requires-12 c κs = search needs
 
+enum-known-place-12 : tie.Need-enum-known-place-12
+enum-known-place-12 c = search needs
+
+told-requires-13 : tie.Need-told-requires-13
+told-requires-13 c κs = search needs
+
+enum-known-place-13 : tie.Need-enum-known-place-13
+enum-known-place-13 c = search needs
+
+told-requires-14 : tie.Need-told-requires-14
+told-requires-14 c κs = search needs
+
 returns : tie.Need-returns
 unfolding toldWords
 returns c = known (c .before .before .before .args .r) (c .told .ensures) (c .before .enum-told .given .1)
@@ -134,6 +146,14 @@ returns-12 : tie.Need-returns-12
 unfolding toldWords
 returns-12 c = known (c .before .before .before .before .args .r) (c .told12 .ensures) (c .before .before .place11 .given .1)
 
+returns-13 : tie.Need-returns-13
+unfolding toldWords
+returns-13 c = known (c .before .before .before .before .args .r) (c .told13 .ensures) (c .before .before .place12 .given .1)
+
+returns-14 : tie.Need-returns-14
+unfolding toldWords
+returns-14 c = known (c .before .before .before .before .args .r) (c .told14 .ensures) (c .before .before .place13 .given .1)
+
 pub refusal-words-spec : {M : Type 1} → statement M
 refusal-words-spec =
     tie.close
@@ -162,6 +182,10 @@ refusal-words-spec =
     told-requires-11
     enum-known-place-11
     told-requires-12
+    enum-known-place-12
+    told-requires-13
+    enum-known-place-13
+    told-requires-14
     returns
     returns-2
     returns-3
@@ -173,4 +197,6 @@ refusal-words-spec =
     returns-9
     returns-10
     returns-11
-    returns-12)
+    returns-12
+    returns-13
+    returns-14)

@@ -1,0 +1,25 @@
+-- The pairs of actions that are led to, as 64 sets (02, 8/13).
+use mathlib.Core.Logic.{_↔_}
+use mathlib.Core.Path.{_≡_}
+use mathlib.Core.List.{List}
+use Prim.Native.Nat.{ℕ, _<_}
+use lib.ListN.{length, getD}
+use Rattle.laws.specs.Sets.{_∈_}
+use Rattle.answer.specs.Limits.{maxActions}
+use Rattle.iosa.specs.Model.{Model}
+use Rattle.triggering.specs.Test.{crossAll, spreadBy}
+use Rattle.triggering.specs.Triggering.{LeadsOn, Led}
+
+-- for each action those that it leads on to
+pub record LeadTable (m : Model) (T : List ℕ) : Type 0 where
+  pub places : length T ≡ maxActions
+  pub leads : (a b : ℕ) → a < maxActions → b < maxActions → (b ∈ getD T a 0) ↔ LeadsOn m a b
+
+-- for each action a those b that the pair a, b is led to
+pub record LedTable (m : Model) (T : List ℕ) : Type 0 where
+  pub places : length T ≡ maxActions
+  pub led : (a b : ℕ) → a < maxActions → b < maxActions → (b ∈ getD T a 0) ↔ Led m a b
+
+-- to each set of a table those that the pair is led to
+unfoldable pub ledFrom : List ℕ → List ℕ → List ℕ → List ℕ
+ledFrom L W T = crossAll (λ a. getD L a 0) (λ a. spreadBy L (getD W a 0)) maxActions T

@@ -1,0 +1,4 @@
+pub mod Checking
+pub mod Answers
+pub mod Determined
+pub mod Exactly

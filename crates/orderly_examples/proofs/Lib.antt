@@ -1,0 +1,4 @@
+pub mod Passing
+pub mod Refusing
+pub mod Paths
+pub mod Witness

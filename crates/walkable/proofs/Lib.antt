@@ -1,0 +1,3 @@
+pub mod Opening
+pub mod Entry
+pub mod Orderly
