@@ -33,34 +33,27 @@ use Rattle.orderly_examples.specs.Examples.{says, G, N1, N2}
 abbrev row : ℕ → ℕ → ℕ → ℕ → ℕ → Row
 row f g a r t = record { from = f; guard = g; action = a; resets = r; target = t }
 
+-- what a component outputs, hears and outputs urgently; none of them hears a non-urgent action
+record Acts : Type 0 where
+  outs : ℕ
+  uins : ℕ
+  uouts : ℕ
+
+abbrev acts : ℕ → ℕ → ℕ → Acts
+acts o h u = record { outs = o; uins = h; uouts = u }
+
+-- so many states from 0 on, its actions, its clocks, all set at the start, and its rows
+abbrev of : ℕ → Acts → ℕ → List Row → Comp
+of n a x rs = record { states = n; start = 0; ins = 0; outs = a .outs; uins = a .uins; uouts = a .uouts; clocks = x; started = x; rows = rs }
+
 -- ---- G
 unfoldable pub source : Comp
 source =
-    record {
-      states = 4;
-      start = 0;
-      ins = 0;
-      outs = 1;
-      uins = 0;
-      uouts = 6;
-      clocks = 1;
-      started = 1;
-      rows = row 0 1 0 0 1 ∷ row 1 0 1 1 2 ∷ row 2 1 0 0 3 ∷ row 3 0 2 1 0 ∷ [];
-    }
+    of 4 (acts 1 0 6) 1 (row 0 1 0 0 1 ∷ row 1 0 1 1 2 ∷ row 2 1 0 0 3 ∷ row 3 0 2 1 0 ∷ [])
 
 unfoldable pub listener : Comp
 listener =
-    record {
-      states = 3;
-      start = 0;
-      ins = 0;
-      outs = 0;
-      uins = 6;
-      uouts = 0;
-      clocks = 0;
-      started = 0;
-      rows = row 0 0 1 0 1 ∷ row 0 0 2 0 2 ∷ row 1 0 1 0 1 ∷ row 1 0 2 0 1 ∷ row 2 0 1 0 2 ∷ row 2 0 2 0 2 ∷ [];
-    }
+    of 3 (acts 0 6 0) 0 (row 0 0 1 0 1 ∷ row 0 0 2 0 2 ∷ row 1 0 1 0 1 ∷ row 1 0 2 0 1 ∷ row 2 0 1 0 2 ∷ row 2 0 2 0 2 ∷ [])
 
 abbrev both : Model
 both = source ∷ listener ∷ []
@@ -113,17 +106,7 @@ silent = record { states = 1; start = 0; ins = 0; outs = 0; uins = 0; uouts = 32
 
 unfoldable pub either : Comp
 either =
-    record {
-      states = 2;
-      start = 0;
-      ins = 0;
-      outs = 0;
-      uins = 32;
-      uouts = 9;
-      clocks = 0;
-      started = 0;
-      rows = row 0 0 5 0 1 ∷ row 1 0 0 0 0 ∷ row 1 0 3 0 0 ∷ row 1 0 5 0 1 ∷ [];
-    }
+    of 2 (acts 0 32 9) 0 (row 0 0 5 0 1 ∷ row 1 0 0 0 0 ∷ row 1 0 3 0 0 ∷ row 1 0 5 0 1 ∷ [])
 
 -- N1: both stop, and the actions taken differ
 pub N1-stops : (readOf (bytesOf N1) ≡ answered (silent ∷ either ∷ []))
@@ -135,31 +118,11 @@ N1-stops = (refl, refl, refl, refl, refl, refl)
 
 unfoldable pub turning : Comp
 turning =
-    record {
-      states = 2;
-      start = 0;
-      ins = 0;
-      outs = 0;
-      uins = 1;
-      uouts = 16;
-      clocks = 0;
-      started = 0;
-      rows = row 0 0 0 0 1 ∷ row 0 0 4 0 0 ∷ row 1 0 0 0 1 ∷ [];
-    }
+    of 2 (acts 0 1 16) 0 (row 0 0 0 0 1 ∷ row 0 0 4 0 0 ∷ row 1 0 0 0 1 ∷ [])
 
 unfoldable pub waiting : Comp
 waiting =
-    record {
-      states = 2;
-      start = 0;
-      ins = 0;
-      outs = 8;
-      uins = 0;
-      uouts = 1;
-      clocks = 1;
-      started = 1;
-      rows = row 0 1 3 0 1 ∷ row 1 0 0 1 0 ∷ [];
-    }
+    of 2 (acts 8 0 1) 1 (row 0 1 3 0 1 ∷ row 1 0 0 1 0 ∷ [])
 
 -- N2: one stops, the other is back where it was
 pub N2-stops : (readOf (bytesOf N2) ≡ answered (turning ∷ waiting ∷ []))
