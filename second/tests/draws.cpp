@@ -212,7 +212,7 @@ std::uint64_t near_whole(Random& random, double lower, double upper) {
 unsigned long fused = 0, drawn_mixtures = 0;
 
 void test_rule(Random& random) {
-  for (unsigned round = 0; round < 60000; ++round) {
+  for (unsigned round = 0; round < rounds(60000); ++round) {
     double lower = some_end(random);
     double upper = random.chance(30) ? lower + random.below(4) : some_end(random);
     if (upper > top) upper = top;
@@ -239,7 +239,7 @@ void test_rule(Random& random) {
 // Draws on which fused operations give other ticks than three that are rounded once each.
 void test_fused(Random& random) {
   unsigned seen = 0;
-  for (unsigned round = 0; round < 200000 && seen < 100; ++round) {
+  for (unsigned round = 0; round < rounds(200000) && seen < 100; ++round) {
     const double lower = some_end(random), upper = some_end(random);
     if (!(lower + 2 < upper)) continue;
     const std::uint64_t n = near_whole(random, lower, upper);
@@ -296,9 +296,9 @@ void test_draws() {
   test_rule(random);
   test_fused(random);
   check(fused >= 100, "draws that a fused operation would change: " + std::to_string(fused));
-  for (unsigned round = 0; round < 400; ++round) {
+  for (unsigned round = 0; round < rounds(400); ++round) {
     const second::Family family = round % 3 == 0 ? second::Family::sharing : round % 3 == 1 ? second::Family::confluent : second::Family::orderly;
     check_simulation(random, second::generate(random, family, round % 10 == 0 ? second::Size::medium : second::Size::small));
   }
-  check(done > 100 && used_up > 20, "both ends are common: " + std::to_string(done) + ", " + std::to_string(used_up));
+  check_common(done > 100 && used_up > 20, "both ends are common: " + std::to_string(done) + ", " + std::to_string(used_up));
 }

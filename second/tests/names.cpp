@@ -268,7 +268,7 @@ void test_names() {
   test_stated();
   test_lengths();
   second::Random random(20);
-  for (unsigned round = 0; round < 250; ++round) {
+  for (unsigned round = 0; round < rounds(250); ++round) {
     const auto size = static_cast<second::Size>(round % 10 == 0 ? 2 : round % 2);
     const Model model = round % 3 == 0 ? second::generate_faulty(random, size)
                                        : second::generate(random, second::families[random.below(10)], size);
@@ -283,6 +283,6 @@ void test_names() {
     const second::NamedReading reading = second::model_of_named_text(odd);
     check(second::named_text_of_model(reading.model, reading.sheet) == odd, "one text for a sheet and a model");
   }
-  check(there_and_back > 100 && defaults > 20 && mirrored > 150,
+  check_common(there_and_back > 100 && defaults > 20 && mirrored > 150,
         "all of it is common: " + std::to_string(there_and_back) + ", " + std::to_string(defaults) + ", " + std::to_string(mirrored));
 }

@@ -459,17 +459,17 @@ void test_trees() {
   test_edges();
   test_runs();
   Random random(18);
-  for (unsigned round = 0; round < 400; ++round) {
+  for (unsigned round = 0; round < rounds(400); ++round) {
     const auto size = round % 10 == 9 ? second::Size::large : round % 3 == 0 ? second::Size::medium : second::Size::small;
     const Text text = second::generate_tree(random, size);
     check(!second::tree_of_text(text).refusal && !second::tree_conditions(second::tree_of_text(text).tree), "a good tree\n" + text);
     check_tree(random, text);
   }
-  for (unsigned round = 0; round < 3000; ++round)
+  for (unsigned round = 0; round < rounds(3000); ++round)
     check_odd(second::generate_odd_tree(random, round % 5 == 0 ? second::Size::medium : second::Size::small));
   for (unsigned condition = 0; condition <= 6; ++condition)
-    check(conditions[condition] > 5, "condition " + std::to_string(condition) + " is met: " + std::to_string(conditions[condition]));
-  check(instants > 1500 && failures > 500 && priority_down > 50 && all_ways > 500,
+    check_common(conditions[condition] > 5, "condition " + std::to_string(condition) + " is met: " + std::to_string(conditions[condition]));
+  check_common(instants > 1500 && failures > 500 && priority_down > 50 && all_ways > 500,
         "all of it is common: " + std::to_string(instants) + ", " + std::to_string(failures) + ", " +
             std::to_string(priority_down) + ", " + std::to_string(all_ways));
 }
