@@ -19,7 +19,7 @@ install: all
 	$(INSTALL) -m 644 $(ARCHIVE) $(TO)/lib/libfloodneedle.a
 	$(INSTALL) -m 644 include/floodneedle.h $(TO)/include/floodneedle.h
 	sed -e 's|@PREFIX@|$(PREFIX)|' -e 's|@VERSION@|$(VERSION)|' floodneedle.pc.in >$(TO)/lib/pkgconfig/floodneedle.pc
-	$(INSTALL) -m 644 docs/CALLS.md docs/REFUSALS.md docs/MODEL.md docs/TABLE.md $(TO)/share/doc/floodneedle
+	$(INSTALL) -m 644 docs/CALLS.md docs/REFUSALS.md docs/MODEL.md docs/TREES.md docs/TABLE.md $(TO)/share/doc/floodneedle
 
 check:
 	bash .ci/run

@@ -81,6 +81,13 @@ std::string text_for(Random& random, unsigned number) {
   return random.chance(30) ? drawing::misfit_text(random, text) : second::damaged_text(random, text);
 }
 
+std::string tree_for(Random& random, const Aim& aim) {
+  const unsigned number = number_of(aim);
+  const auto size = number == 48 ? second::Size::large : drawing::size(random);
+  if (number == 47) return drawing::misdrawn_tree(random, static_cast<unsigned>(aim.outcome.back() - '0'));
+  return within(number, 2, 6) ? second::generate_odd_tree(random, size) : second::generate_tree(random, size);
+}
+
 Bytes state_for(Random& random, unsigned number, const Drawn& drawn) {
   switch (number) {
     case 19: return drawing::unreached_state(random, drawn);
@@ -149,6 +156,10 @@ Loan loan_for(Random& random, const Aim& aim, const Drawn& drawn) {
   loan.into = number == 24 ? drawing::noise(random, second::image_words - 1 - random.below(9)) : drawing::room(random);
   if (aim.call == &calls::check_text || aim.call == &calls::read) {
     loan.bytes = drawing::bytes_of(text_for(random, number));
+    return loan;
+  }
+  if (aim.call == &calls::read_tree) {
+    loan.bytes = drawing::bytes_of(tree_for(random, aim));
     return loan;
   }
   const Table table = number == 20 ? second::damaged_table(random, drawn.table) : drawn.table;

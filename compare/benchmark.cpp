@@ -72,6 +72,10 @@ Pair read(const Subject& s) {
   return {"read", [&] { floodneedle_read(s.text.data(), s.text.size(), lent_out.into.data(), lent_out.into.size(), &lent_out.answer); },
           [&] { second::read(lent(s.text), {lent_out.into.data(), lent_out.into.size()}); }};
 }
+Pair read_tree(const Subject& s) {
+  return {"read_tree", [&] { floodneedle_read_tree(s.text.data(), s.text.size(), lent_out.into.data(), lent_out.into.size(), &lent_out.answer); },
+          [&] { second::read_tree(lent(s.text), {lent_out.into.data(), lent_out.into.size()}); }};
+}
 Pair write(const Subject& s) {
   return {"write", [&] { floodneedle_write(words(s), s.table.size(), lent_out.out.data(), lent_out.out.size(), &lent_out.answer); },
           [&] { second::write(lent(s.table), {lent_out.out.data(), lent_out.out.size()}); }};
@@ -315,6 +319,12 @@ int main(int count, char** arguments) {
   lines(texts, read);
   lines(texts, write);
   lines(texts, recognise);
+
+  const std::vector<Subject> trees = {chained_tree(1, 0, 0, 0), chained_tree(2, 1, 1, 0),  chained_tree(4, 3, 3, 0), chained_tree(7, 3, 15, 0),
+                                      chained_tree(5, 5, 4, 0), chained_tree(11, 0, 10, 0), chained_tree(2, 0, 0, 5)};
+  head("Fault trees, whose text this is, read as models: one basic element; small ones; 1,024 rows of 23 elements; a box of five; 64 actions; five PAND");
+  lines(trees, read_tree);
+  lines(trees, orderly);
 
   const std::vector<Subject> sizes = {paper_model(),         one_component(8, 16),  one_component(16, 16), one_component(32, 16),
                                       one_component(64, 16), one_component(16, 64), one_component(128, 8), many_components(16),

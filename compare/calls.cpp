@@ -44,6 +44,11 @@ std::string walked_kind(const Said& said, const Lent& lent) {
   return said.answer.number == 22 && lent.path.length > 2 * second::max_path ? "22 of the path" : answered_kind(said, lent);
 }
 
+// Of a tree: which condition it breaks.
+std::string drawn_kind(const Said& said, const Lent& lent) {
+  return said.answer.number == 47 ? "47 at " + std::to_string(said.answer.place[0]) : answered_kind(said, lent);
+}
+
 // Of a report: the number or the verdict that its last line begins with.
 std::string printed_kind(const Said& said, const Lent& lent) {
   if (said.answer.kind == FLOODNEEDLE_REFUSED) return answered_kind(said, lent);
@@ -73,6 +78,12 @@ Said engine_read(const Lent& l) {
   return answered(l);
 }
 Said second_read(const Lent& l) { return said(second::read(l.bytes, l.into)); }
+
+Said engine_read_tree(const Lent& l) {
+  floodneedle_read_tree(l.bytes.front, l.bytes.length, l.into.front, l.into.length, l.answer);
+  return answered(l);
+}
+Said second_read_tree(const Lent& l) { return said(second::read_tree(l.bytes, l.into)); }
 
 Said engine_write(const Lent& l) {
   floodneedle_write(l.table.front, l.table.length, l.out.front, l.out.length, l.answer);
@@ -213,6 +224,8 @@ namespace calls {
 const Call recognise = {"recognise", engine_recognise, second_recognise, numbers({{20, 20}}, {"done"}), answered_kind};
 const Call check_text = {"check_text", engine_check_text, second_check_text, numbers({{1, 8}}, {"done"}), answered_kind};
 const Call read = {"read", engine_read, second_read, numbers({{1, 8}, {24, 24}}, {"done"}), answered_kind};
+const Call read_tree = {"read_tree", engine_read_tree, second_read_tree,
+                        numbers({{2, 2}, {4, 6}, {24, 24}, {48, 48}}, {"47 at 1", "47 at 2", "47 at 3", "47 at 4", "47 at 5", "47 at 6", "done"}), drawn_kind};
 const Call write = {"write", engine_write, second_write, numbers({{20, 20}, {24, 24}}, {"done"}), answered_kind};
 const Call start = {"start", engine_start, second_start, numbers({{20, 20}}, {"done"}), answered_kind};
 const Call component = {"component", engine_component, second_component, numbers({{10, 14}, {20, 20}, {25, 25}}, {"done"}), answered_kind};
@@ -239,8 +252,8 @@ const Call merge = {"merge", engine_merge, second_merge, numbers({{10, 17}, {20,
 const Call report = {"report", engine_report, second_report, numbers({{1, 19}, {21, 22}, {24, 24}}, {"stable", "unsettled"}), printed_kind};
 const Call advance = {"advance", engine_advance, second_advance, numbers({{10, 17}, {20, 21}}, {"moved", "stable"}), answered_kind};
 
-const Call* const all[22] = {&recognise, &check_text,  &read,    &write,        &start,             &component,  &compatible, &accept,
-                             &confluent, &step,        &step_by, &settle,       &settle_list,       &orderly,    &settle_after, &settle_list_after,
-                             &timed_step, &simulate,   &merge,   &repair,       &report,            &advance};
+const Call* const all[23] = {&recognise, &check_text, &read,   &read_tree, &write,       &start,   &component,    &compatible,
+                             &accept,    &confluent,  &step,   &step_by,   &settle,      &settle_list, &orderly,  &settle_after,
+                             &settle_list_after, &timed_step, &simulate, &merge, &repair, &report,  &advance};
 
 }  // namespace calls

@@ -17,10 +17,10 @@ struct Call {
 
 namespace calls {
 
-extern const Call recognise, check_text, read, write, start, component, compatible, accept, confluent, step, step_by, settle, settle_list, orderly,
+extern const Call recognise, check_text, read, read_tree, write, start, component, compatible, accept, confluent, step, step_by, settle, settle_list, orderly,
     settle_after, settle_list_after, timed_step, simulate, merge, repair, report, advance;
 
 // In the order of the header.
-extern const Call* const all[22];
+extern const Call* const all[23];
 
 }  // namespace calls

@@ -6,6 +6,7 @@
 #include "path.hpp"
 #include "reach.hpp"
 #include "text_writing.hpp"
+#include "tree.hpp"
 
 namespace drawing {
 namespace {
@@ -98,6 +99,73 @@ second::Model not_alone(Random& random) {
   const second::Model closed = second::generate(random, second::Family::orderly, of_size);
   const unsigned style = random.below(10);
   return style < 6 ? closed : style < 9 ? turned(random, closed) : opened(random, closed);
+}
+
+namespace {
+
+std::string text_of(second::Tree tree) {
+  static const char* const words[] = {"be", "and", "or", "pand", "rbox"};
+  std::sort(tree.elements.begin(), tree.elements.end(), [](const second::Element& a, const second::Element& b) { return a.number < b.number; });
+  std::string text;
+  for (const second::Element& element : tree.elements) {
+    text += words[static_cast<unsigned>(element.sort)] + ('\t' + std::to_string(element.number));
+    for (unsigned input : element.inputs) text += '\t' + std::to_string(input);
+    text += '\n';
+  }
+  return text;
+}
+
+bool is_gate(const second::Element& element) { return element.sort != second::Sort::be && element.sort != second::Sort::rbox; }
+bool is_box(const second::Element& element) { return element.sort == second::Sort::rbox; }
+
+// The numbers that some element has as an input.
+second::Set inputs_of(const second::Tree& tree) {
+  second::Set used = 0;
+  for (const second::Element& element : tree.elements)
+    for (unsigned input : element.inputs) used |= second::only(input);
+  return used;
+}
+
+}  // namespace
+
+std::string misdrawn_tree(Random& random, unsigned condition) {
+  const auto of_size = size(random);
+  second::Tree tree = second::tree_of_text(second::generate_tree(random, of_size)).tree;
+  std::vector<second::Element>& elements = tree.elements;
+  second::Set taken = 0;
+  for (const second::Element& element : elements) taken |= second::only(element.number);
+  const unsigned fresh = member(random, ~taken);
+  // Some element that is such, or none.
+  const auto some = [&](auto is) -> second::Element* {
+    const unsigned from = random.below(elements.size());
+    for (std::size_t n = 0; n < elements.size(); ++n)
+      if (second::Element& element = elements[(from + n) % elements.size()]; is(element)) return &element;
+    return nullptr;
+  };
+  const second::Set used = inputs_of(tree);
+  second::Element* gate = some(is_gate);
+  second::Element* below = some([&](const second::Element& e) { return is_gate(e) && second::has(used, e.number); });
+  second::Element* top = some([&](const second::Element& e) { return !is_box(e) && !second::has(used, e.number); });
+  second::Element* box = some(is_box);
+  switch (condition) {
+    case 1:
+      if (below != nullptr && random.chance(60)) below->inputs[random.below(2)] = top->number;
+      else if (gate != nullptr) gate->inputs[random.below(2)] = gate->number;
+      break;
+    case 2: elements.push_back({second::Sort::be, fresh, {}}); break;
+    case 3:
+      if (box != nullptr && box->inputs.size() < 5) box->inputs.push_back(box->inputs[random.below(box->inputs.size())]);
+      break;
+    case 4:
+      if (box != nullptr) elements.push_back({second::Sort::rbox, fresh, {box->number}});
+      break;
+    case 5:
+      if (below != nullptr) elements.push_back({second::Sort::rbox, fresh, {below->number}});
+      break;
+    default:
+      if (box != nullptr) elements.push_back({second::Sort::rbox, fresh, {box->inputs[random.below(box->inputs.size())]}});
+  }
+  return text_of(tree);
 }
 
 std::string misfit_text(Random& random, std::string text) {

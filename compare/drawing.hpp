@@ -38,6 +38,10 @@ second::Model opened(Random& random, second::Model model);
 // not declared, not ascending, or of wrong shape. Mostly in a row with a list of resets.
 std::string misfit_text(Random& random, std::string text);
 
+// The text of a well-formed tree with one thing drawn wrong, so that it breaks this condition, 1 to 6, and none below it; where the tree that was
+// drawn has no place for that, the tree itself.
+std::string misdrawn_tree(Random& random, unsigned condition);
+
 // The same table, at times with words of noise behind it: they are neither read nor changed.
 Table lengthened(Random& random, Table table);
 

@@ -38,6 +38,14 @@ void try_texts(Random& random, const std::string& text) {
   try_text(drawing::bytes_of(drawing::misfit_text(random, text)), drawing::odd_room(random));
 }
 
+// One tree, good or not.
+Comparison try_tree(Random& random, const std::string& tree) {
+  Loan loan;
+  loan.bytes = drawing::bytes_of(tree);
+  loan.into = drawing::odd_room(random);
+  return try_call(calls::read_tree, loan);
+}
+
 // The lists last or do not, or the text is damaged; at times there are too many rounds or not 64 values, of which the first decides.
 void try_simulation(Random& random, const Table& table, const Drawn& drawn) {
   Loan loan;
@@ -131,6 +139,31 @@ void try_not_alone(Random& random) {
   for (const Call* call : {&calls::confluent, &calls::orderly, &calls::settle}) try_call(*call, loan);
   for (unsigned turn = 0; turn < 3; ++turn) try_walk(random, table, drawn);
   try_simulation(random, table, drawn);
+}
+
+// A tree, the same damaged, and one that breaks a condition; then the model of the first: its tests, its text, settling after paths and a simulation.
+void try_trees(Random& random) {
+  const auto size = drawing::size(random);
+  const std::string tree = second::generate_tree(random, size);
+  std::string damaged = tree;
+  for (unsigned turn = 0; turn < 3; ++turn) {
+    damaged = second::damaged_tree(random, damaged);
+    try_tree(random, damaged);
+  }
+  const unsigned condition = random.between(1, 6);
+  try_tree(random, drawing::misdrawn_tree(random, condition));
+  const Comparison made = try_tree(random, tree);
+  if (made.second.answer.kind == FLOODNEEDLE_REFUSED) return;
+  Loan loan;
+  loan.table = made.left.into.content();
+  hold("a tree's model is accepted", try_call(calls::accept, loan).engine.answer.kind == FLOODNEEDLE_DONE, where);
+  hold("a tree's model passes the test", try_call(calls::orderly, loan).engine.answer.kind == FLOODNEEDLE_DONE, where);
+  try_call(calls::confluent, loan);
+  loan.out = drawing::noise_bytes(random, second::max_text);
+  try_call(calls::write, loan);
+  const Drawn drawn(*second::model_of_image(lent(loan.table)));
+  try_walk(random, loan.table, drawn);
+  try_simulation(random, loan.table, drawn);
 }
 
 // A model that lacks rows of inputs is repaired, then checked, repaired again and written.
@@ -239,6 +272,7 @@ void try_nonsense(Random& random) {
   const std::size_t bytes = random.below(300);
   const Bytes nonsense = drawing::noise_bytes(random, bytes);
   try_text(nonsense, drawing::odd_room(random));
+  try_tree(random, std::string(nonsense.begin(), nonsense.end()));
   Loan loan;
   loan.table = drawing::noise(random, second::image_words);
   try_call(calls::recognise, loan);
@@ -258,6 +292,7 @@ void try_input(std::uint64_t seed, std::uint64_t index) {
   try_repairs(random, drawn);
   try_plant(random);
   try_not_alone(random);
+  try_trees(random);
   if (index % 4 == 0) try_report(random, drawn);
   if (index % 16 == 0) try_nonsense(random);
   for (unsigned n = 0; n < aims_for_a_model; ++n) {

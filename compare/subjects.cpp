@@ -3,6 +3,7 @@
 #include "generate.hpp"
 #include "random.hpp"
 #include "samples.hpp"
+#include "table.hpp"
 #include "text_writing.hpp"
 #include "texts.hpp"
 
@@ -213,6 +214,25 @@ Subject triggering(unsigned states) {
     add_row(component, s, s, 0, (s + 1) % states);
   }
   return subject(counted(states, "that trigger one another"), {{component}});
+}
+
+Subject chained_tree(unsigned basic, unsigned boxed, unsigned gates, unsigned pands) {
+  std::string text, box;
+  unsigned top = 0;
+  for (unsigned b = 0; b < basic; ++b) text += "be\t" + std::to_string(b) + "\n";
+  for (unsigned g = 0; g < gates + pands; ++g) {
+    const unsigned other = g + 1 < basic ? g + 1 : g % basic;
+    text += std::string(g < gates ? "or\t" : "pand\t") + std::to_string(basic + g) + "\t" + std::to_string(top) + "\t" + std::to_string(other) + "\n";
+    top = basic + g;
+  }
+  for (unsigned b = 0; b < boxed; ++b) box += "\t" + std::to_string(b);
+  if (boxed > 0) text += "rbox\t" + std::to_string(basic + gates + pands) + box + "\n";
+  Table table(second::image_words);
+  const Bytes tree(text.begin(), text.end());
+  second::read_tree(lent(tree), {table.data(), table.size()});
+  Subject of = subject(counted(basic + gates + pands + (boxed > 0 ? 1 : 0), "elements of a tree"), *second::model_of_image(lent(table)));
+  of.text = tree;
+  return of;
 }
 
 Bytes path_of(const Subject& of, unsigned steps) {

@@ -48,6 +48,9 @@ Subject in_turn(unsigned sources);
 // One component of so many states and urgent outputs, each of which triggers the next; it never settles.
 Subject triggering(unsigned states);
 
+// A fault tree of so many basic elements, the first of them in one box, below a chain of gates, of which the last are PAND. Its text is the tree's.
+Subject chained_tree(unsigned basic, unsigned boxed, unsigned gates, unsigned pands);
+
 // A path of so many steps from the model's start, or as many as there are.
 Bytes path_of(const Subject& of, unsigned steps);
 

@@ -26,9 +26,11 @@ struct Held {
   std::uint64_t missed = 0;
 };
 
-// Merging must not matter (compare/alike.cpp), nor the order of urgent steps after a path (compare/random_inputs.cpp).
-std::map<std::string, Held> held = {{"any order after a path ends alike", {}}, {"10 to 17 passed again", {}},           {"18 passed again", {}},      {"settle alike, merged or not", {}},
-                                    {"settle_list alike, merged or not", {}}, {"23 at the same index", {}}, {"three merged either way", {}}};
+// Merging must not matter (compare/alike.cpp), nor the order of urgent steps after a path, and every tree's model is one to settle and to simulate
+// (compare/random_inputs.cpp).
+std::map<std::string, Held> held = {{"any order after a path ends alike", {}}, {"10 to 17 passed again", {}},      {"18 passed again", {}},
+                                    {"settle alike, merged or not", {}},       {"settle_list alike, merged or not", {}}, {"23 at the same index", {}},
+                                    {"three merged either way", {}},           {"a tree's model is accepted", {}}, {"a tree's model passes the test", {}}};
 std::uint64_t compared = 0;
 
 unsigned long long plain(std::uint64_t number) { return number; }

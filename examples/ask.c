@@ -1,5 +1,6 @@
 /* One call of the C library from the command line: it reads a model text from standard input, makes the call and prints its answer on one line.
  * usage: ask VERB WORDS.. < MODEL
+ *        ask tree VERB WORDS.. < TREE         the same call on the model of a repairable fault tree; ask tree alone tells whether it is read
  *   accept | confluent | orderly | start       no words; of the start its state and the clocks set there are told
  *   component I | merge I                      a component's number
  *   compatible                                 no words
@@ -11,7 +12,7 @@
  *   timed STATE VALUES                         the values of clocks 0, 1, .. joined by commas; the others are 0
  *   simulate ROUNDS SAMPLES                    the samples as their text, with a comma for each tab and a semicolon for each LF, or - for none;
  *                                              told are the rounds done, the state, and the values of the clocks
- *   write BYTES                                the text into a buffer of so many bytes
+ *   write BYTES | text                         the text into a buffer of so many bytes; the text itself
  *   nothing                                    accept, on a table of zeros
  *   version                                    the version that was linked; no model is read
  * A refusal is printed as the program `settle` prints it. */
@@ -126,12 +127,15 @@ static void print_answer(size_t n) {
   printf("\n");
 }
 
-static int merge(uint64_t i) {
-  floodneedle_merge(table, FLOODNEEDLE_TABLE, i, merged, FLOODNEEDLE_TABLE, &answer);
-  if (answer.kind != FLOODNEEDLE_DONE) return 0;
-  floodneedle_write(merged, FLOODNEEDLE_TABLE, text, sizeof text, &answer);
+static int print_text(const uint64_t *of) {
+  floodneedle_write(of, FLOODNEEDLE_TABLE, text, sizeof text, &answer);
   fwrite(text, 1, (size_t)answer.count, stdout);
   return 1;
+}
+
+static int merge(uint64_t i) {
+  floodneedle_merge(table, FLOODNEEDLE_TABLE, i, merged, FLOODNEEDLE_TABLE, &answer);
+  return answer.kind == FLOODNEEDLE_DONE ? print_text(merged) : 0;
 }
 
 /* Settling after a path, by rule with a budget or by list. */
@@ -192,6 +196,7 @@ static int call(int words, char **word, size_t *n) {
   if (words == 2 && strcmp(verb, "orderly") == 0) return floodneedle_orderly(table, FLOODNEEDLE_TABLE, &answer), 0;
   if (words == 4 && strcmp(verb, "after") == 0) return settle_after(word[2], word[3], 0, n), 0;
   if (words == 4 && strcmp(verb, "list-after") == 0) return settle_after(word[2], 0, word[3], n), 0;
+  if (words == 2 && strcmp(verb, "text") == 0) return print_text(table);
   if (words == 2 && strcmp(verb, "compatible") == 0) return floodneedle_compatible(table, FLOODNEEDLE_TABLE, &answer), 0;
   if (words == 3 && strcmp(verb, "component") == 0)
     return floodneedle_component(table, FLOODNEEDLE_TABLE, strtoull(word[2], 0, 10), &answer), 0;
@@ -218,7 +223,7 @@ static int call(int words, char **word, size_t *n) {
 
 int main(int words, char **word) {
   size_t n = 0;
-  int printed;
+  int printed, tree;
   if (words < 2) return usage();
   if (strcmp(word[1], "version") == 0) {
     printf("%llu\n", (unsigned long long)floodneedle_version());
@@ -227,8 +232,10 @@ int main(int words, char **word) {
   if (strcmp(word[1], "nothing") == 0) {
     floodneedle_accept(table, FLOODNEEDLE_TABLE, &answer);
   } else {
-    floodneedle_read(text, read_text(), table, FLOODNEEDLE_TABLE, &answer);
-    printed = answer.kind == FLOODNEEDLE_DONE ? call(words, word, &n) : 0;
+    tree = strcmp(word[1], "tree") == 0;
+    (tree ? floodneedle_read_tree : floodneedle_read)(text, read_text(), table, FLOODNEEDLE_TABLE, &answer);
+    printed = 0;
+    if (answer.kind == FLOODNEEDLE_DONE && words > 1 + tree) printed = call(words - tree, word + tree, &n);
     if (printed < 0) return usage();
     if (printed > 0) return 0;
   }

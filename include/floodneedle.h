@@ -22,8 +22,8 @@
  *
  * Stack, in bytes, the deepest seen of each call (`make -C compare stack` measures it, and holds these numbers to it):
  *   recognise 240, check_text 832, read 1376, write 400, start 496, component 1568, compatible 656, accept 1872, confluent 2128, merge 2048,
- *   repair 368, step 2224, advance 2288, step_by 2016, settle 2736, settle_list 2688, timed_step 2048, simulate 11800,
- *   orderly 6968, settle_after 7928, settle_list_after 7928,
+ *   repair 368, step 2224, advance 2288, step_by 2016, settle 2736, settle_list 2688, timed_step 2048, simulate 12096,
+ *   orderly 7264, settle_after 8224, settle_list_after 8224, read_tree 5104,
  *   report 70384 (it keeps a table of its own).
  *
  * A model is a text (docs/MODEL.md), without the request line that the program `settle` reads in front of it. A table is what
@@ -74,8 +74,9 @@ enum floodneedle_refusal {
   FLOODNEEDLE_LINE_MISSHAPEN = 2,        /* a line is not of the shape of its kind, or the last has no LF; line, column */
   FLOODNEEDLE_LINE_OUT_OF_TURN = 3,      /* a line before the first comp, or act, clk, row not in this order */
   FLOODNEEDLE_NUMBER_OUT_OF_RANGE = 4,   /* a number in a line is outside its range; line, column */
-  FLOODNEEDLE_NOT_DECLARED = 5,          /* a row names an action or a clock that its component did not declare; line, column */
-  FLOODNEEDLE_NOT_ASCENDING = 6,         /* lines of one kind, or clocks of a resets field, do not ascend */
+  FLOODNEEDLE_NOT_DECLARED = 5,          /* a row names an action or a clock that its component did not declare, or an element of a
+                                          * tree an input that no line defines; line, column */
+  FLOODNEEDLE_NOT_ASCENDING = 6,         /* lines of one kind, clocks of a resets field, or elements of a tree do not ascend */
   FLOODNEEDLE_TOO_MANY = 7,              /* a component or a row too many */
   FLOODNEEDLE_NO_COMPONENT = 8,          /* the text is empty */
   FLOODNEEDLE_REQUEST_MISSHAPEN = 9,     /* the program's request line, which no call here answers */
@@ -104,7 +105,9 @@ enum floodneedle_refusal {
   FLOODNEEDLE_SAMPLES_RAN_OUT = 41,      /* simulation: a clock that is due a sample has none left */
   FLOODNEEDLE_ROUND_UNSETTLED = 42,      /* simulation: a round does not settle; the round, from 0 */
   FLOODNEEDLE_INPUT_OPEN = 45,           /* an action that is heard and nobody's output; the lowest such action */
-  FLOODNEEDLE_PATH_NOT_POSSIBLE = 46     /* a step of the path is not possible where it is taken; its index, from 0 */
+  FLOODNEEDLE_PATH_NOT_POSSIBLE = 46,    /* a step of the path is not possible where it is taken; its index, from 0 */
+  FLOODNEEDLE_TREE_ILL_FORMED = 47,      /* a condition of well-formed trees is broken; its number, 1 to 6 */
+  FLOODNEEDLE_TREE_TOO_LARGE = 48        /* the model of the tree would exceed a limit */
 };
 
 struct floodneedle_answer {
@@ -148,6 +151,15 @@ void floodneedle_check_text(const uint8_t *text, size_t text_bytes, struct flood
  * model. Nothing is written before the last line is checked.
  * Refuses: as check_text, then 24 (bytes needed: 8 for each of FLOODNEEDLE_TABLE words). */
 void floodneedle_read(const uint8_t *text, size_t text_bytes, uint64_t *table, size_t table_words, struct floodneedle_answer *answer);
+
+/* Reads the text of a repairable fault tree into the table (docs/TREES.md): done exactly where the bytes are the text of a well-formed tree
+ * whose model keeps to the limits, and then the table's front is the image of that model, one component for each line. The model is accepted.
+ * Nothing is written before all of it is checked.
+ * Refuses: line by line 2, 4, 6, by the shapes of a tree's lines and with places as check_text has them; then 5 (line and column of the
+ * first input that no line defines); 47 (the number of the lowest condition that is broken: 1 an element reaches itself, 2 there is not
+ * exactly one top, 3 an input twice in one element, 4 a box is an input, 5 a box repairs what is no basic element, 6 an element is in two
+ * boxes); 48; 24 (bytes needed: 8 for each of FLOODNEEDLE_TABLE words). */
+void floodneedle_read_tree(const uint8_t *text, size_t text_bytes, uint64_t *table, size_t table_words, struct floodneedle_answer *answer);
 
 /* Writes the one text of the table's model to the buffer's front; `count` is its length. Reading it again gives the same image.
  * Refuses: 20, 24 (bytes needed). */

@@ -25,6 +25,7 @@ void try_stated() {
   stated_runs();
   stated_reached();
   stated_orderly();
+  stated_trees();
   stated_clocks();
   stated_simulations();
   stated_merges();

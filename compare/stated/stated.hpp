@@ -17,6 +17,7 @@ void stated_components();
 void stated_runs();
 void stated_reached();
 void stated_orderly();
+void stated_trees();
 void stated_clocks();
 void stated_simulations();
 void stated_merges();

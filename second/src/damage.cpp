@@ -122,6 +122,93 @@ std::string damaged_text(Random& random, std::string text) {
   return text;
 }
 
+std::string damaged_laws(Random& random, std::string text) {
+  static const Lines fields_of_laws = {"0000000000000000", "8000000000000000", "3ff0000000000000", "3fefffffffffffff", "3ff0000000000001",
+                                       "4270000000000000", "4270000000000001", "7ff0000000000000", "fff0000000000000", "7ff8000000000000",
+                                       "7ff0000000000001", "ffffffffffffffff", "bff0000000000000", "0000000000000001", "3FF0000000000000",
+                                       "3ff000000000000", "3ff00000000000000", "uni", "mix", "exp", "0", "63", ""};
+  for (unsigned count = random.between(1, 2); count > 0; --count) {
+    Lines lines = lines_of(text);
+    const unsigned what = random.below(10);
+    if (what < 2 || lines.empty()) damage_bytes(random, text);
+    else if (what < 4) damage_lines(random, text);
+    else {
+      std::string& line = lines[random.below(lines.size())];
+      Lines fields;
+      for (std::string_view field : parted(line, '\t')) fields.emplace_back(field);
+      const std::size_t at = random.below(fields.size());
+      if (random.chance(10)) fields.push_back(fields[at]);
+      else fields[at] = random.pick(fields_of_laws);
+      line = fields[0];
+      for (std::size_t f = 1; f < fields.size(); ++f) line += '\t' + fields[f];
+      text = text_of(lines);
+    }
+  }
+  return text;
+}
+
+std::string damaged_named(Random& random, std::string text) {
+  static const Lines names = {"", "a", "a0", "a1", "a63", "a64", "A0", "0a", "-", "x y", "a\r", "abcdefghijklmnop", "abcdefghijklmnopq", "z9"};
+  static const Lines lines_of_form = {"form\t2", "form\t1", "form\t02", "form\t2\t", "form", "name\t0\tx", "name\t63\tzz", "name\t64\tx",
+                                      "name\t1", "name\t1\t", "name\tx\t1", "act\ta0\tin", "act\tnone\tin", "act\t\tin", "row\t0\t-\tnone\t-\t0",
+                                      "comp\t1\t0"};
+  for (unsigned count = random.between(1, 3); count > 0; --count) {
+    Lines lines = lines_of(text);
+    const unsigned what = random.below(100);
+    if (what < 20 || lines.empty()) damage_bytes(random, text);
+    else if (what < 45) damage_lines(random, text);
+    else if (what < 65) {
+      const unsigned at = random.below(lines.size() + 1);
+      lines.insert(lines.begin() + at, random.pick(lines_of_form));
+      text = text_of(lines);
+    } else {
+      std::string& line = lines[random.below(lines.size())];
+      Lines fields;
+      for (std::string_view field : parted(line, '\t')) fields.emplace_back(field);
+      const std::size_t at = fields[0] == "row" ? 3 : fields[0] == "name" ? 2 : 1;
+      if (at < fields.size()) fields[at] = random.pick(names);
+      line = fields[0];
+      for (std::size_t f = 1; f < fields.size(); ++f) line += '\t' + fields[f];
+      text = text_of(lines);
+    }
+  }
+  return text;
+}
+
+std::string damaged_tree(Random& random, std::string text) {
+  static const Lines tree_lines = {"be\t0", "be\t63", "be\t64", "and\t5\t5\t6", "or\t62\t0\t1", "pand\t63\t0\t0", "rbox\t63\t0",
+                                   "rbox\t60\t1\t2\t3\t4\t5\t6", "rbox\t61", "be\t1\t2", "sbe\t1", "and\t1\t2", ""};
+  static const Lines words = {"be", "and", "or", "pand", "rbox", "fdep", "comp"};
+  for (unsigned count = random.between(1, 3); count > 0; --count) {
+    Lines lines = lines_of(text);
+    const unsigned what = random.below(100);
+    if (what < 15 || lines.empty()) damage_bytes(random, text);
+    else if (what < 30) damage_lines(random, text);
+    else if (what < 45) {
+      const unsigned at = random.below(lines.size() + 1);
+      lines.insert(lines.begin() + at, random.pick(tree_lines));
+      text = text_of(lines);
+    } else {
+      // An input exchanged for another number that stands somewhere, or the word for another.
+      std::string& line = lines[random.below(lines.size())];
+      const Lines other_fields = [&] {
+        Lines fields;
+        for (std::string_view field : parted(lines[random.below(lines.size())], '\t')) fields.emplace_back(field);
+        return fields;
+      }();
+      Lines fields;
+      for (std::string_view field : parted(line, '\t')) fields.emplace_back(field);
+      if (random.chance(25)) fields[0] = random.pick(words);
+      else if (random.chance(30)) fields.push_back(other_fields.back());
+      else fields.back() = other_fields.size() > 1 ? other_fields[1] : fields.back();
+      line = fields[0];
+      for (std::size_t f = 1; f < fields.size(); ++f) line += '\t' + fields[f];
+      text = text_of(lines);
+    }
+  }
+  return text;
+}
+
 std::string damaged_samples(Random& random, std::string text) {
   static const Lines odd_samples = {"0", "1", "01", "5", "63", "64", "007", "1099511627776", "1099511627777", "9999999999999",
                                     "10000000000000", "-5", "+5", "", "5 ", "5.0", "1,2", "\r", "0\t5", "5\t", "\t5"};

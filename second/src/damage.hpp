@@ -13,6 +13,9 @@ namespace second {
 // Some damage leaves the text good, or good again.
 std::string damaged_text(Random& random, std::string text);
 
+std::string damaged_laws(Random& random, std::string text);
+std::string damaged_named(Random& random, std::string text);
+std::string damaged_tree(Random& random, std::string text);
 std::string damaged_samples(Random& random, std::string text);
 
 // A request line with its LF.

@@ -88,6 +88,22 @@ std::string generate_exact_samples(Random& random, const Model& model, std::uint
 std::string generate_scant_samples(Random& random, const Model& model, std::uint64_t rounds);
 std::string generate_odd_samples(Random& random, const Model& model, unsigned most);
 
+// A distribution for each declared clock; the odd ones have ends and weights out of order or out of
+// range, NaNs and infinities, or lines, fields and bytes damaged. Numbers for up to 10 rows of 64.
+std::string generate_laws(Random& random, const Model& model);
+std::string generate_odd_laws(Random& random, const Model& model);
+std::vector<std::uint64_t> generate_numbers(Random& random);
+
+// The model in the second form, by default names or by others; the odd one has lines, fields, names and
+// bytes damaged.
+std::string generate_named(Random& random, const Model& model);
+std::string generate_odd_named(Random& random, const Model& model);
+
+// The text of a tree of basic elements, gates and boxes; a large one may pass a limit. The odd one has
+// lines, fields and bytes damaged, or breaks a condition.
+std::string generate_tree(Random& random, Size size);
+std::string generate_odd_tree(Random& random, Size size);
+
 // A merge index: a good one, or any up to 2^64 - 1.
 std::uint64_t generate_index(Random& random, const Model& model);
 

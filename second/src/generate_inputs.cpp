@@ -1,8 +1,11 @@
-// What is lent beside a model: states, budgets, lists, clock values, samples, merge indices.
+// What is lent beside a model: states, budgets, lists, clock values, samples, names, merge indices.
+#include <set>
+
 #include "active.hpp"
 #include "composition.hpp"
 #include "damage.hpp"
 #include "generate.hpp"
+#include "names.hpp"
 #include "path.hpp"
 #include "reach.hpp"
 #include "samples.hpp"
@@ -239,6 +242,38 @@ std::vector<std::uint8_t> generate_odd_path(Random& random, const Model& model) 
     default: break;
   }
   return path;
+}
+
+namespace {
+
+// Whether it might be another action's default.
+bool like_default(const std::string& name) {
+  return name[0] == 'a' && name.size() > 1 && name.size() < 4 && name[1] >= '0' && name[1] <= '9';
+}
+
+}  // namespace
+
+std::string generate_named(Random& random, const Model& model) {
+  Sheet sheet = default_sheet(model);
+  if (random.chance(30)) return named_text_of_model(model, sheet);
+  const unsigned most = random.pick(std::vector<unsigned>{2, 4, 16});
+  std::set<std::string> given;
+  for (auto& name : sheet) {
+    if (!name || random.chance(20)) {
+      if (name) given.insert(*name);
+      continue;
+    }
+    do {
+      name = std::string(1, static_cast<char>('a' + random.below(26)));
+      for (unsigned length = random.below(most); length > 0; --length)
+        *name += "abcdefghijklmnopqrstuvwxyz0123456789"[random.below(36)];
+    } while (like_default(*name) || !given.insert(*name).second);
+  }
+  return named_text_of_model(model, sheet);
+}
+
+std::string generate_odd_named(Random& random, const Model& model) {
+  return damaged_named(random, generate_named(random, model));
 }
 
 std::string generate_samples(Random& random, const Model& model, unsigned most) {

@@ -3,15 +3,6 @@
 namespace second {
 namespace {
 
-bool scan_kind(Scan& scan, Kind& kind) {
-  if (!scan.byte('\t')) return false;
-  const auto which = scan.word({"in", "out", "uin", "uout"});
-  if (!which) return false;
-  constexpr Kind kinds[] = {Kind::in, Kind::out, Kind::uin, Kind::uout};
-  kind = kinds[*which];
-  return true;
-}
-
 bool scan_comp(Scan& scan, CompLine& line) {
   return scan_number(scan, line.states) && scan_number(scan, line.start) && scan.byte('\n');
 }
@@ -37,6 +28,15 @@ std::optional<Line> shaped(Scan& scan, bool (*fields)(Scan&, Shape&)) {
 }
 
 }  // namespace
+
+bool scan_kind(Scan& scan, Kind& kind) {
+  if (!scan.byte('\t')) return false;
+  const auto which = scan.word({"in", "out", "uin", "uout"});
+  if (!which) return false;
+  constexpr Kind kinds[] = {Kind::in, Kind::out, Kind::uin, Kind::uout};
+  kind = kinds[*which];
+  return true;
+}
 
 bool scan_number(Scan& scan, Number& number) {
   if (!scan.byte('\t')) return false;

@@ -40,6 +40,8 @@ std::optional<Line> shape_of(Scan& scan);
 bool scan_guard(Scan& scan, std::optional<Number>& guard);
 bool scan_resets(Scan& scan, std::vector<Number>& resets);
 
+bool scan_kind(Scan& scan, Kind& kind);
+
 // A number behind its tab.
 bool scan_number(Scan& scan, Number& number);
 

@@ -32,15 +32,6 @@ std::optional<Request> request_in(std::string_view input) {
   return Request{std::move(*state), *budget, input.substr(end + 1)};
 }
 
-std::string refused_line(const Refusal& refusal) {
-  std::string line = "refused\t" + std::to_string(refusal.number) + '\t';
-  for (std::uint64_t p = 0; p < refusal.places; ++p) {
-    if (p > 0) line += ',';
-    line += std::to_string(refusal.place[p]);
-  }
-  return line + '\n';
-}
-
 std::string run_lines(const Run& run) {
   std::string lines;
   for (std::size_t m = 0; m < run.moves.size(); ++m) {
@@ -54,6 +45,15 @@ std::string run_lines(const Run& run) {
 }
 
 }  // namespace
+
+std::string refused_line(const Refusal& refusal) {
+  std::string line = "refused\t" + std::to_string(refusal.number) + '\t';
+  for (std::uint64_t p = 0; p < refusal.places; ++p) {
+    if (p > 0) line += ',';
+    line += std::to_string(refusal.place[p]);
+  }
+  return line + '\n';
+}
 
 std::string report(Bytes input) {
   const auto request = request_in({reinterpret_cast<const char*>(input.front), input.length});

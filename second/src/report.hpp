@@ -4,10 +4,14 @@
 #include <string>
 
 #include "lent.hpp"
+#include "refusal.hpp"
 
 namespace second {
 
 std::string report(Bytes input);
+
+// A refusal as the program prints it.
+std::string refused_line(const Refusal& refusal);
 
 // A prefix of this length settles the report of any longer input: the request line ends within
 // it or is 9, and the text is then over its limit or ends within it.

@@ -26,6 +26,12 @@ std::optional<unsigned> Scan::word(std::initializer_list<std::string_view> words
   }
 }
 
+std::string_view Scan::field() {
+  const std::size_t first = at;
+  while (at < text.size() && text[at] != '\t' && text[at] != '\n') ++at;
+  return text.substr(first, at - first);
+}
+
 std::optional<Number> Scan::number() {
   const std::uint64_t first = column();
   const auto value = digits(5);
@@ -41,6 +47,16 @@ std::optional<std::uint64_t> Scan::digits(unsigned most) {
     value = value * 10 + static_cast<std::uint64_t>(text[at] - '0');
     ++at;
     if (value == 0) break;  // behind a zero in front no digit can stand
+  }
+  return value;
+}
+
+std::optional<std::uint64_t> Scan::hexadecimal(unsigned count) {
+  std::uint64_t value = 0;
+  for (; count > 0; --count, ++at) {
+    const bool letter = at < text.size() && text[at] >= 'a' && text[at] <= 'f';
+    if (!letter && !next_is_digit()) return std::nullopt;
+    value = value * 16 + static_cast<std::uint64_t>(letter ? text[at] - 'a' + 10 : text[at] - '0');
   }
   return value;
 }

@@ -32,9 +32,15 @@ class Scan {
   // Which of these words stands here; none of them begins another.
   std::optional<unsigned> word(std::initializer_list<std::string_view> words);
 
+  // All bytes up to a tab, an LF or the end.
+  std::string_view field();
+
   // Decimal, so many digits at most, no needless zero in front.
   std::optional<Number> number();
   std::optional<std::uint64_t> digits(unsigned most);
+
+  // Just so many of 0-9 a-f, the highest first.
+  std::optional<std::uint64_t> hexadecimal(unsigned count);
 
  private:
   std::string_view text;

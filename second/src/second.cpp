@@ -8,7 +8,9 @@
 #include "acceptance.hpp"
 #include "compatible.hpp"
 #include "composition.hpp"
+#include "draws.hpp"
 #include "merging.hpp"
+#include "names.hpp"
 #include "path.hpp"
 #include "reach.hpp"
 #include "repairing.hpp"
@@ -18,6 +20,7 @@
 #include "text_reading.hpp"
 #include "text_writing.hpp"
 #include "timed.hpp"
+#include "tree_model.hpp"
 
 namespace second {
 namespace {
@@ -99,6 +102,15 @@ SettleAnswer settle_list_from(const Ground& on, Bytes list) {
   return settled(listed.run);
 }
 
+// As both simulations take them: 22, 28.
+Ground simulation_ground(Words table, std::uint64_t rounds, Ticks clocks) {
+  Ground found = ground(table, acceptance_and_either);
+  if (found.refusal) return found;
+  if (rounds > max_rounds) return {refuse(22, {0}), {}, {}};
+  if (clocks.length != clock_values) return {refuse(28, {0}), {}, {}};
+  return found;
+}
+
 std::string_view text_in(Bytes text) {
   return {reinterpret_cast<const char*>(text.front), static_cast<std::size_t>(text.length)};
 }
@@ -118,6 +130,14 @@ void put(const Model& model, WordsToWrite into) {
   std::copy(image.begin(), image.end(), into.front);
 }
 
+// A text in the other form: 24, 26.
+WriteAnswer converted(const std::string& text, BytesToWrite into) {
+  if (into.length < text.size()) return refused<WriteAnswer>(refuse(24, {text.size()}));
+  if (text.size() > max_text) return refused<WriteAnswer>(refuse(26, {0}));
+  std::copy(text.begin(), text.end(), into.front);
+  return {Refusal{}, text.size()};
+}
+
 }  // namespace
 
 Answer read(Bytes text, WordsToWrite into) {
@@ -128,6 +148,17 @@ Answer read(Bytes text, WordsToWrite into) {
   return {};
 }
 
+Answer read_tree(Bytes text, WordsToWrite into) {
+  const TreeReading reading = tree_of_text(text_in(text));
+  if (reading.refusal) return {reading.refusal};
+  if (Refusal broken = tree_conditions(reading.tree)) return {broken};
+  const TreeModel written = model_of_tree(reading.tree);
+  if (written.refusal) return {written.refusal};
+  if (into.length < image_words) return {refuse(24, {image_bytes})};
+  put(written.model, into);
+  return {};
+}
+
 WriteAnswer write(Words table, BytesToWrite into) {
   const auto model = model_of_image(table);
   if (!model) return refused<WriteAnswer>(refuse(20, {0}));
@@ -135,6 +166,18 @@ WriteAnswer write(Words table, BytesToWrite into) {
   if (into.length < text.size()) return refused<WriteAnswer>(refuse(24, {text.size()}));
   std::copy(text.begin(), text.end(), into.front);
   return {Refusal{}, text.size()};
+}
+
+WriteAnswer to_names(Bytes text, BytesToWrite into) {
+  const Reading reading = model_of_text(text_in(text));
+  if (reading.refusal) return refused<WriteAnswer>(reading.refusal);
+  return converted(named_text_of_model(reading.model, default_sheet(reading.model)), into);
+}
+
+WriteAnswer to_numbers(Bytes text, BytesToWrite into) {
+  const NamedReading reading = model_of_named_text(text_in(text));
+  if (reading.refusal) return refused<WriteAnswer>(reading.refusal);
+  return converted(text_of_model(reading.model), into);
 }
 
 Answer recognise(Words table) {
@@ -206,15 +249,34 @@ TimedAnswer timed_step(Words table, Bytes state, Ticks ticks) {
 }
 
 SimulateAnswer simulate(Words table, Bytes samples, std::uint64_t rounds, Ticks clocks) {
-  const Ground on = ground(table, acceptance_and_either);
+  const Ground on = simulation_ground(table, rounds, clocks);
   if (on.refusal) return refused<SimulateAnswer>(on.refusal);
-  if (rounds > max_rounds) return refused<SimulateAnswer>(refuse(22, {0}));
-  if (clocks.length != clock_values) return refused<SimulateAnswer>(refuse(28, {0}));
   const SampleReading reading = samples_of_text(text_in(samples), clocks_of(on.model));
   if (reading.refusal) return refused<SimulateAnswer>(reading.refusal);
   std::array<std::size_t, members> taken{};
   Supply supply{[&](unsigned clock) { return taken[clock] < reading.lists[clock].size(); },
                 [&](unsigned clock) { return reading.lists[clock][taken[clock]++]; }, 41};
+  return run_simulation(on.model, rounds, supply, clocks);
+}
+
+SimulateAnswer simulate_drawn(Words table, Bytes laws, Words numbers, std::uint64_t rounds, Ticks clocks) {
+  const Ground on = simulation_ground(table, rounds, clocks);
+  if (on.refusal) return refused<SimulateAnswer>(on.refusal);
+  const LawReading reading = laws_of_text(text_in(laws), clocks_of(on.model));
+  if (reading.refusal) return refused<SimulateAnswer>(reading.refusal);
+  std::array<std::uint64_t, members> taken{};
+  const auto place = [](std::uint64_t k, unsigned clock) { return members * k + clock; };
+  Supply supply{[&](unsigned clock) {
+                  return place(taken[clock] + reading.laws[clock].numbers() - 1, clock) < numbers.length;
+                },
+                [&](unsigned clock) {
+                  const Law& law = reading.laws[clock];
+                  const std::uint64_t first = numbers.front[place(taken[clock], clock)];
+                  const std::uint64_t second = law.mixture ? numbers.front[place(taken[clock] + 1, clock)] : 0;
+                  taken[clock] += law.numbers();
+                  return drawn(law, first, second);
+                },
+                50};
   return run_simulation(on.model, rounds, supply, clocks);
 }
 

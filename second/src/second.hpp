@@ -4,6 +4,7 @@
 
 #include <cstdint>
 
+#include "explain.hpp"
 #include "lent.hpp"
 #include "model.hpp"
 #include "refusal.hpp"
@@ -72,8 +73,14 @@ struct RepairAnswer {
 
 // 1 to 8, 24.
 Answer read(Bytes text, WordsToWrite into);
+// The text of a tree, and its model's image: 2, 4, 6 by line, 5, 47, 48, 24.
+Answer read_tree(Bytes text, WordsToWrite into);
 // 20, 24.
 WriteAnswer write(Words table, BytesToWrite into);
+// Old to new: as read but for 24; then 24 (of the new text), 26.
+WriteAnswer to_names(Bytes text, BytesToWrite into);
+// New to old: 1; lines in order, within a line 2 to 6, 43, 44, 7; 8; 44 (an unused name); 24, 26.
+WriteAnswer to_numbers(Bytes text, BytesToWrite into);
 // 20.
 Answer recognise(Words table);
 // 20. Where the system begins; a model that fails 10 to 18 has a start too.
@@ -104,6 +111,8 @@ SettleAnswer settle_list_after(Words table, Bytes path, Bytes list);
 TimedAnswer timed_step(Words table, Bytes state, Ticks ticks);
 // As accept; 45, 18 where neither test passes; then 22, 28, 40; then round by round 30, 42, 41. Writes the declared clocks.
 SimulateAnswer simulate(Words table, Bytes samples, std::uint64_t rounds, Ticks clocks);
+// The same over draws: 49 for 40 and 50 for 41. Number k of clock x is word 64 k + x.
+SimulateAnswer simulate_drawn(Words table, Bytes laws, Words numbers, std::uint64_t rounds, Ticks clocks);
 // Adds the missing self-loops of inputs in the lent table. 20, 24 (of the list), 26.
 RepairAnswer repair(WordsToWrite table, BytesToWrite list);
 // As accept, then 24, 25, 26.

@@ -19,7 +19,9 @@ void put_number(std::string& text, std::uint64_t number) {
   text += std::to_string(number);
 }
 
-void put_component(std::string& text, const Component& component) {
+// `put_action` puts the field of an action, behind its tab.
+template <class PutAction>
+void put_component(std::string& text, const Component& component, PutAction put_action) {
   text += "comp";
   put_number(text, component.states);
   put_number(text, component.start);
@@ -27,7 +29,7 @@ void put_component(std::string& text, const Component& component) {
   for (unsigned action = 0; action < members; ++action) {
     if (component.kind[action] == Kind::absent) continue;
     text += "act";
-    put_number(text, action);
+    put_action(text, action);
     text += '\t';
     text += word_of(component.kind[action]);
     text += '\n';
@@ -44,7 +46,7 @@ void put_component(std::string& text, const Component& component) {
     put_number(text, row.from);
     text += '\t';
     text += text_of_set(guard_set(row));
-    put_number(text, row.action);
+    put_action(text, row.action);
     text += '\t';
     text += text_of_set(row.resets);
     put_number(text, row.target);
@@ -56,7 +58,23 @@ void put_component(std::string& text, const Component& component) {
 
 std::string text_of_model(const Model& model) {
   std::string text;
-  for (const Component& component : model.components) put_component(text, component);
+  for (const Component& component : model.components) put_component(text, component, put_number);
+  return text;
+}
+
+std::string named_text_of_model(const Model& model, const Sheet& sheet) {
+  std::string text = "form\t2\n";
+  for (unsigned action = 0; action < members; ++action) {
+    if (!sheet[action]) continue;
+    text += "name";
+    put_number(text, action);
+    text += '\t' + *sheet[action] + '\n';
+  }
+  for (const Component& component : model.components)
+    put_component(text, component, [&](std::string& to, unsigned action) {
+      to += '\t';
+      to += *sheet[action];
+    });
   return text;
 }
 

@@ -14,16 +14,19 @@ std::uint64_t lent_digest = 0;
 
 const std::uint64_t all_refusals[] = {1,  2,  3,  4,  5,  6,  7,  8,  9,  10, 11, 12, 13, 14, 15,
                                       16, 17, 18, 19, 20, 21, 22, 23, 24, 25, 26, 27, 28, 29, 30,
-                                      40, 41, 42, 45, 46};
+                                      40, 41, 42, 43, 44, 45, 46, 47, 48, 49, 50};
 
 const char* const all_outcomes[] = {
     "read",          "written",          "recognised",     "accepted",       "confluent",
     "component",     "compatible",       "started",
     "step moved",    "step stable",      "step_by moved",  "settle stable",  "settle unsettled",
     "list stable",   "list unsettled",   "timed fired",    "timed quiet",    "merged",
-    "simulated",     "simulated to quiet",
+    "to names",      "to numbers",
+    "tree read",     "simulated",        "simulated to quiet",
+    "simulated by draws", "simulated by draws to quiet",
     "repaired",      "repaired nothing", "orderly",
     "settle_after stable", "settle_after unsettled", "list_after stable", "list_after unsettled",
+    "explain refused", "explain confluent", "explain clash",
     "report stable", "report unsettled", "report refused"};
 
 }  // namespace

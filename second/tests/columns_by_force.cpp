@@ -121,7 +121,7 @@ void test_columns_by_force() {
     }
   }
   second::Random random(15);
-  for (unsigned round = 0; round < 1500; ++round) {
+  for (unsigned round = 0; round < rounds(1500); ++round) {
     const Text text = second::text_of_model(second::generate(random, second::families[random.below(5)], second::Size::small));
     check_text(second::damaged_text(random, text));
   }

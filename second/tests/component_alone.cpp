@@ -83,7 +83,7 @@ void test_component_alone() {
   test_stated();
   test_places();
   second::Random random(14);
-  for (unsigned round = 0; round < 600; ++round) {
+  for (unsigned round = 0; round < rounds(600); ++round) {
     const auto size = round % 5 == 0 ? second::Size::medium : second::Size::small;
     const second::Model model = round % 3 == 0 ? second::generate(random, second::families[random.below(9)], size)
                                 : round % 3 == 1 ? second::generate_faulty(random, size)

@@ -118,7 +118,7 @@ void check_calls(Random& random, const Table& table, const Model& model) {
 
 void test_damaged_inputs() {
   Random random(9);
-  for (unsigned round = 0; round < 800; ++round) {
+  for (unsigned round = 0; round < rounds(800); ++round) {
     const Model model = drawn(random, round);
     const Text text = second::text_of_model(model);
     const Table table = second::image_of_model(model);
@@ -141,14 +141,14 @@ void test_damaged_inputs() {
     }
   }
   // Plain noise.
-  for (unsigned round = 0; round < 2000; ++round) {
+  for (unsigned round = 0; round < rounds(2000); ++round) {
     Text noise(random.below(300), '\0');
     for (char& byte : noise) byte = static_cast<char>(random.chance(30) ? "\t\n,-0"[random.below(5)] : random.below(256));
     check_text(noise);
     lend_report(noise);
     lend_report(tabbed("from 0 1\n") + noise);
   }
-  for (unsigned round = 0; round < 200; ++round) {
+  for (unsigned round = 0; round < rounds(200); ++round) {
     Table noise(second::image_words);
     for (std::uint64_t& word : noise) word = round % 2 == 0 ? random.next() : random.below(17);
     check(lend_recognise(noise).refusal == second::refuse(20, {0}), "noise is no image");

@@ -93,6 +93,8 @@ std::uint64_t digest(std::uint64_t seed) {
     of.take(second::generate_index(random, model));
     of.take_all(second::generate_path(random, model, 12));
     of.take_all(second::generate_odd_path(random, model));
+    of.take_text(second::generate_tree(random, size));
+    of.take_text(second::generate_odd_tree(random, size));
     of.take_text(second::generate_samples(random, model, 5));
     of.take_text(second::generate_odd_samples(random, model, 5));
     const Model plant = second::generate_plant(random, size);
@@ -103,6 +105,30 @@ std::uint64_t digest(std::uint64_t seed) {
     of.take_text(second::damaged_request(random, second::request_line(state, round)));
     of.take_all(second::damaged_table(random, second::image_of_model(model)));
     of.take_all(second::lengthened_table(random, second::image_of_model(model)));
+  }
+  return of.sum;
+}
+
+// A request's own inputs have a series of their own.
+std::uint64_t digest_of_named(std::uint64_t seed) {
+  second::Random random(seed);
+  Digest of;
+  for (unsigned round = 0; round < 100; ++round) {
+    const Model model = second::generate(random, second::families[round % 10], static_cast<second::Size>(round % 3));
+    of.take_text(second::generate_named(random, model));
+    of.take_text(second::generate_odd_named(random, model));
+  }
+  return of.sum;
+}
+
+std::uint64_t digest_of_laws(std::uint64_t seed) {
+  second::Random random(seed);
+  Digest of;
+  for (unsigned round = 0; round < 100; ++round) {
+    const Model model = second::generate_plant(random, static_cast<second::Size>(round % 3));
+    of.take_text(second::generate_laws(random, model));
+    of.take_text(second::generate_odd_laws(random, model));
+    of.take_all(second::generate_numbers(random));
   }
   return of.sum;
 }
@@ -130,6 +156,10 @@ void test_generator() {
   }
   // Drawn once and written down: another machine or compiler that draws otherwise shows here.
   const std::uint64_t drawn = digest(11);
-  check(drawn == 14746131583927256551u, "the series of seed 11, which is now " + std::to_string(drawn));
+  check(drawn == 16120887494946157370u, "the series of seed 11, which is now " + std::to_string(drawn));
   check(digest(11) != digest(12), "another seed, another series");
+  const std::uint64_t named = digest_of_named(11);
+  check(named == 3744692034784183731u, "the named series of seed 11, which is now " + std::to_string(named));
+  const std::uint64_t laws = digest_of_laws(11);
+  check(laws == 11937850901751476219u, "the series of laws of seed 11, which is now " + std::to_string(laws));
 }

@@ -92,6 +92,32 @@ second::Answer lend_read(const Text& text, Table& into) {
   return answer;
 }
 
+second::Answer lend_read_tree(const Text& text, Table& into) {
+  const Table before = into;
+  const auto answer = second::read_tree(lent(text), lent_to_write(into));
+  count(answer.refusal, "tree read");
+  check(same_from(before, into, answer.refusal ? 0 : second::image_words), "read_tree changes an image's words at most");
+  return answer;
+}
+
+second::WriteAnswer lend_to_names(const Text& text, Part& into) {
+  const Part before = into;
+  const auto answer = second::to_names(lent(text), lent_to_write(into));
+  count(answer.refusal, "to names");
+  check(!answer.refusal || answer.length == 0, "refused conversion holds zeros");
+  check(same_from(before, into, answer.length), "a conversion changes the text's bytes at most");
+  return answer;
+}
+
+second::WriteAnswer lend_to_numbers(const Text& text, Part& into) {
+  const Part before = into;
+  const auto answer = second::to_numbers(lent(text), lent_to_write(into));
+  count(answer.refusal, "to numbers");
+  check(!answer.refusal || answer.length == 0, "refused conversion holds zeros");
+  check(same_from(before, into, answer.length), "a conversion changes the text's bytes at most");
+  return answer;
+}
+
 second::WriteAnswer lend_write(const Table& table, Part& into) {
   const Part before = into;
   const auto answer = second::write(lent(table), lent_to_write(into));
@@ -210,6 +236,15 @@ second::SimulateAnswer lend_simulate(const Table& table, const Text& samples, st
   return answer;
 }
 
+second::SimulateAnswer lend_simulate_drawn(const Table& table, const Text& laws, const Table& numbers, std::uint64_t rounds,
+                                           Clocks& clocks) {
+  const Clocks before = clocks;
+  const auto answer = second::simulate_drawn(lent(table), lent(laws), lent(numbers), lent(rounds), lent_to_write(clocks));
+  count(answer.refusal, answer.rounds == rounds ? "simulated by draws" : "simulated by draws to quiet");
+  check_simulated(table, rounds, before, clocks, answer);
+  return answer;
+}
+
 second::RepairAnswer lend_repair(Table& table, Part& list) {
   const Table before = table;
   const Part list_before = list;
@@ -227,6 +262,15 @@ second::Answer lend_merge(const Table& table, std::uint64_t i, Table& into) {
   count(answer.refusal, "merged");
   check(same_from(before, into, answer.refusal ? 0 : second::image_words), "merge changes an image's words at most");
   return answer;
+}
+
+std::string lend_explain(const Text& text) {
+  const std::string lines = second::explain(lent(text));
+  const second::Refusal refusal = refusal_in(lines);
+  count_refusal(refusal);
+  count_outcome(refusal ? "explain refused" : lines == "confluent\n" ? "explain confluent" : "explain clash");
+  check(lines.size() <= second::longest_explanation, "an explanation's length");
+  return lines;
 }
 
 std::string lend_report(const std::string& input) {

@@ -15,6 +15,9 @@ using Part = std::vector<std::uint8_t>;
 using Clocks = std::vector<std::int64_t>;
 
 second::Answer lend_read(const Text& text, Table& into);
+second::Answer lend_read_tree(const Text& text, Table& into);
+second::WriteAnswer lend_to_names(const Text& text, Part& into);
+second::WriteAnswer lend_to_numbers(const Text& text, Part& into);
 second::WriteAnswer lend_write(const Table& table, Part& into);
 second::Answer lend_recognise(const Table& table);
 second::StartAnswer lend_start(const Table& table);
@@ -31,8 +34,11 @@ second::Answer lend_orderly(const Table& table);
 second::SettleAnswer lend_settle_after(const Table& table, const Part& path, std::uint64_t budget, Part& trace);
 second::SettleAnswer lend_settle_list_after(const Table& table, const Part& path, const Part& list);
 second::SimulateAnswer lend_simulate(const Table& table, const Text& samples, std::uint64_t rounds, Clocks& clocks);
+second::SimulateAnswer lend_simulate_drawn(const Table& table, const Text& laws, const Table& numbers, std::uint64_t rounds,
+                                           Clocks& clocks);
 second::RepairAnswer lend_repair(Table& table, Part& list);
 second::Answer lend_merge(const Table& table, std::uint64_t i, Table& into);
+std::string lend_explain(const Text& text);
 std::string lend_report(const std::string& input);
 
 // "refused\t9\t0\n" as 9 at 0; no refusal for other reports.

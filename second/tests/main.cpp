@@ -17,12 +17,12 @@ void timed(const char* name, void (*test)()) {
 }  // namespace
 
 int main(int count, char** arguments) {
-  if (count != 4) {
-    std::fprintf(stderr, "usage: second-tests PROGRAM EXAMPLES SCRATCH\n");
+  if (count != 5) {
+    std::fprintf(stderr, "usage: second-tests PROGRAM WHY EXAMPLES SCRATCH\n");
     return 2;
   }
   timed("paper examples", test_paper_examples);
-  test_program(arguments[1], arguments[2], arguments[3]);
+  test_program(arguments[1], arguments[2], arguments[3], arguments[4]);
   timed("component alone", test_component_alone);
   timed("starts", test_starts);
   timed("text refusals", test_text_refusals);
@@ -40,8 +40,12 @@ int main(int count, char** arguments) {
   timed("merged runs", test_merged_runs);
   timed("timed runs", test_timed_runs);
   timed("triggering", test_triggering);
+  timed("trees", test_trees);
   timed("simulation", test_simulation);
   timed("repairs", test_repairs);
+  timed("names", test_names);
+  timed("draws", test_draws);
+  timed("explaining", test_explaining);
   timed("damaged inputs", test_damaged_inputs);
   timed("generator", test_generator);
   return conclude();

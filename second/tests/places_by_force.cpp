@@ -99,7 +99,7 @@ second::Refusal least_violation(const Model& model) {
 void test_places_by_force() {
   second::Random random(13);
   std::array<unsigned, 31> met{};
-  for (unsigned round = 0; round < 1500; ++round) {
+  for (unsigned round = 0; round < rounds(1500); ++round) {
     const second::Size size = round % 3 == 0 ? second::Size::medium : second::Size::small;
     const Model model = round % 2 == 0 ? second::generate_faulty(random, size)
                                        : second::generate_failing(random, 10 + round / 2 % 8, size);
@@ -110,5 +110,5 @@ void test_places_by_force() {
     ++met[expected.number];
   }
   for (unsigned number = 10; number <= 17; ++number)
-    check(met[number] > 20, "number " + std::to_string(number) + " is common");
+    check_common(met[number] > 20, "number " + std::to_string(number) + " is common");
 }

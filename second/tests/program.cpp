@@ -37,7 +37,7 @@ void check_program(const std::string& program, const std::string& in, const std:
 
 }  // namespace
 
-void test_program(const std::string& program, const std::string& examples, const std::string& scratch) {
+void test_program(const std::string& program, const std::string& why, const std::string& examples, const std::string& scratch) {
   const std::string example = contents(examples + "/m.in");
   check(example == tabbed("from 1,0 100\n") + m, "the example's input is at hand");
   check_program(program, examples + "/m.in", scratch,
@@ -48,11 +48,16 @@ void test_program(const std::string& program, const std::string& examples, const
     check(!expected.empty(), base + ".out is at hand");
     check_program(program, base + ".in", scratch, expected, base);
   }
+  check_program(why, examples + "/why/clash.in", scratch, contents(examples + "/why/clash.out"), "why");
+  check(contents(examples + "/why/clash.out") == tabbed("clash 1 1 1 2\npath 0 - 1 - 1\norder 1 - 1 2 - 0\norder 2 - 0 1 - 1\n"), "P7's clash");
+  check_program(why, examples + "/empty.in", scratch, "refused\t8\t0\n", "why, of an empty text");
   // Longer than the program keeps: the report mustn't depend on what lies beyond.
   const std::string long_in = scratch + "/long.in";
   for (const char* request : {"from 1,0 100\n", "from 1,0\n"}) {
     std::ofstream(long_in, std::ios::binary) << tabbed(request) << m << std::string(1000000, 'x');
     check_program(program, long_in, scratch, lend_report(contents(long_in)), "a long input");
   }
+  std::ofstream(long_in, std::ios::binary) << m << std::string(1000000, 'x');
+  check_program(why, long_in, scratch, "refused\t1\t0\n", "why, of a long input");
   std::remove(long_in.c_str());
 }

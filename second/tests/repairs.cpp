@@ -132,7 +132,7 @@ void check_repair(Table table, const Model& model, Part list) {
 void test_repairs() {
   test_stated();
   second::Random random(19);
-  for (unsigned round = 0; round < 500; ++round) {
+  for (unsigned round = 0; round < rounds(500); ++round) {
     const auto size = static_cast<second::Size>(round % 12 == 0 ? 2 : round % 2);
     Model model = round % 3 == 0 ? second::generate_faulty(random, size)
                   : round % 3 == 1 ? second::generate_failing(random, 12, size)

@@ -25,7 +25,7 @@ void check_round_trip(const second::Model& model, const std::string& what) {
 
 void test_round_trips() {
   second::Random random(2);
-  for (unsigned round = 0; round < 300; ++round) {
+  for (unsigned round = 0; round < rounds(300); ++round) {
     const auto size = static_cast<second::Size>(round % 3);
     const second::Family family = second::families[round % 9];
     check_round_trip(second::generate(random, family, size), "family " + std::to_string(round % 9));

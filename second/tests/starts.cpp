@@ -106,7 +106,7 @@ void test_starts() {
   test_all_components();
   for (const cases::ModelCase& entry : cases::model_cases) check_by_text(image(tabbed(entry.text)));
   second::Random random(15);
-  for (unsigned round = 0; round < 400; ++round) {
+  for (unsigned round = 0; round < rounds(400); ++round) {
     const auto size = round % 5 == 0 ? second::Size::medium : second::Size::small;
     const second::Model model = round % 3 == 0 ? second::generate(random, second::families[random.below(9)], size)
                                 : round % 3 == 1 ? second::generate_faulty(random, size)

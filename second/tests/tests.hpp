@@ -4,7 +4,7 @@
 #include <string>
 
 void test_paper_examples();
-void test_program(const std::string& program, const std::string& examples, const std::string& scratch);
+void test_program(const std::string& program, const std::string& why, const std::string& examples, const std::string& scratch);
 void test_component_alone();
 void test_starts();
 void test_text_refusals();
@@ -22,7 +22,11 @@ void test_all_orders();
 void test_merged_runs();
 void test_timed_runs();
 void test_triggering();
+void test_trees();
 void test_simulation();
 void test_repairs();
+void test_names();
+void test_draws();
+void test_explaining();
 void test_damaged_inputs();
 void test_generator();

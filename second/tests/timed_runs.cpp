@@ -85,7 +85,7 @@ void check_settling(const second::Model& model, const Part& from, std::uint64_t 
 
 void test_timed_runs() {
   second::Random random(8);
-  for (unsigned round = 0; round < 1500; ++round) {
+  for (unsigned round = 0; round < rounds(1500); ++round) {
     const second::Family family = second::families[round % 6];
     const second::Model model = second::generate(random, family, static_cast<second::Size>(round % 20 == 0 ? 2 : round % 2));
     for (unsigned tries = 0; tries < 3; ++tries) {
@@ -98,5 +98,5 @@ void test_timed_runs() {
     const unsigned budget = random.below(40);
     check_settling(model, from, budget);
   }
-  check(floored > 500, "the floor is often met: " + std::to_string(floored));
+  check_common(floored > 500, "the floor is often met: " + std::to_string(floored));
 }

@@ -13,8 +13,8 @@ use Rattle.laws.specs.Sets.{_∩_, within, _⊆_}
 use Rattle.laws.specs.Fold.{overFrom, over, sum}
 use Rattle.laws.proofs.SetLaws.{within-true}
 use Rattle.laws.proofs.UnionLaws.{over-keeps}
-use Rattle.iosa.specs.Model.{Row, Comp, rowAt}
-use Rattle.iosa.specs.WellFormed.{WellComp}
+use Rattle.model.specs.Model.{Row, Comp, rowAt}
+use Rattle.model.specs.WellFormed.{WellComp}
 use Rattle.iosa.specs.Checks.{allowed, handedOn, breaks, narrowed}
 use Rattle.iosa.specs.Greatest.{Allows, Above, Greatest}
 use Rattle.iosa.proofs.Acceptance.Check14.{setsOf, Low, High, low-narrowed, high-narrowed, shrinks}

@@ -6,7 +6,7 @@ use Prim.Native.Nat.{ℕ, suc, _<_}
 use lib.ListN.{length, getD}
 use Rattle.laws.specs.Fold.{over, sum}
 use Rattle.answer.specs.Limits.{maxStates}
-use Rattle.iosa.specs.Model.{Comp}
+use Rattle.model.specs.Model.{Comp}
 use Rattle.iosa.specs.Checks.{allowed, narrowed}
 use Rattle.layout.specs.Layout.{blockWord, firstOf}
 use Rattle.layout.specs.Image.{rowIn}

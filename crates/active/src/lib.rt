@@ -5,7 +5,7 @@ ghost use mathlib.Core.Path.{_≡_};
 ghost use Prim.Native.Nat.{_≤_, _<_};
 ghost use lib.ListN.{length, getD};
 ghost use Rattle.answer.specs.Limits.{maxStates, maxClocks};
-ghost use Rattle.iosa.specs.Model.{guardSet};
+ghost use Rattle.model.specs.Model.{guardSet};
 ghost use Rattle.iosa.specs.Checks.{enablingOf, unstable, allowed};
 ghost use Rattle.iosa.specs.Greatest.{Greatest};
 ghost use Rattle.layout.specs.Layout.{countOf, blockWord};

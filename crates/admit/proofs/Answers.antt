@@ -5,8 +5,8 @@ use Prim.Native.Nat.{ℕ}
 use Rattle.answer.specs.declared.Checked.{Checked}
 use Rattle.iosa.specs.Checks.{componentOf, compatibleOf, acceptOf, confluentOf}
 use Rattle.iosa.specs.Step.{unless}
-use Rattle.iosa.specs.Answers.{ComponentAnswer, CompatibleAnswer, AcceptAnswer, ConfluentAnswer}
-use Rattle.iosa.proofs.Answers.Models.{component-model-exactly, compatible-model-exactly, accept-model-exactly, confluent-model-exactly}
+use Rattle.answering.specs.Answers.{ComponentAnswer, CompatibleAnswer, AcceptAnswer, ConfluentAnswer}
+use Rattle.answering.proofs.Answers.Models.{component-model-exactly, compatible-model-exactly, accept-model-exactly, confluent-model-exactly}
 use Rattle.layout.specs.OnImage.{Tells}
 use Rattle.table.proofs.OnImageExactly.{on-table-leaves}
 use Rattle.admit.specs.Admit.{ByItself, Compatibly, Accepted, Confluently}

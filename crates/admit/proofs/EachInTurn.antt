@@ -9,7 +9,7 @@ use lib.ListN.{length, drop, drop-of-length-le}
 use lib.Seq.{drop-cons}
 use Rattle.laws.specs.Search.{seek, orElse, mapSome}
 use Rattle.answer.specs.Told.{Told, tell}
-use Rattle.iosa.specs.Model.{Model, noComp}
+use Rattle.model.specs.Model.{Model, noComp}
 use Rattle.iosa.specs.Checks.{check13, check18, faultAt, faultFrom, clashAmong, componentOf, compatibleOf, acceptOf}
 use Rattle.iosa.proofs.Acceptance.Check13.{check13-exactly}
 use Rattle.iosa.proofs.Acceptance.ConfluentExactly.{accepted-single}

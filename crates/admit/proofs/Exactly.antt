@@ -9,7 +9,7 @@ use lib.ListN.{length}
 use Rattle.answer.specs.Told.{Told, answered, saysChecked}
 use Rattle.answer.specs.declared.Checked.{Checked}
 use Rattle.answer.specs.declared.Checked.the-variants.{Fine}
-use Rattle.iosa.specs.Model.{Model, compAt}
+use Rattle.model.specs.Model.{Model, compAt}
 use Rattle.iosa.specs.Automaton.{autoOf, Conditions, Conforming, Joinable, AllConfluent}
 use Rattle.iosa.specs.Checks.{componentOf, compatibleOf, acceptOf, confluentOf}
 use Rattle.iosa.specs.Step.{unless}

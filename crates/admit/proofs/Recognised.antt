@@ -9,7 +9,7 @@ use Rattle.answer.specs.Told.{Told, told, saysChecked}
 use Rattle.answer.specs.declared.Checked.{Checked}
 use Rattle.answer.specs.declared.Checked.the-variants.{Refused}
 use Rattle.answer.specs.declared.Place.the-variants.{Whole}
-use Rattle.iosa.specs.Model.{Model}
+use Rattle.model.specs.Model.{Model}
 use Rattle.iosa.specs.Step.{unless}
 use Rattle.layout.specs.Image.{Image, modelOf}
 use Rattle.parts.specs.Faults.{Says}

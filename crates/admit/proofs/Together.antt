@@ -14,7 +14,7 @@ use Rattle.answer.specs.declared.Checked.{Checked}
 use Rattle.answer.specs.declared.Checked.the-variants.{Fine, Refused}
 use Rattle.answer.specs.declared.Refusal.{Refusal}
 use Rattle.answer.proofs.SaysFixes.{checked-fixed}
-use Rattle.iosa.specs.Model.{Model}
+use Rattle.model.specs.Model.{Model}
 use Rattle.iosa.specs.Checks.{componentOf, compatibleOf, acceptOf}
 use Rattle.iosa.specs.Step.{unless}
 use Rattle.iosa.proofs.Acceptance.InHalves.{accept-in-turn}

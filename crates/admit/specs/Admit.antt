@@ -6,7 +6,7 @@ use mathlib.Core.List.{List}
 use Prim.Native.Nat.{ℕ}
 use Rattle.answer.specs.Told.{Told, saysChecked}
 use Rattle.answer.specs.declared.Checked.{Checked}
-use Rattle.iosa.specs.Model.{Model}
+use Rattle.model.specs.Model.{Model}
 use Rattle.iosa.specs.Checks.{componentOf, compatibleOf, acceptOf, confluentOf}
 use Rattle.table.specs.OnTable.{checkOn}
 use Rattle.admit.specs.declared.Scope.{Scope}

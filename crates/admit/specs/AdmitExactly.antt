@@ -4,7 +4,7 @@ use mathlib.Core.List.{List}
 use Prim.Native.Nat.{ℕ}
 use Rattle.answer.specs.declared.Checked.{Checked}
 use Rattle.iosa.specs.InOrder.{Leaves}
-use Rattle.iosa.specs.Answers.{ComponentAnswer, CompatibleAnswer, AcceptAnswer, ConfluentAnswer}
+use Rattle.answering.specs.Answers.{ComponentAnswer, CompatibleAnswer, AcceptAnswer, ConfluentAnswer}
 use Rattle.layout.specs.OnImage.{OnImage, Tells}
 
 abbrev pub ComponentExactly : List ℕ → ℕ → Checked → Type 0

@@ -8,12 +8,12 @@ use native.Mathlib.Omega.{arith}
 use lib.ListN.{length}
 use Rattle.answer.specs.Told.{Told, Answer, answered, refused, saysVerdict}
 use Rattle.answer.specs.declared.Settled.{Settled}
-use Rattle.iosa.specs.Model.{Comp}
+use Rattle.model.specs.Model.{Comp}
 use Rattle.iosa.specs.Automaton.{at-start}
 use Rattle.iosa.specs.Product.{product, stateOf, Within}
 use Rattle.iosa.specs.Orders.{OneEnd, Settling}
 use Rattle.iosa.specs.InOrder.{refuses, passes, gives, accepted}
-use Rattle.iosa.specs.Answers.{is23, is-series}
+use Rattle.answering.specs.Answers.{is23, is-series}
 use Rattle.layout.specs.OnImage.{Holds, OnImage, is20, of-model}
 use Rattle.walkable.specs.Entry.{settles}
 use Rattle.paths.specs.Path.{Path}

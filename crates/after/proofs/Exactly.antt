@@ -5,7 +5,7 @@ use Prim.Native.Nat.{ℕ}
 use lib.ListN.{length}
 use Rattle.answer.specs.Told.{Answer}
 use Rattle.answer.specs.declared.Settled.{Settled}
-use Rattle.iosa.specs.Model.{Comp, Model}
+use Rattle.model.specs.Model.{Comp, Model}
 use Rattle.iosa.specs.Orders.{Settling}
 use Rattle.table.proofs.OnImageExactly.{on-table-leaves}
 use Rattle.after.specs.After.{settleAfterOf, settleListAfterOf}

@@ -16,8 +16,8 @@ use Rattle.answer.specs.declared.Checked.{Checked}
 use Rattle.answer.specs.declared.Checked.the-variants.{Fine, Refused}
 use Rattle.answer.specs.declared.Refusal.{Refusal}
 use Rattle.answer.proofs.SaysFixes.{tells}
-use Rattle.iosa.specs.Model.{Model}
-use Rattle.iosa.specs.WellFormed.{WellFormed}
+use Rattle.model.specs.Model.{Model}
+use Rattle.model.specs.WellFormed.{WellFormed}
 use Rattle.iosa.specs.Automaton.{Conforming, Joinable}
 use Rattle.iosa.specs.Product.{Within}
 use Rattle.iosa.specs.Checks.{acceptOf}

@@ -9,8 +9,8 @@ use lib.Dec.{ltb}
 use borrow.Author.Tests.{ltb-false, le-ltb}
 use Rattle.answer.specs.Limits.{maxBudget}
 use Rattle.answer.specs.Told.{Told, tell, Answer, answered, refused}
-use Rattle.iosa.specs.Model.{Comp, Model}
-use Rattle.iosa.specs.WellFormed.{WellFormed}
+use Rattle.model.specs.Model.{Comp, Model}
+use Rattle.model.specs.WellFormed.{WellFormed}
 use Rattle.iosa.specs.Automaton.{Reachable}
 use Rattle.iosa.specs.Product.{product, stateOf, Within}
 use Rattle.iosa.specs.Start.{startAll}
@@ -19,12 +19,12 @@ use Rattle.iosa.specs.Settle.{settle, play, budgetFault, traceFault}
 use Rattle.iosa.specs.Orders.{Called, Settling}
 use Rattle.iosa.specs.Demand3.{Demand3}
 use Rattle.iosa.specs.InOrder.{_▹_, Gives, needs, room}
-use Rattle.iosa.specs.Answers.{ListAnswer, is23, is-series}
+use Rattle.answering.specs.Answers.{ListAnswer, is23, is-series}
 use Rattle.iosa.proofs.Settling.Called.{one-end}
 use Rattle.iosa.proofs.Settling.Listed.{list-that-is-a-series, list-that-is-no-series}
-use Rattle.iosa.proofs.Answers.InOrder.{Decided, refusedOr, either, or-refused, unless-refused, check-exactly, gives-exactly, needs-decided, room-decided}
-use Rattle.iosa.proofs.Answers.Models.{budget-decided}
-use Rattle.iosa.proofs.Answers.OneRun.{our-run-exactly}
+use Rattle.answering.proofs.Answers.InOrder.{Decided, refusedOr, either, or-refused, unless-refused, check-exactly, gives-exactly, needs-decided, room-decided}
+use Rattle.answering.proofs.Answers.Models.{budget-decided}
+use Rattle.answering.proofs.Answers.OneRun.{our-run-exactly}
 use Rattle.triggering.specs.Test.{entryOf}
 use Rattle.walkable.specs.Orderly.{Settles}
 use Rattle.walkable.proofs.Orderly.{demand-3-after-a-path}

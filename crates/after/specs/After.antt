@@ -5,7 +5,7 @@ use Prim.Native.Nat.{ℕ}
 use lib.ListN.{length}
 use Rattle.laws.specs.Search.{orElse}
 use Rattle.answer.specs.Told.{Told, Answer, answered, refused}
-use Rattle.iosa.specs.Model.{Model}
+use Rattle.model.specs.Model.{Model}
 use Rattle.iosa.specs.Step.{urgentStep, unless}
 use Rattle.iosa.specs.Settle.{settle, play, budgetFault, traceFault}
 use Rattle.iosa.specs.Orders.{Settling}

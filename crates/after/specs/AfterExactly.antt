@@ -6,11 +6,11 @@ use lib.ListN.{length}
 use Rattle.answer.specs.Limits.{maxBudget}
 use Rattle.answer.specs.Told.{tell, Answer, refused}
 use Rattle.answer.specs.declared.Settled.{Settled}
-use Rattle.iosa.specs.Model.{Comp}
+use Rattle.model.specs.Model.{Comp}
 use Rattle.iosa.specs.Product.{product, stateOf, Within}
 use Rattle.iosa.specs.Orders.{Called, Settling}
 use Rattle.iosa.specs.InOrder.{_▹_, Gives, Leaves, needs, room, accepted}
-use Rattle.iosa.specs.Answers.{ListAnswer}
+use Rattle.answering.specs.Answers.{ListAnswer}
 use Rattle.walkable.specs.Entry.{settles}
 use Rattle.layout.specs.OnImage.{OnImage}
 use Rattle.paths.specs.Path.{Path, StopsAt}

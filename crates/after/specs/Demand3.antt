@@ -1,7 +1,7 @@
 -- Demand 3 of the calls `settle_after` and `settle_list_after` themselves: what every answer of theirs, unless refused, stands on.
 use mathlib.Core.List.{List, _∷_}
 use Prim.Native.Nat.{ℕ}
-use Rattle.iosa.specs.Model.{Comp}
+use Rattle.model.specs.Model.{Comp}
 use Rattle.iosa.specs.Automaton.{Joinable, Reachable}
 use Rattle.iosa.specs.Thesis.{AllDefinition41}
 use Rattle.iosa.specs.Product.{product, stateOf, Within}

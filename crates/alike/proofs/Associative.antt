@@ -11,9 +11,9 @@ use Rattle.laws.specs.Fold.{spread}
 use Rattle.laws.proofs.SetLaws.{has-or, has-without, has-ext, or-assoc}
 use Rattle.laws.proofs.TabLaws.{spread-same, spread-pairs}
 use Rattle.answer.specs.Limits.{maxActions}
-use Rattle.iosa.specs.Model.{Row, Comp, acts}
-use Rattle.iosa.specs.Merge.{rowsBy, firstMoves, secondMoves, joinGuards, bothMove, eachWith, pairRows, productRows, merged}
-use Rattle.iosa.specs.MergedAs.{pairOf}
+use Rattle.model.specs.Model.{Row, Comp, acts}
+use Rattle.merged.specs.Merge.{rowsBy, firstMoves, secondMoves, joinGuards, bothMove, eachWith, pairRows, productRows, merged}
+use Rattle.merged.specs.MergedAs.{pairOf}
 use Rattle.alike.proofs.Lists.{every, every-map-left, every-map-right, map-every, every-regroups}
 use Rattle.alike.proofs.Rows.{rows-of-pair, acts-of-merged}
 

@@ -6,23 +6,23 @@ use native.Mathlib.Omega.{arith}
 use lib.ListN.{length}
 use Rattle.laws.proofs.TestLaws.{apart-cases}
 use Rattle.answer.specs.Told.{Told, answered}
-use Rattle.iosa.specs.Model.{Comp, Model, compAt}
-use Rattle.iosa.specs.WellFormed.{WellComp, WellFormed}
+use Rattle.model.specs.Model.{Comp, Model, compAt}
+use Rattle.model.specs.WellFormed.{WellComp, WellFormed}
 use Rattle.iosa.specs.Automaton.{Automaton, Leads, autoOf, ReachedIn, MeetsAt, Confluent, Conditions, Compatible, Conforming, Joinable, AllConfluent}
 use Rattle.iosa.specs.Product.{_⊗_}
 use Rattle.iosa.specs.Checks.{confluentOf}
-use Rattle.iosa.specs.Merge.{merged, mergeOf}
-use Rattle.iosa.specs.MergedAs.{pairOf}
-use Rattle.iosa.specs.MergedExactly.{MergedModel, MergedExactly}
+use Rattle.merged.specs.Merge.{merged, mergeOf}
+use Rattle.merged.specs.MergedAs.{pairOf}
+use Rattle.merged.specs.MergedExactly.{MergedModel, MergedExactly}
 use Rattle.iosa.proofs.Acceptance.ConfluentExactly.{confluent-exactly, confluent-accepted}
 use Rattle.iosa.proofs.Settling.OwnNames.{component-own, product-own}
 use Rattle.iosa.proofs.Settling.ProductConditions.{conditions-constraints}
 use Rattle.iosa.proofs.Settling.ProductConfluent.{product-is-confluent}
-use Rattle.iosa.proofs.Merging.Product.{merged-is-the-product}
-use Rattle.iosa.proofs.Merging.Models.{merge-answered, merging-is-exact}
-use Rattle.iosa.proofs.Merging.Accepted.{merging-keeps-acceptance}
+use Rattle.merged.proofs.Merging.Product.{merged-is-the-product}
+use Rattle.merged.proofs.Merging.Models.{merge-answered, merging-is-exact}
+use Rattle.merged.proofs.Merging.Accepted.{merging-keeps-acceptance}
 use Rattle.iosa.proofs.Reaching.Keeps.{both-reachable}
-use Rattle.iosa.proofs.Reaching.Merged.{merged-reaches}
+use Rattle.merged.proofs.Merging.Reaching.{merged-reaches}
 
 -- ---- one component for two
 module _ (c d : Comp) (wc : WellComp c) (wd : WellComp d) (oc : Conditions (autoOf c)) (od : Conditions (autoOf d)) (j : Compatible (autoOf c) (autoOf d)) where

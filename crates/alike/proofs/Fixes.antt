@@ -4,7 +4,7 @@ use mathlib.Core.List.{List}
 use Prim.Native.Nat.{ℕ}
 use native.Mathlib.Omega.{arith}
 use Rattle.answer.specs.Told.{Answer, answered}
-use Rattle.iosa.specs.Model.{Model}
+use Rattle.model.specs.Model.{Model}
 use Rattle.iosa.specs.Orders.{Settling}
 use Rattle.alike.specs.Alike.{SameSettling, SameAnswer, both-settle, both-refuse}
 

@@ -7,17 +7,17 @@ use native.Mathlib.Omega.{arith}
 use lib.ListN.{length}
 use Rattle.laws.proofs.PairLaws.{pair-below}
 use Rattle.answer.specs.Told.{Told, Answer, answered}
-use Rattle.iosa.specs.Model.{Model}
-use Rattle.iosa.specs.WellFormed.{WellFormed}
+use Rattle.model.specs.Model.{Model}
+use Rattle.model.specs.WellFormed.{WellFormed}
 use Rattle.iosa.specs.Automaton.{Conforming, Joinable}
 use Rattle.iosa.specs.Product.{Within}
-use Rattle.iosa.specs.Merge.{merged, mergedAt, mergeOf}
-use Rattle.iosa.specs.MergedAs.{Replaced, Small, MergedAnswer, is25, is26, is-merged}
-use Rattle.iosa.specs.MergedExactly.{MergedModel, MergeAnswer, small-enough, pairedAt}
+use Rattle.merged.specs.Merge.{merged, mergedAt, mergeOf}
+use Rattle.merged.specs.MergedAs.{Replaced, Small, MergedAnswer, is25, is26, is-merged}
+use Rattle.merged.specs.MergedExactly.{MergedModel, MergeAnswer, small-enough, pairedAt}
 use Rattle.iosa.proofs.Acceptance.Accepted.{accepted-exactly}
-use Rattle.iosa.proofs.Merging.Models.{merge-exactly, merge-answered, merging-is-exact}
-use Rattle.iosa.proofs.Merging.Accepted.{merged-model-conforms}
-use Rattle.iosa.proofs.Answers.Merged.{merged-answers-exactly}
+use Rattle.merged.proofs.Merging.Models.{merge-exactly, merge-answered, merging-is-exact}
+use Rattle.merged.proofs.Merging.Accepted.{merged-model-conforms}
+use Rattle.answering.proofs.Answers.Merged.{merged-answers-exactly}
 use Rattle.alike.specs.Alike.{MergedInto}
 use Rattle.alike.proofs.Associative.{merged-regroups}
 

@@ -12,15 +12,15 @@ use Rattle.laws.specs.Search.{seek, when, mapSome}
 use Rattle.laws.proofs.SetLaws.{has-or, or-assoc}
 use Rattle.laws.proofs.SearchLaws.{seek-here, seek-next, seek-end}
 use Rattle.laws.proofs.RangeLaws.{seek-shift, seek-ext}
-use Rattle.iosa.specs.Model.{Row, Comp, Model, noRow, acts}
-use Rattle.iosa.specs.WellFormed.{WellComp}
+use Rattle.model.specs.Model.{Row, Comp, Model, noRow, acts}
+use Rattle.model.specs.WellFormed.{WellComp}
 use Rattle.iosa.specs.Product.{Within}
 use Rattle.iosa.specs.Stepped.{Gone}
 use Rattle.iosa.specs.Checks.{leaves, rowFor}
 use Rattle.iosa.specs.Step.{goneBy, move, together, moveAll, isUout, urgentStep}
-use Rattle.iosa.specs.Merge.{rowsBy, firstMoves, secondMoves, eachWith, pairRows, merged, mergedAt}
-use Rattle.iosa.specs.MergedAs.{pairOf}
-use Rattle.iosa.specs.MergedExactly.{pairedAt}
+use Rattle.merged.specs.Merge.{rowsBy, firstMoves, secondMoves, eachWith, pairRows, merged, mergedAt}
+use Rattle.merged.specs.MergedAs.{pairOf}
+use Rattle.merged.specs.MergedExactly.{pairedAt}
 use Rattle.iosa.proofs.Acceptance.Rows.{act-below}
 use Rattle.iosa.proofs.Settling.Each.{All}
 use Rattle.alike.proofs.Rows.{rows-of-pair, acts-of-merged}

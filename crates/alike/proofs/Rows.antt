@@ -10,11 +10,11 @@ use Rattle.laws.proofs.SetLaws.{has-or, or-regroup, without-or}
 use Rattle.laws.proofs.ListLaws.{map-in, spread-in}
 use Rattle.laws.proofs.PairLaws.{pair-parts}
 use Rattle.answer.specs.Limits.{maxActions}
-use Rattle.iosa.specs.Model.{Row, Comp, inputs, outputs, acts}
-use Rattle.iosa.specs.Merge.{rowsBy, firstMoves, secondMoves, eachWith, pairRows, productRows, merged}
-use Rattle.iosa.specs.MergedAs.{pairOf}
+use Rattle.model.specs.Model.{Row, Comp, inputs, outputs, acts}
+use Rattle.merged.specs.Merge.{rowsBy, firstMoves, secondMoves, eachWith, pairRows, productRows, merged}
+use Rattle.merged.specs.MergedAs.{pairOf}
 use Rattle.iosa.proofs.Acceptance.Rows.{leaves-true}
-use Rattle.iosa.proofs.Merging.Rows.{rows-by-in, by-append, each-with-in}
+use Rattle.merged.proofs.Merging.Rows.{rows-by-in, by-append, each-with-in}
 use Rattle.alike.proofs.Lists.{spread-one}
 
 -- ---- the rows by which action a leaves x, of a list of rows

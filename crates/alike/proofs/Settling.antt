@@ -9,16 +9,16 @@ use Rattle.laws.specs.Search.{isSome, orElse, mapSome}
 use Rattle.laws.proofs.RangeLaws.{seek-ext, map-seek, some-map}
 use Rattle.answer.specs.Limits.{maxActions}
 use Rattle.answer.specs.Told.{Told, tell, Answer, answered, refused}
-use Rattle.iosa.specs.Model.{Model}
-use Rattle.iosa.specs.WellFormed.{WellComp}
+use Rattle.model.specs.Model.{Model}
+use Rattle.model.specs.WellFormed.{WellComp}
 use Rattle.iosa.specs.Product.{Within}
 use Rattle.iosa.specs.Stepped.{Gone}
 use Rattle.iosa.specs.Checks.{confluentOf}
 use Rattle.iosa.specs.Step.{Went, named, lowest, urgentStep, isStable}
 use Rattle.iosa.specs.Settle.{resting, after, settle, beginFault, budgetFault, traceFault, settleOf, afterListed, play, settleListOf}
 use Rattle.iosa.specs.Orders.{Settling}
-use Rattle.iosa.specs.Merge.{mergedAt}
-use Rattle.iosa.specs.MergedExactly.{pairedAt}
+use Rattle.merged.specs.Merge.{mergedAt}
+use Rattle.merged.specs.MergedExactly.{pairedAt}
 use Rattle.iosa.proofs.Settling.Each.{All}
 use Rattle.iosa.proofs.Settling.Descent.{Keeps}
 use Rattle.iosa.proofs.Settling.Rule.{lowest-some}

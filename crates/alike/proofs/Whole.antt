@@ -7,8 +7,8 @@ use Prim.Native.Nat.{ℕ, suc}
 use Rattle.laws.specs.Search.{mapSome}
 use Rattle.laws.proofs.SearchLaws.{map-some}
 use Rattle.answer.specs.Told.{Answer}
-use Rattle.iosa.specs.Model.{Comp, Model}
-use Rattle.iosa.specs.WellFormed.{WellComp, WellFormed}
+use Rattle.model.specs.Model.{Comp, Model}
+use Rattle.model.specs.WellFormed.{WellComp, WellFormed}
 use Rattle.iosa.specs.Automaton.{UrgentRow, Stable, Conforming, Joinable, AllConfluent}
 use Rattle.iosa.specs.Thesis.{AllDefinition41}
 use Rattle.iosa.specs.Product.{product, stateOf, Within, Reached, Series, over, next}
@@ -16,9 +16,9 @@ use Rattle.iosa.specs.Checks.{confluentOf}
 use Rattle.iosa.specs.Step.{urgentStep, isStable}
 use Rattle.iosa.specs.Settle.{beginFault, settleOf, settleListOf}
 use Rattle.iosa.specs.Orders.{Settling}
-use Rattle.iosa.specs.Merge.{mergedAt}
-use Rattle.iosa.specs.MergedExactly.{pairedAt}
-use Rattle.iosa.specs.Answers.{SettleAnswer, SettleListAnswer}
+use Rattle.merged.specs.Merge.{mergedAt}
+use Rattle.merged.specs.MergedExactly.{pairedAt}
+use Rattle.answering.specs.Answers.{SettleAnswer, SettleListAnswer}
 use Rattle.iosa.proofs.Acceptance.Accepted.{accepted-exactly}
 use Rattle.iosa.proofs.Acceptance.ConfluentExactly.{confluent-exactly}
 use Rattle.iosa.proofs.Settling.Each.{All}
@@ -26,11 +26,11 @@ use Rattle.iosa.proofs.Settling.Called.{begin-faultless}
 use Rattle.iosa.proofs.Settling.Descent.{Keeps}
 use Rattle.iosa.proofs.Settling.ProductOfMany.{wells}
 use Rattle.iosa.proofs.Settling.Steps.{step-is-a-row, row-is-a-step, steps-keep-the-range, stable-exactly}
-use Rattle.iosa.proofs.Merging.SameRuns.{merging-keeps-the-series}
+use Rattle.merged.proofs.Merging.SameRuns.{merging-keeps-the-series}
 use Rattle.iosa.proofs.Reaching.Keeps.{reached-within}
 use Rattle.iosa.proofs.Reaching.Refused19.{reach-faultless}
 use Rattle.iosa.proofs.Thesis.Proposition41.{conforming-definition}
-use Rattle.iosa.proofs.Answers.Models.{settle-model-exactly, settle-list-model-exactly}
+use Rattle.answering.proofs.Answers.Models.{settle-model-exactly, settle-list-model-exactly}
 use Rattle.alike.specs.Alike.{MergedInto, SameAnswer, SeriesBefore}
 use Rattle.alike.proofs.Moves.{goneInto, steps-of-pairs}
 use Rattle.alike.proofs.Settling.{answerInto, merged-stable-alike, settle-alike, listing-alike, same-into}

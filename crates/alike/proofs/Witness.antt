@@ -8,15 +8,15 @@ use lib.ListN.{length}
 use Rattle.laws.specs.Fold.{all}
 use Rattle.laws.specs.Tests.{allOf}
 use Rattle.answer.specs.Told.{tell, answered, refused}
-use Rattle.iosa.specs.Model.{Model}
-use Rattle.iosa.specs.WellFormed.{WellFormed}
+use Rattle.model.specs.Model.{Model}
+use Rattle.model.specs.WellFormed.{WellFormed}
 use Rattle.iosa.specs.Checks.{confluentOf}
 use Rattle.iosa.specs.Settle.{settleOf, settleListOf}
 use Rattle.iosa.specs.Orders.{Settling}
-use Rattle.iosa.specs.Merge.{merged, mergeOf}
-use Rattle.iosa.specs.Examples.{reply}
+use Rattle.merged.specs.Merge.{merged, mergeOf}
+use Rattle.answering.specs.Examples.{reply}
 use Rattle.iosa.proofs.Settling.WellFormedTest.{wellFormed, wellComp, wellRow, well-formed}
-use Rattle.iosa.proofs.Settling.Witness.{M₀, M₁, T₀, T₁, T₂}
+use Rattle.answering.proofs.Witness.Settling.{M₀, M₁, T₀, T₁, T₂}
 use Rattle.alike.specs.Alike.{MergedInto}
 use Rattle.alike.proofs.Models.{answered-into}
 

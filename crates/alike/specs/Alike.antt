@@ -3,11 +3,11 @@ use mathlib.Core.Path.{_≡_}
 use mathlib.Core.List.{List, _∷_}
 use Prim.Native.Nat.{ℕ}
 use Rattle.answer.specs.Told.{Told, Answer, answered, refused}
-use Rattle.iosa.specs.Model.{Comp, Model}
+use Rattle.model.specs.Model.{Comp, Model}
 use Rattle.iosa.specs.Product.{product, stateOf, Within, Series}
 use Rattle.iosa.specs.Orders.{Settling}
-use Rattle.iosa.specs.MergedAs.{Replaced, Small}
-use Rattle.iosa.specs.MergedExactly.{pairedAt}
+use Rattle.merged.specs.MergedAs.{Replaced, Small}
+use Rattle.merged.specs.MergedExactly.{pairedAt}
 
 -- "where the merge isn't refused": n is m with the product of i and i+1 in their place, and keeps the limits
 pub record MergedInto (m : Model) (i : ℕ) (n : Model) : Type 0 where

@@ -33,16 +33,18 @@ pub data Shape : Type 0 where
   nowhere whole line row bytes index clock component cell clash shared-action shared-clock spot condition action : Shape
   deriving Discrete as same-shape
 
--- the shape of place of each number, from 0, which is none, nor do 31 to 39, 43 and 44 have one yet; 2, 4 and 5 "carry line and column" since request 2.
+-- the shape of place of each number, from 0, which is none, nor have 31 to 39 one; 2, 4 and 5 "carry line and column" since request 2.
 -- Of a simulation (02, 4/13): 40 "first bad line, or one past the last", 41 "lowest such clock", 42 "the round".
 -- Of a system that is not closed (02, 8/13): 45 "the lowest" action that is an input and nobody's output; of a path: 46 "with its index".
--- Of a tree (02, 9/13): 47 "lowest condition broken, as a number", 48 "at 0"
+-- Of names (02, 7/13): 43 and 44 "at the line".
+-- Of a tree (02, 9/13): 47 "lowest condition broken, as a number", 48 "at 0".
+-- Of draws (02, 13/13): 49 and 50 "placed as 40 and 41"
 abbrev pub shapes : List Shape
 shapes =
     nowhere ∷ whole ∷ spot ∷ line ∷ spot ∷ spot ∷ line ∷ line ∷ whole ∷ whole ∷ row ∷ row ∷ cell ∷ cell ∷ component ∷ shared-action ∷ shared-clock
     ∷ shared-action ∷ clash ∷ component ∷ whole ∷ whole ∷ whole ∷ index ∷ bytes ∷ whole ∷ whole ∷ whole ∷ whole ∷ clock ∷ clock
     ∷ nowhere ∷ nowhere ∷ nowhere ∷ nowhere ∷ nowhere ∷ nowhere ∷ nowhere ∷ nowhere ∷ nowhere ∷ line ∷ clock ∷ index
-    ∷ nowhere ∷ nowhere ∷ action ∷ index ∷ condition ∷ whole ∷ []
+    ∷ line ∷ line ∷ action ∷ index ∷ condition ∷ whole ∷ line ∷ clock ∷ []
 
 abbrev pub shapeOf : ℕ → Shape
 shapeOf n = getD shapes n nowhere

@@ -14,20 +14,20 @@ use Rattle.answer.specs.declared.Settled.{Settled}
 use Rattle.answer.specs.declared.Checked.the-variants.{Fine}
 use Rattle.answer.proofs.SaysFixes.{verdict-fixed}
 use Rattle.answer.proofs.StateLaws.{parts-length, with-parts}
-use Rattle.iosa.specs.Model.{Comp, Model}
-use Rattle.iosa.specs.WellFormed.{WellFormed}
+use Rattle.model.specs.Model.{Comp, Model}
+use Rattle.model.specs.WellFormed.{WellFormed}
 use Rattle.iosa.specs.Product.{Within, Reached}
 use Rattle.iosa.specs.Checks.{acceptOf, confluentOf}
 use Rattle.iosa.specs.Step.{unless}
 use Rattle.iosa.specs.Settle.{settleOf, settleListOf}
 use Rattle.iosa.specs.Orders.{Settling}
-use Rattle.iosa.specs.MergedExactly.{pairedAt}
+use Rattle.merged.specs.MergedExactly.{pairedAt}
 use Rattle.iosa.proofs.Acceptance.Accepted.{accepted-exactly}
 use Rattle.iosa.proofs.Acceptance.ConfluentExactly.{confluent-accepted}
 use Rattle.iosa.proofs.Settling.Parts.{within-length}
 use Rattle.iosa.proofs.Settling.Called.{settle-answers-exactly, settle-list-answers-exactly, demand-3-of-the-call}
 use Rattle.iosa.proofs.Settling.Listed.{list-that-is-a-series}
-use Rattle.iosa.proofs.Answers.Models.{settle-model-exactly, settle-list-model-exactly}
+use Rattle.answering.proofs.Answers.Models.{settle-model-exactly, settle-list-model-exactly}
 use Rattle.layout.specs.Layout.{imageWords}
 use Rattle.layout.specs.Image.{imageOf}
 use Rattle.layout.specs.OnImage.{Holds}

@@ -8,11 +8,11 @@ use lib.ListN.{take, drop}
 use lib.Seq.{take-at}
 use Rattle.answer.specs.Told.{Told, Answer, refused, saysChecked, doneOf}
 use Rattle.answer.specs.declared.Checked.the-variants.{Fine}
-use Rattle.iosa.specs.Model.{Model}
+use Rattle.model.specs.Model.{Model}
 use Rattle.iosa.specs.Automaton.{Conforming, Joinable}
 use Rattle.iosa.specs.InOrder.{refuses, passes}
-use Rattle.iosa.specs.Answers.{MergeCallAnswer}
-use Rattle.iosa.specs.MergedAs.{is25, is26, is-merged}
+use Rattle.answering.specs.Answers.{MergeCallAnswer}
+use Rattle.merged.specs.MergedAs.{is25, is26, is-merged}
 use Rattle.iosa.proofs.Thesis.Proposition41.{conforming-definition}
 use Rattle.layout.specs.Layout.{imageWords}
 use Rattle.layout.specs.Image.{imageOf}

@@ -6,8 +6,8 @@ use Prim.Native.Nat.{ℕ}
 use Rattle.answer.specs.Told.{answered, saysVerdict}
 use Rattle.answer.specs.State.{partsOf}
 use Rattle.answer.specs.declared.Settled.{Settled}
-use Rattle.iosa.specs.Model.{Model}
-use Rattle.iosa.specs.MergedExactly.{pairedAt}
+use Rattle.model.specs.Model.{Model}
+use Rattle.merged.specs.MergedExactly.{pairedAt}
 
 -- r is of a table that holds m, and q of the one that m merged at i was written to: one verdict, or one refusal; unless refused, "the end state read
 -- through the pair numbering"

@@ -7,8 +7,8 @@ use native.Mathlib.Omega.{arith}
 use lib.ListN.{length, drop}
 use borrow.Author.Tests.{lt-ltb, le-ltb, le-leb, lt-leb}
 use Rattle.answer.specs.Limits.{maxStates}
-use Rattle.iosa.specs.Text.{decimal}
-use Rattle.iosa.specs.Reading.{stopColumn}
+use Rattle.model.specs.Text.{decimal}
+use Rattle.model.specs.Reading.{stopColumn}
 use Rattle.measure.proofs.Fields.{width-most}
 use Rattle.fields.specs.declared.Guard.{Guard}
 use Rattle.fields.specs.declared.Guard.the-variants as OfGuard

@@ -8,8 +8,8 @@ use native.Mathlib.Omega.{arith}
 use lib.ListN.{length, getD, drop, length-drop, drop-of-length-le}
 use lib.Seq.{drop-drop}
 use borrow.Author.Tests.{eq-eqb, ne-eqb}
-use Rattle.iosa.specs.Text.{comma, dash}
-use Rattle.iosa.specs.Reading.{stops, got, number}
+use Rattle.model.specs.Text.{comma, dash}
+use Rattle.model.specs.Reading.{stops, got, number}
 use Rattle.fields.proofs.ScanLaws.{front, byte-here, byte-other, byte-end}
 use Rattle.fields.proofs.NumberLaws.{number-shortens}
 use Rattle.columns.specs.Columns.{memberOf, behindOne, numbersOut, resetsOut}

@@ -9,12 +9,12 @@ use lib.ListN.{length, drop, length-append, length-drop}
 use lib.Seq.{drop-drop, drop-at}
 use lib.Dec.{ltb, leb}
 use Rattle.answer.specs.Limits.{maxStates}
-use Rattle.iosa.specs.Text.{tab, lf, comma, dash, rowWord, decimal, guardField, joined, fieldsAfter}
-use Rattle.iosa.specs.Reading.{got, number, theByte, guardOf, Entry, comp-entry, act-entry, clk-entry, row-entry, entry, Value, action-value, state-value, exactly, valueText, guardValue, resetValues, lastValues, firstBad, firstColumn, stopColumn}
-use Rattle.iosa.specs.Line.{AllFit, listField, lineOf as printedLine}
-use Rattle.iosa.proofs.Reading.Number.{number-printed}
-use Rattle.iosa.proofs.Reading.Fields.{number-no-dash, further, joined-first}
-use Rattle.iosa.proofs.Reading.Lines.{entry-exact}
+use Rattle.model.specs.Text.{tab, lf, comma, dash, rowWord, decimal, guardField, joined, fieldsAfter}
+use Rattle.model.specs.Reading.{got, number, theByte, guardOf, Entry, comp-entry, act-entry, clk-entry, row-entry, entry, Value, action-value, state-value, exactly, valueText, guardValue, resetValues, lastValues, firstBad, firstColumn, stopColumn}
+use Rattle.model.specs.Line.{AllFit, listField, lineOf as printedLine}
+use Rattle.model.proofs.Reading.Number.{number-printed}
+use Rattle.model.proofs.Reading.Fields.{number-no-dash, further, joined-first}
+use Rattle.model.proofs.Reading.Lines.{entry-exact}
 use Rattle.lines.specs.Lines.{guardIs, lineOf}
 use Rattle.columns.specs.declared.Allowed.{Allowed}
 use Rattle.columns.specs.Columns.{memberOf, beyond, guardOut, wideGuard, numbersOut, resetsOut, beforeResets, rowColumn, valueColumn}

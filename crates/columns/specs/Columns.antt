@@ -7,8 +7,8 @@ use lib.Dec.{eqb, ltb, leb}
 use Rattle.laws.specs.Sets.{has}
 use Rattle.sets.specs.Members.{wordBits}
 use Rattle.answer.specs.Limits.{maxStates}
-use Rattle.iosa.specs.Text.{comma, dash, decimal}
-use Rattle.iosa.specs.Reading.{is, stops, number, theByte, stopColumn, Value, states-value, state-value, action-value, clock-value, set-value, dash-value}
+use Rattle.model.specs.Text.{comma, dash, decimal}
+use Rattle.model.specs.Reading.{is, stops, number, theByte, stopColumn, Value, states-value, state-value, action-value, clock-value, set-value, dash-value}
 use Rattle.fields.specs.declared.Guard.{Guard}
 use Rattle.fields.specs.declared.Guard.the-variants as OfGuard
 use Rattle.lines.specs.declared.Line.{Line}

@@ -2,7 +2,7 @@
 ghost use mathlib.Core.Path.{_≡_};
 ghost use Prim.Native.Nat.{_≤_};
 ghost use lib.ListN.{length, drop};
-ghost use Rattle.iosa.specs.Reading.{stopColumn};
+ghost use Rattle.model.specs.Reading.{stopColumn};
 ghost use Rattle.columns.specs.Columns.{memberOf, guardOut, wideGuard, numbersOut, resetsOut, rowColumn, valueColumn};
 use answer::Model;
 use fields::Cursor;

@@ -6,9 +6,9 @@ use lib.ListN.{length, getD, drop, drop-of-length-le}
 use lib.Bits.{or-zero-r}
 use Rattle.laws.specs.Sets.{_∪_}
 use Rattle.laws.proofs.SetLaws.{or-assoc}
-use Rattle.iosa.specs.Model.{Model, compAt}
+use Rattle.model.specs.Model.{Model, compAt}
 use Rattle.iosa.specs.Checks.{enablingOf}
-use Rattle.iosa.specs.Timed.{enablingAll}
+use Rattle.timing.specs.Timed.{enablingAll}
 use Rattle.moves.proofs.Along.{heads}
 
 pub enabling-next : (m : Model) (i : ℕ) → i < length m → (ss : List ℕ) → i < length ss → (r : ℕ)

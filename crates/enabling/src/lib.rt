@@ -4,8 +4,8 @@ ghost use mathlib.Core.Path.{_≡_};
 ghost use Prim.Native.Nat.{ℕ};
 ghost use Rattle.answer.specs.State.{partsOf};
 ghost use Rattle.layout.specs.Image.{Image, modelOf};
-ghost use Rattle.iosa.specs.Model.{declared};
-ghost use Rattle.iosa.specs.Timed.{enablingAll};
+ghost use Rattle.model.specs.Model.{declared};
+ghost use Rattle.timing.specs.Timed.{enablingAll};
 ghost use Rattle.moves.specs.Standing.{Standing};
 
 // The enabling clocks of a composed state.

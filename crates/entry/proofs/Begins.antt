@@ -8,7 +8,7 @@ use Rattle.answer.specs.Told.{Told, tell, told}
 use Rattle.answer.specs.declared.Checked.{Checked}
 use Rattle.answer.specs.declared.Checked.the-variants.{Fine, Refused}
 use Rattle.answer.specs.declared.Place.the-variants.{Whole, Component}
-use Rattle.iosa.specs.Model.{Model}
+use Rattle.model.specs.Model.{Model}
 use Rattle.iosa.specs.Product.{Within}
 use Rattle.iosa.specs.Step.{inRange, stateFault}
 use Rattle.iosa.specs.Settle.{reachFault, beginFault}

@@ -4,7 +4,7 @@ use Rattle.laws.specs.Search.{orElse}
 use Rattle.answer.specs.State.{partsOf}
 use Rattle.answer.specs.Told.{Told}
 use Rattle.answer.specs.declared.State.{State}
-use Rattle.iosa.specs.Model.{Model}
+use Rattle.model.specs.Model.{Model}
 use Rattle.iosa.specs.Checks.{confluentOf}
 use Rattle.iosa.specs.Settle.{beginFault}
 

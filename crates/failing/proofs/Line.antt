@@ -5,7 +5,7 @@ use Prim.Native.Nat.{ℕ, _+_, _≤_}
 use native.Mathlib.Omega.{arith}
 use lib.IntN.{ℤ}
 use lib.ListN.{length, length-append}
-use Rattle.iosa.specs.Text.{decimal}
+use Rattle.model.specs.Text.{decimal}
 use Rattle.measure.proofs.Fields.{width-most}
 use Rattle.print.specs.Put.{Room, Put}
 use Rattle.print.proofs.LaidLaws.{Next, laid-length, left-all, left-as}

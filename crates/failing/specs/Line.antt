@@ -2,7 +2,7 @@
 use mathlib.Core.List.{List, [], _∷_, _++_}
 use Prim.Native.Nat.{ℕ}
 use lib.IntN.{ℤ, pos, negsuc}
-use Rattle.iosa.specs.Text.{decimal}
+use Rattle.model.specs.Text.{decimal}
 
 abbrev pub errorWord : List ℕ
 errorWord = 32 ∷ 40 ∷ 101 ∷ 114 ∷ 114 ∷ 111 ∷ 114 ∷ 32 ∷ []

@@ -9,7 +9,7 @@ use lib.ListN.{drop, getD}
 use lib.IntN.{ℤ, pos}
 use Rattle.laws.specs.Sets.{has}
 use Rattle.laws.specs.Search.{isSome}
-use Rattle.iosa.specs.Reading.{Scan, is, stops, got, field}
+use Rattle.model.specs.Reading.{Scan, is, stops, got, field}
 use Rattle.fields.specs.declared.Cursor.{Cursor}
 use Rattle.fields.specs.declared.NumberScan.{NumberScan}
 use Rattle.fields.specs.declared.NumberScan.the-variants as OfNumber

@@ -16,7 +16,7 @@ use Rattle.laws.specs.Search.{isSome, least}
 use Rattle.laws.proofs.SearchLaws.{least-none, least-some, none-least, some-least}
 use Rattle.laws.proofs.TestLaws.{and-false}
 use Rattle.answer.specs.Limits.{maxClocks, maxTicks}
-use Rattle.iosa.specs.Reading.{Scan, is, stops, got, field}
+use Rattle.model.specs.Reading.{Scan, is, stops, got, field}
 use Rattle.iosa.specs.TimedExactly.{valueOf}
 use Rattle.simulation.specs.Simulate.{eachFrom, takenBy, lacks, sampled, fedAt, countedAt, noneTaken}
 use Rattle.simulation.specs.Samples.{sampleAt, nth, recorded}

@@ -9,7 +9,7 @@ use lib.IntN.{ℤ}
 use Rattle.laws.specs.Sets.{has}
 use Rattle.laws.specs.Search.{isSome}
 use Rattle.answer.specs.Limits.{maxClocks}
-use Rattle.iosa.specs.Reading.{Scan, is, stops, got, field}
+use Rattle.model.specs.Reading.{Scan, is, stops, got, field}
 use Rattle.simulation.specs.Simulate.{Supply, sampled, takenBy}
 use Rattle.simulation.specs.Samples.{sampleAt}
 use Rattle.samples.specs.declared.Feed.{Feed}

@@ -7,8 +7,8 @@ use native.Mathlib.Omega.{arith}
 use native.Mathlib.Decide.{decLt}
 use lib.ListN.{length, drop, length-drop, drop-of-length-le}
 use borrow.Author.Tests.{lt-ltb, le-ltb}
-use Rattle.iosa.specs.Text.{dash, in-kind, out-kind, uin-kind, uout-kind, kindWord}
-use Rattle.iosa.specs.Reading.{stops, got, then, shorter, exactly, theByte, number, guardOrDash, numbers, numbersOrDash, kind}
+use Rattle.model.specs.Text.{dash, in-kind, out-kind, uin-kind, uout-kind, kindWord}
+use Rattle.model.specs.Reading.{stops, got, then, shorter, exactly, theByte, number, guardOrDash, numbers, numbersOrDash, kind}
 
 module _ (bs : List ℕ) where
   pub guard-dash : {cs : List ℕ} → theByte dash bs ≡ got tt cs → guardOrDash bs ≡ got none cs

@@ -5,8 +5,8 @@ use Prim.Native.Nat.{ℕ, _+_, _-_, _≤_, _<_}
 use native.Mathlib.Nat.{le-refl}
 use native.Mathlib.Omega.{arith}
 use lib.ListN.{length, getD, drop, length-drop}
-use Rattle.iosa.specs.Text.{comma}
-use Rattle.iosa.specs.Reading.{Scan, stops, got, number, moreNumbers}
+use Rattle.model.specs.Text.{comma}
+use Rattle.model.specs.Reading.{Scan, stops, got, number, moreNumbers}
 use Rattle.fields.specs.declared.Cursor.{Cursor}
 use Rattle.fields.specs.declared.NumberScan.{NumberScan}
 use Rattle.fields.specs.declared.NumberScan.the-variants as OfNumber

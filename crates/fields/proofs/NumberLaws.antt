@@ -7,9 +7,9 @@ use native.Mathlib.Omega.{arith}
 use lib.ListN.{length, getD, drop, drop-of-length-le, length-drop}
 use lib.Dec.{eqb}
 use borrow.Author.Tests.{eq-eqb, ne-eqb}
-use Rattle.iosa.specs.Text.{comma, byte0}
+use Rattle.model.specs.Text.{comma, byte0}
 use Rattle.answer.specs.Limits.{maxDigits}
-use Rattle.iosa.specs.Reading.{Got, Scan, is, stops, got, then, isDigit, moreDigits, number, moreNumbers, numbers}
+use Rattle.model.specs.Reading.{Got, Scan, is, stops, got, then, isDigit, moreDigits, number, moreNumbers, numbers}
 use Rattle.fields.specs.Resets.{valued}
 use Rattle.fields.proofs.ScanLaws.{front}
 

@@ -3,7 +3,7 @@ use mathlib.Core.Path.{_≡_, refl, ap}
 use mathlib.Core.List.{List, [], _∷_}
 use Prim.Native.Nat.{ℕ}
 use lib.ListN.{length}
-use Rattle.iosa.specs.Reading.{Scan, is, stops, got, then, number, moreNumbers, numbers}
+use Rattle.model.specs.Reading.{Scan, is, stops, got, then, number, moreNumbers, numbers}
 use Rattle.fields.specs.declared.Resets.{Resets}
 use Rattle.fields.specs.Resets.{none-yet, first, with, withAll, summary, valued}
 

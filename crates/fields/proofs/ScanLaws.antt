@@ -11,9 +11,9 @@ use lib.Seq.{drop-cons}
 use lib.Dec.{leb, ltb}
 use borrow.Author.Tests.{eq-eqb, ne-eqb, leb-true, ltb-true}
 use Rattle.laws.proofs.TestLaws.{and-true}
-use Rattle.iosa.specs.Text.{byte0}
+use Rattle.model.specs.Text.{byte0}
 use Rattle.answer.specs.Limits.{maxDigits}
-use Rattle.iosa.specs.Reading.{Scan, is, stops, got, then, exactly, theByte, isDigit, moreDigits, number}
+use Rattle.model.specs.Reading.{Scan, is, stops, got, then, exactly, theByte, isDigit, moreDigits, number}
 
 pub front : (t : List ℕ) (at : ℕ) → at < length t → drop at t ≡ getD t at 0 ∷ drop (at + 1) t
 front t at h = rw (add-one) (drop-cons t at 0 h)

@@ -3,8 +3,8 @@ use mathlib.Core.Option.{Option, none, some}
 use mathlib.Core.List.{List}
 use Prim.Native.Nat.{ℕ}
 use lib.ListN.{drop}
-use Rattle.iosa.specs.Text.{Kind as TheKind, in-kind, out-kind, uin-kind, uout-kind}
-use Rattle.iosa.specs.Reading.{Scan, stops, got}
+use Rattle.model.specs.Text.{Kind as TheKind, in-kind, out-kind, uin-kind, uout-kind}
+use Rattle.model.specs.Reading.{Scan, stops, got}
 use Rattle.fields.specs.declared.Step.{Step}
 use Rattle.fields.specs.declared.Step.the-variants as OfStep
 use Rattle.fields.specs.declared.NumberScan.{NumberScan}

@@ -6,7 +6,7 @@ use lib.ListN.{drop}
 use lib.Dec.{ltb}
 use Rattle.laws.specs.Sets.{_∪_, only}
 use Rattle.answer.specs.Limits.{maxClocks}
-use Rattle.iosa.specs.Reading.{Scan, is, stops, got}
+use Rattle.model.specs.Reading.{Scan, is, stops, got}
 use Rattle.fields.specs.declared.Resets.{Resets}
 use Rattle.fields.specs.declared.ResetsScan.{ResetsScan}
 use Rattle.fields.specs.declared.ResetsScan.the-variants as OfResets

@@ -3,7 +3,7 @@ ghost use mathlib.Core.Path.{_≡_};
 ghost use mathlib.Core.List.{List};
 ghost use Prim.Native.Nat.{ℕ, _-_, _≤_, _<_};
 ghost use lib.ListN.{length, drop};
-ghost use Rattle.iosa.specs.Reading.{is, shorter, exactly, theByte, isDigit, moreDigits, number as numberOf, guardOrDash, kind as kindScan, moreNumbers, numbersOrDash, field};
+ghost use Rattle.model.specs.Reading.{is, shorter, exactly, theByte, isDigit, moreDigits, number as numberOf, guardOrDash, kind as kindScan, moreNumbers, numbersOrDash, field};
 ghost use Rattle.fields.specs.Fields.{past, gotNumber, gotGuard, gotKind};
 ghost use Rattle.fields.specs.Resets.{gotResets, valued, first, with, withAll, summary};
 use answer::Model;

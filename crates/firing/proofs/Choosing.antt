@@ -15,8 +15,8 @@ use Rattle.laws.proofs.TestLaws.{and-true, and-false}
 use Rattle.laws.specs.Sets.{_∈_}
 use Rattle.answer.specs.Limits.{maxClocks}
 use Rattle.answer.specs.Told.{tell, Answer, answered, refused}
-use Rattle.iosa.specs.Model.{Model}
-use Rattle.iosa.specs.Timed.{belowZero, check29, isLeast, check30, fire, timedFrom, quietly}
+use Rattle.model.specs.Model.{Model}
+use Rattle.timing.specs.Timed.{belowZero, check29, isLeast, check30, fire, timedFrom, quietly}
 use Rattle.iosa.specs.TimedExactly.{valueOf, Timing}
 use Rattle.ticks.specs.Ticks.{rivals, byValue, orNone}
 use Rattle.ticks.proofs.Chosen.{shared-by-rival, none-shared}

@@ -7,8 +7,8 @@ use native.Mathlib.Omega.{arith}
 use lib.ListN.{length, getD, drop, drop-of-length-le}
 use Rattle.laws.specs.Search.{orElse}
 use Rattle.answer.specs.Limits.{maxActions}
-use Rattle.iosa.specs.Model.{Row, Comp, Model, compAt}
-use Rattle.iosa.specs.Timed.{clockRow, clockRowOf}
+use Rattle.model.specs.Model.{Row, Comp, Model, compAt}
+use Rattle.timing.specs.Timed.{clockRow, clockRowOf}
 use Rattle.moves.proofs.Along.{heads}
 use Rattle.firing.specs.Fired.{actionOr}
 

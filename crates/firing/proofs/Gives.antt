@@ -17,14 +17,14 @@ use Rattle.answer.specs.Told.{answered, Shot, fired, saysFiring}
 use Rattle.answer.specs.State.{withParts}
 use Rattle.answer.specs.declared.State.{State}
 use Rattle.answer.specs.declared.Firing.the-variants.{Fired}
-use Rattle.iosa.specs.Model.{Model, declared}
-use Rattle.iosa.specs.WellFormed.{WellFormed}
+use Rattle.model.specs.Model.{Model, declared}
+use Rattle.model.specs.WellFormed.{WellFormed}
 use Rattle.iosa.specs.Automaton.{Conforming, Joinable}
 use Rattle.iosa.specs.Product.{Within}
-use Rattle.iosa.specs.Timed.{ticksOf, enablingAll, clockRowOf, agedFrom, fire}
+use Rattle.timing.specs.Timed.{ticksOf, enablingAll, clockRowOf, agedFrom, fire}
 use Rattle.iosa.specs.TimedExactly.{valueOf}
 use Rattle.iosa.proofs.Settling.ProductOfMany.{wells}
-use Rattle.iosa.proofs.Timing.Enabling.{enabling-enables, enables-clock, clock-declared}
+use Rattle.timing.proofs.Timing.Enabling.{enabling-enables, enables-clock, clock-declared}
 use Rattle.moves.specs.Moves.{resetBy, afterBy}
 use Rattle.ticks.specs.Ticks.{Tick, Ticking}
 use Rattle.ticks.proofs.Falling.{tick-back}

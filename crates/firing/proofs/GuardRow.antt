@@ -11,10 +11,10 @@ use Rattle.laws.specs.Sets.{has}
 use Rattle.laws.specs.Search.{seek, when, mapSome}
 use Rattle.laws.proofs.SearchLaws.{seek-some, when-some, map-some}
 use Rattle.answer.specs.Limits.{maxActions}
-use Rattle.iosa.specs.Model.{Row, Comp}
+use Rattle.model.specs.Model.{Row, Comp}
 use Rattle.iosa.specs.Step.{goneBy, move}
 use Rattle.iosa.specs.Stepped.{Gone}
-use Rattle.iosa.specs.Timed.{clockRow, fireOne}
+use Rattle.timing.specs.Timed.{clockRow, fireOne}
 use Rattle.layout.specs.Layout.{countOf, blockWord, firstOf, guardAt, resetsAt, targetAt}
 use Rattle.layout.specs.Image.{Image, compOf, rowIn}
 use Rattle.layout.specs.Ranges.{RowRanges}

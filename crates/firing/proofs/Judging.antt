@@ -15,16 +15,16 @@ use Rattle.answer.specs.declared.State.{State}
 use Rattle.answer.specs.declared.Refusal.{Refusal}
 use Rattle.answer.specs.declared.Firing.the-variants.{Quiet, Refused}
 use Rattle.answer.proofs.StateLaws.{with-own-parts}
-use Rattle.iosa.specs.Model.{Model, declared}
-use Rattle.iosa.specs.WellFormed.{WellFormed}
+use Rattle.model.specs.Model.{Model, declared}
+use Rattle.model.specs.WellFormed.{WellFormed}
 use Rattle.iosa.specs.Automaton.{Conforming, Joinable}
 use Rattle.iosa.specs.Product.{Within}
 use Rattle.iosa.specs.Checks.{acceptOf}
 use Rattle.iosa.specs.Step.{Went, isStable, inRange, stateFault, lowest, urgentStep}
-use Rattle.iosa.specs.Timed.{enablingAll, unstableFault, outOfTicks, valuesFault, timedFrom, timedOf, quietly}
+use Rattle.timing.specs.Timed.{enablingAll, unstableFault, outOfTicks, valuesFault, timedFrom, timedOf, quietly}
 use Rattle.iosa.specs.TimedExactly.{Timing}
 use Rattle.iosa.proofs.Settling.ProductOfMany.{wells}
-use Rattle.iosa.proofs.Timing.Ticks.{badValues, values-exactly}
+use Rattle.timing.proofs.Timing.Ticks.{badValues, values-exactly}
 use Rattle.ticks.specs.Ticks.{Tick, Ticking, outside, byValue}
 use Rattle.firing.specs.declared.Choice.{Choice}
 use Rattle.firing.specs.Choices.{choiceOf, answerOf}

@@ -6,17 +6,17 @@ use Prim.Native.Nat.{ℕ, _<_}
 use lib.IntN.{ℤ}
 use Rattle.laws.specs.Sets.{_∪_, _∈_}
 use Rattle.laws.proofs.SearchLaws.{no-some}
-use Rattle.iosa.specs.Model.{Row, Comp, Model}
-use Rattle.iosa.specs.WellFormed.{WellFormed}
+use Rattle.model.specs.Model.{Row, Comp, Model}
+use Rattle.model.specs.WellFormed.{WellFormed}
 use Rattle.iosa.specs.Automaton.{Conditions, autoOf, Conforming, Joinable}
 use Rattle.iosa.specs.Product.{Within}
 use Rattle.iosa.specs.Step.{together}
 use Rattle.iosa.specs.Stepped.{Gone}
-use Rattle.iosa.specs.Timed.{enablingAll, clockRowOf, fireOne, fireAll, firedBy, fire}
+use Rattle.timing.specs.Timed.{enablingAll, clockRowOf, fireOne, fireAll, firedBy, fire}
 use Rattle.iosa.proofs.Settling.Each.{each-all}
 use Rattle.iosa.proofs.Settling.ProductOfMany.{joinable-pairwise, wells}
-use Rattle.iosa.proofs.Timing.Enabling.{enabling-enables}
-use Rattle.iosa.proofs.Timing.Fire.{enabling-shoots}
+use Rattle.timing.proofs.Timing.Enabling.{enabling-enables}
+use Rattle.timing.proofs.Timing.Fire.{enabling-shoots}
 use Rattle.moves.specs.Moves.{orStays, resetBy, afterBy}
 use Rattle.firing.specs.Fired.{actionOr, firedOne, firedAll}
 

@@ -6,8 +6,8 @@ use lib.IntN.{ℤ}
 use Rattle.laws.specs.Search.{least}
 use Rattle.answer.specs.Limits.{maxClocks}
 use Rattle.answer.specs.Told.{tell, Answer, answered, refused}
-use Rattle.iosa.specs.Model.{Model}
-use Rattle.iosa.specs.Timed.{check29, check30, isLeast, fire, quietly}
+use Rattle.model.specs.Model.{Model}
+use Rattle.timing.specs.Timed.{check29, check30, isLeast, fire, quietly}
 use Rattle.iosa.specs.TimedExactly.{Timing}
 use Rattle.firing.specs.declared.Choice.{Choice}
 use Rattle.firing.specs.declared.Choice.the-variants.{Negative, Shared, Quiet, Fires}

@@ -3,10 +3,10 @@ use mathlib.Core.Option.{Option, none, some}
 use mathlib.Core.List.{List}
 use Prim.Native.Nat.{ℕ, suc}
 use Rattle.answer.specs.Limits.{maxActions}
-use Rattle.iosa.specs.Model.{Row, Comp, Model}
+use Rattle.model.specs.Model.{Row, Comp, Model}
 use Rattle.iosa.specs.Step.{goneBy}
 use Rattle.iosa.specs.Stepped.{Gone}
-use Rattle.iosa.specs.Timed.{clockRow, fireOne}
+use Rattle.timing.specs.Timed.{clockRow, fireOne}
 use Rattle.layout.specs.Layout.{firstOf}
 use Rattle.rows.specs.Ranges.{byGuard}
 use Rattle.moves.specs.Moves.{orStays, resetBy, afterBy}

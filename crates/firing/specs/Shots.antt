@@ -15,8 +15,8 @@ use Rattle.answer.specs.declared.Place.the-variants.{Whole}
 use Rattle.answer.specs.declared.Firing.the-variants.{Refused}
 use Rattle.laws.specs.Sets.{_∈_}
 use Rattle.iosa.specs.Automaton.{Conforming, Joinable}
-use Rattle.iosa.specs.Model.{Model, declared}
-use Rattle.iosa.specs.Timed.{enablingAll}
+use Rattle.model.specs.Model.{Model, declared}
+use Rattle.timing.specs.Timed.{enablingAll}
 use Rattle.iosa.specs.TimedExactly.{Timing, valueOf}
 use Rattle.layout.specs.Image.{modelOf}
 use Rattle.moves.specs.Standing.{Standing}

@@ -18,7 +18,7 @@ ghost use Rattle.layout.specs.Image.{Image, compOf, modelOf};
 ghost use mathlib.Core.Option.{none};
 ghost use Rattle.iosa.specs.Checks.{acceptOf};
 ghost use Rattle.rows.specs.Ranges.{foundOf};
-ghost use Rattle.iosa.specs.Timed.{clockRow, clockRowOf, fire, timedFrom, timedOf, enablingAll};
+ghost use Rattle.timing.specs.Timed.{clockRow, clockRowOf, fire, timedFrom, timedOf, enablingAll};
 ghost use Rattle.moves.specs.Moves.{GoneTo, resetBy, afterBy};
 ghost use Rattle.moves.specs.Standing.{Standing};
 ghost use Rattle.firing.specs.Fired.{byClock, actionOr, guardedOne, firedOne};

@@ -6,12 +6,13 @@ use Prim.Native.Nat.{ℕ}
 use lib.IntN.{ℤ}
 use Rattle.answer.specs.Told.{Answer, doneOf}
 use Rattle.answer.specs.declared.State.{State}
-use Rattle.iosa.specs.Reading.{readOf}
+use Rattle.model.specs.Reading.{readOf}
 use Rattle.iosa.specs.Stepped.{Stepping}
 use Rattle.iosa.specs.Orders.{Settling}
 use Rattle.layout.specs.Lent.{tableAfter}
 use Rattle.table.specs.IsImage.{isImage}
 use Rattle.reading.specs.Read.{readOn}
+use Rattle.plant.specs.ReadTreeCall.{readTreeOn}
 use Rattle.text.specs.Write.{writeOn, textAfter}
 use Rattle.merge.specs.Merging.{mergeOn}
 use Rattle.repair.specs.Repairing.{repairOn, numberIn, tableWith, listWith}
@@ -64,6 +65,10 @@ module _ (t : List ℕ) (p q b d : List ℕ) where
     pub floodneedle_read-determined : (p ≡ checkedWords (doneOf (readOn t old))) × (b ≡ tableAfter (readOn t old) old)
         → (q ≡ checkedWords (doneOf (readOn t old))) × (d ≡ tableAfter (readOn t old) old) → (p ≡ q) × (b ≡ d)
     floodneedle_read-determined e f = (one (e .0) (f .0), one (e .1) (f .1))
+
+    pub floodneedle_read_tree-determined : (p ≡ checkedWords (doneOf (readTreeOn t old))) × (b ≡ tableAfter (readTreeOn t old) old)
+        → (q ≡ checkedWords (doneOf (readTreeOn t old))) × (d ≡ tableAfter (readTreeOn t old) old) → (p ≡ q) × (b ≡ d)
+    floodneedle_read_tree-determined e f = (one (e .0) (f .0), one (e .1) (f .1))
 
     pub floodneedle_write-determined : (p ≡ writtenWords (writeOn t old)) × (b ≡ textAfter (writeOn t old) t old)
         → (q ≡ writtenWords (writeOn t old)) × (d ≡ textAfter (writeOn t old) t old) → (p ≡ q) × (b ≡ d)

@@ -12,7 +12,7 @@ use Rattle.iosa.specs.Checks.{componentOf, compatibleOf, acceptOf, confluentOf}
 use Rattle.iosa.specs.Start.{Beginning}
 use Rattle.iosa.specs.Stepped.{Stepping}
 use Rattle.iosa.specs.Orders.{Settling}
-use Rattle.iosa.specs.Timed.{timedOf}
+use Rattle.timing.specs.Timed.{timedOf}
 use Rattle.iosa.specs.TimedExactly.{Timing}
 use Rattle.triggering.specs.Test.{orderlyOf}
 use Rattle.outset.specs.Start.{stateIn}

@@ -13,11 +13,12 @@ ghost use Rattle.words.specs.Version.{versionNumber};
 ghost use Rattle.layout.specs.Lent.{tableAfter};
 ghost use Rattle.outset.specs.Start.{startOn};
 ghost use Rattle.reading.specs.Read.{readOn};
+ghost use Rattle.plant.specs.ReadTreeCall.{readTreeOn};
 ghost use Rattle.text.specs.Write.{writeOn, textAfter};
 ghost use Rattle.merge.specs.Merging.{mergeOn};
 ghost use Rattle.repair.specs.Repairing.{repairOn, numberIn, tableWith, listWith};
 ghost use Rattle.report.specs.Reported.{lengthTold, reportIn};
-ghost use Rattle.iosa.specs.Reading.{readOf};
+ghost use Rattle.model.specs.Reading.{readOf};
 ghost use Rattle.table.specs.IsImage.{isImage};
 ghost use Rattle.words.specs.Bytes.{stateOf};
 ghost use Rattle.floodneedle.specs.Told.{componentOn, compatibleOn, acceptOn, confluentOn, orderlyOn, timedOn, StartTold, TimingTold, StepTold, AdvanceTold, SettlingTold, AfterTold, SimulationTold};
@@ -57,6 +58,20 @@ pub extern "C" fn floodneedle_read(text: &[u8], table: &mut [u64], answer: &mut 
     ensures buffer { λ _. ⌜ now (table .exit) ≡ tableAfter (readOn (now (text .entry)) (now (table .entry))) (now (table .entry)) ⌝ }
 {
     let checked = text::read(text, table);
+    *answer = words::checked_words(checked);
+}
+
+// Reads the text of a repairable fault tree into the table, as its model.
+#[no_mangle]
+pub extern "C" fn floodneedle_read_tree(
+    text: &[u8],
+    table: &mut [u64],
+    answer: &mut [u64; Words::COUNT],
+)
+    ensures answer { λ _. ⌜ now (answer .exit) ≡ checkedWords (doneOf (readTreeOn (now (text .entry)) (now (table .entry)))) ⌝ }
+    ensures buffer { λ _. ⌜ now (table .exit) ≡ tableAfter (readTreeOn (now (text .entry)) (now (table .entry))) (now (table .entry)) ⌝ }
+{
+    let checked = plant::read_tree(text, table);
     *answer = words::checked_words(checked);
 }
 

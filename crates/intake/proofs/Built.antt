@@ -7,9 +7,9 @@ use native.Mathlib.Omega.{arith}
 use lib.ListN.{length, take, drop, length-drop, take-append-drop}
 use lib.Seq.{ext-getD, getD-drop}
 use Rattle.answer.specs.Told.{Told, answered, refused}
-use Rattle.iosa.specs.Model.{Model, Comp}
-use Rattle.iosa.specs.Reading.{Progress, stops, entry, faultOf, finish, linesFrom, atStart, readOf}
-use Rattle.iosa.proofs.Reading.Faults.{read-short, model-read}
+use Rattle.model.specs.Model.{Model, Comp}
+use Rattle.model.specs.Reading.{Progress, stops, entry, faultOf, finish, linesFrom, atStart, readOf}
+use Rattle.model.proofs.Reading.Faults.{read-short, model-read}
 use Rattle.lines.specs.declared.Line.{Line}
 use Rattle.lines.specs.Lines.{lineOf}
 use Rattle.judge.specs.declared.Progress.{Progress as CodeProgress}

@@ -12,11 +12,11 @@ use borrow.Author.Tests.{lt-ltb}
 use Rattle.laws.specs.Search.{when, orElse}
 use Rattle.laws.proofs.SearchLaws.{no-some}
 use Rattle.answer.specs.Limits.{maxComponents, maxRows, maxStates, maxClocks}
-use Rattle.iosa.specs.Model.{Comp, rowCount}
-use Rattle.iosa.specs.Text.{Kind, in-kind, out-kind, uin-kind, uout-kind}
-use Rattle.iosa.specs.Reading.{Entry, comp-entry, act-entry, clk-entry, row-entry, Progress, current, turn, outOfTurn, outOfRange, lacks, outOfOrder, tooMany, faultOf, guardOf, rowOf, takeIn}
-use Rattle.iosa.specs.Faulty.{GuardIs, InTurn, InRange, Room}
-use Rattle.iosa.proofs.Reading.Tests.{turn-decided, range-decided, below-decided, room-decided}
+use Rattle.model.specs.Model.{Comp, rowCount}
+use Rattle.model.specs.Text.{Kind, in-kind, out-kind, uin-kind, uout-kind}
+use Rattle.model.specs.Reading.{Entry, comp-entry, act-entry, clk-entry, row-entry, Progress, current, turn, outOfTurn, outOfRange, lacks, outOfOrder, tooMany, faultOf, guardOf, rowOf, takeIn}
+use Rattle.model.specs.Faulty.{GuardIs, InTurn, InRange, Room}
+use Rattle.model.proofs.Reading.Tests.{turn-decided, range-decided, below-decided, room-decided}
 use Rattle.fields.specs.Resets.{summary}
 use Rattle.lines.specs.declared.Line.{Line}
 use Rattle.lines.specs.declared.Line.the-variants as OfLine

@@ -21,4 +21,3 @@ pub mod InTurn
 pub mod Refused
 pub mod FirstFault
 pub mod Clashes
-pub mod LooksRight

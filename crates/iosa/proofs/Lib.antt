@@ -1,9 +1,4 @@
-pub mod Examples
 pub mod Acceptance
 pub mod Settling
 pub mod Thesis
 pub mod Reaching
-pub mod Reading
-pub mod Merging
-pub mod Timing
-pub mod Answers

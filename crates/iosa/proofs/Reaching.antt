@@ -2,5 +2,3 @@
 pub mod ReachExactly
 pub mod Refused19
 pub mod Keeps
-pub mod Merged
-pub mod Witness

@@ -18,6 +18,5 @@ pub mod Range
 pub mod Called
 pub mod Listed
 pub mod WellFormedTest
-pub mod Witness
 pub mod StepCalled
 pub mod Start

@@ -4,7 +4,7 @@ use mathlib.Core.Logic.{_≢_, _⊎_}
 use Prim.Native.Nat.{ℕ, _<_}
 use lib.ListN.{length}
 use Rattle.laws.specs.Sets.{_∪_, _∖_, only, _∈_, _⊆_, Apart}
-use Rattle.iosa.specs.Model.{Row, Comp, Model, rowAt, compAt, guardSet, inputs, outputs, urgents}
+use Rattle.model.specs.Model.{Row, Comp, Model, rowAt, compAt, guardSet, inputs, outputs, urgents}
 
 -- (S, A, C, →, C0, s0): states, actions as inputs and outputs, some of them urgent, clocks, rows, the clocks set at the start, the start.
 -- `Row s C a R t`: a row leaves s with guard set C, action a and resets R, and goes to t

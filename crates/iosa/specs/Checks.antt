@@ -10,7 +10,7 @@ use Rattle.laws.specs.Search.{seek, when, isSome, orElse, mapSome, least, any, 
 use Rattle.laws.specs.Fold.{tab, sum}
 use Rattle.answer.specs.Limits.{maxActions, maxClocks}
 use Rattle.answer.specs.Told.{Told, tell}
-use Rattle.iosa.specs.Model.{Row, Comp, Model, rowAt, compAt, inputs, outputs, urgents, acts, guardSet, rowCount}
+use Rattle.model.specs.Model.{Row, Comp, Model, rowAt, compAt, inputs, outputs, urgents, acts, guardSet, rowCount}
 
 -- row r leaves s by action a
 abbrev pub leaves : Row → ℕ → ℕ → Bool

@@ -7,8 +7,8 @@ use Prim.Native.Nat.{ℕ, _+_, _<_}
 use lib.ListN.{length, take, getD}
 use Rattle.laws.specs.Sets.{_∪_, only, _∈_}
 use Rattle.answer.specs.Told.{Told, tell}
-use Rattle.iosa.specs.Model.{Comp, Model, rowAt, compAt, guardSet, rowCount}
-use Rattle.iosa.specs.WellFormed.{lower}
+use Rattle.model.specs.Model.{Comp, Model, rowAt, compAt, guardSet, rowCount}
+use Rattle.model.specs.WellFormed.{lower}
 use Rattle.iosa.specs.Automaton.{Automaton, alphabet, Leads, autoOf, CondF, ReachedIn}
 
 -- ---- 10 "(a) or (b) broken": the row

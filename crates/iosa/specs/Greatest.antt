@@ -2,7 +2,7 @@
 use Prim.Native.Nat.{ℕ, _<_}
 use lib.ListN.{length}
 use Rattle.laws.specs.Sets.{_∪_, _∖_, _⊆_}
-use Rattle.iosa.specs.Model.{Row, Comp, rowAt, guardSet}
+use Rattle.model.specs.Model.{Row, Comp, rowAt, guardSet}
 use Rattle.iosa.specs.Checks.{allowed}
 
 -- what row r hands on to its target, of a set for each state: "(active(t) without C) joined with R"

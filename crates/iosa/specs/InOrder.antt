@@ -5,7 +5,7 @@ use Prim.Native.Nat.{ℕ, _≤_, _<_}
 use lib.ListN.{length}
 use Rattle.laws.specs.Lowest.{Lowest}
 use Rattle.answer.specs.Told.{Told, tell, Answer, answered, refused}
-use Rattle.iosa.specs.Model.{Model, compAt}
+use Rattle.model.specs.Model.{Model, compAt}
 use Rattle.iosa.specs.Automaton.{autoOf, Joinable, AllConfluent}
 use Rattle.iosa.specs.Thesis.{Definition41, HouseRule, AllDefinition41}
 use Rattle.iosa.specs.Faults.{Fault, InTurnOf, Clash, First}

@@ -9,7 +9,7 @@ use Rattle.laws.specs.Sets.{_∪_}
 use Rattle.laws.specs.Search.{when, orElse, mapSome}
 use Rattle.answer.specs.Limits.{maxBudget}
 use Rattle.answer.specs.Told.{Told, tell, Answer, answered, refused}
-use Rattle.iosa.specs.Model.{Model}
+use Rattle.model.specs.Model.{Model}
 use Rattle.iosa.specs.Checks.{reachOf, confluentOf}
 use Rattle.iosa.specs.Step.{Went, lowest, urgentStep, isStable, stateFault, unless}
 use Rattle.iosa.specs.Stepped.{Gone}

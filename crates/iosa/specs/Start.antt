@@ -3,7 +3,7 @@ use mathlib.Core.Path.{_≡_}
 use mathlib.Core.List.{List, [], _∷_}
 use Prim.Native.Nat.{ℕ}
 use Rattle.laws.specs.Sets.{_∪_}
-use Rattle.iosa.specs.Model.{Comp, Model}
+use Rattle.model.specs.Model.{Comp, Model}
 use Rattle.iosa.specs.Product.{product, stateOf, Within}
 
 -- "`comp`: states, start": one number for each component

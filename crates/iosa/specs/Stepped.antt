@@ -2,7 +2,7 @@
 use mathlib.Core.List.{List, _∷_}
 use Prim.Native.Nat.{ℕ, _<_}
 use Rattle.answer.specs.Told.{Step, moved, stable}
-use Rattle.iosa.specs.Model.{Comp}
+use Rattle.model.specs.Model.{Comp}
 use Rattle.iosa.specs.Automaton.{UrgentRow, Stable}
 use Rattle.iosa.specs.Product.{product, stateOf, Within}
 

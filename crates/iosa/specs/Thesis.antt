@@ -6,7 +6,7 @@ use mathlib.Core.Logic.{_↔_}
 use Prim.Native.Nat.{ℕ, _<_}
 use lib.ListN.{length}
 use Rattle.laws.specs.Sets.{_∪_, _∩_, _∖_, only, _∈_, _⊆_, Apart}
-use Rattle.iosa.specs.Model.{Model, compAt}
+use Rattle.model.specs.Model.{Model, compAt}
 use Rattle.iosa.specs.Automaton.{Automaton, alphabet, autoOf, UrgentRow}
 
 -- ---- the structure (S, A, C, →, C0, s0)

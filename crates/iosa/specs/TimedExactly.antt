@@ -11,7 +11,7 @@ use Rattle.laws.specs.Sets.{has, only, _∈_}
 use Rattle.laws.specs.Lowest.{Lowest}
 use Rattle.answer.specs.Limits.{maxClocks, maxTicks}
 use Rattle.answer.specs.Told.{tell, Answer, answered, refused, Shot, fired, quiet}
-use Rattle.iosa.specs.Model.{Comp, Model, declared}
+use Rattle.model.specs.Model.{Comp, Model, declared}
 use Rattle.iosa.specs.Automaton.{Stable, Enabling}
 use Rattle.iosa.specs.Product.{product, stateOf, Within}
 

@@ -15,10 +15,10 @@ use Rattle.laws.specs.Search.{when, orElse}
 use Rattle.laws.proofs.SetLaws.{bit-or, bit-ext, or-assoc}
 use Rattle.laws.proofs.TestLaws.{and-true}
 use Rattle.answer.specs.Limits.{maxComponents, maxRows, maxStates, maxActions, maxClocks}
-use Rattle.iosa.specs.Model.{Row, Comp, acts, rowCount}
-use Rattle.iosa.specs.Text.{Kind, in-kind, out-kind, uin-kind, uout-kind}
-use Rattle.iosa.specs.WellFormed.{before}
-use Rattle.iosa.specs.Reading.{Entry, comp-entry, act-entry, clk-entry, row-entry, Progress, current, turn, outOfTurn, outOfRange, lacks, follows, outOfOrder, tooMany, faultOf, guardBelow, guardIn, guardOf, rowOf, allBelow, allIn, ascending, setOf, withAct, withClk, withRow, newComp, takeIn}
+use Rattle.model.specs.Model.{Row, Comp, acts, rowCount}
+use Rattle.model.specs.Text.{Kind, in-kind, out-kind, uin-kind, uout-kind}
+use Rattle.model.specs.WellFormed.{before}
+use Rattle.model.specs.Reading.{Entry, comp-entry, act-entry, clk-entry, row-entry, Progress, current, turn, outOfTurn, outOfRange, lacks, follows, outOfOrder, tooMany, faultOf, guardBelow, guardIn, guardOf, rowOf, allBelow, allIn, ascending, setOf, withAct, withClk, withRow, newComp, takeIn}
 use Rattle.lines.specs.Lines.{lineOf, guardIs}
 use Rattle.fields.specs.Resets.{summary}
 use Rattle.judge.specs.declared.Key.{Key}

@@ -11,7 +11,7 @@ use Rattle.laws.specs.Sets.{has, _∪_, within, only, _∈_, _⊆_}
 use Rattle.laws.proofs.SetLaws.{bit-or, bit-ext, bit-above, or-assoc, in-or, or-in-l, or-in-r, in-one, one-in, none-in, within-true, true-within}
 use Rattle.laws.proofs.TestLaws.{and-true}
 use Rattle.answer.specs.Limits.{maxClocks}
-use Rattle.iosa.specs.Reading.{allBelow, allIn, ascending, setOf}
+use Rattle.model.specs.Reading.{allBelow, allIn, ascending, setOf}
 use Rattle.fields.specs.declared.Resets.{Resets}
 use Rattle.fields.specs.Resets.{first, with, withAll, summary}
 

@@ -7,10 +7,10 @@ use lib.ListN.{length}
 use lib.Dec.{eqb, ltb, leb}
 use Rattle.laws.specs.Sets.{has, _∪_, within, only}
 use Rattle.answer.specs.Limits.{maxComponents, maxRows, maxStates, maxActions, maxClocks}
-use Rattle.iosa.specs.Model.{Row, acts, rowCount}
-use Rattle.iosa.specs.WellFormed.{before}
-use Rattle.iosa.specs.Reading.{Entry, comp-entry, act-entry, clk-entry, row-entry, rowOf, current}
-use Rattle.iosa.specs.Reading as reading
+use Rattle.model.specs.Model.{Row, acts, rowCount}
+use Rattle.model.specs.WellFormed.{before}
+use Rattle.model.specs.Reading.{Entry, comp-entry, act-entry, clk-entry, row-entry, rowOf, current}
+use Rattle.model.specs.Reading as reading
 use Rattle.fields.specs.declared.Guard.{Guard}
 use Rattle.fields.specs.declared.Guard.the-variants as OfGuard
 use Rattle.lines.specs.declared.Line.{Line}

@@ -9,14 +9,14 @@ use lib.ListN.{length, length-append}
 use Rattle.laws.specs.Fold.{tab, spread}
 use Rattle.laws.proofs.ListLaws.{at-in, in-spread, spread-in, pairwise-spread}
 use Rattle.answer.specs.Limits.{maxActions}
-use Rattle.iosa.specs.Model.{Row, Comp, Model, noRow, compAt, rowCount}
-use Rattle.iosa.specs.Text.{rowLine, rowLines, compText, textOf}
-use Rattle.iosa.specs.WellFormed.{WellComp, WellFormed}
+use Rattle.model.specs.Model.{Row, Comp, Model, noRow, compAt, rowCount}
+use Rattle.model.specs.Text.{rowLine, rowLines, compText, textOf}
+use Rattle.model.specs.WellFormed.{WellComp, WellFormed}
 use Rattle.iosa.specs.Checks.{lacksRow}
-use Rattle.iosa.specs.Merge.{rowsBy}
+use Rattle.merged.specs.Merge.{rowsBy}
 use Rattle.iosa.proofs.Acceptance.Rows.{act-below}
-use Rattle.iosa.proofs.Merging.Rows.{rows-by-in, in-rows-by}
-use Rattle.iosa.proofs.Merging.Ascend.{Before, Ascending, by-from, rows-ascending, rows-by-ascend}
+use Rattle.merged.proofs.Merging.Rows.{rows-by-in, in-rows-by}
+use Rattle.merged.proofs.Merging.Ascend.{Before, Ascending, by-from, rows-ascending, rows-by-ascend}
 use Rattle.measure.proofs.Lines.{rows-more, rows-append, no-rows, comp-by-head, text-more}
 use Rattle.lacking.specs.Repair.{loopAt, missingAt, repairedAt, repaired, repairedOf, cell, cellAt, cellsOf, addedTo}
 use Rattle.lacking.specs.Walk.{widthOf}

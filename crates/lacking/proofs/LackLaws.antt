@@ -17,7 +17,7 @@ use Rattle.laws.proofs.TabLaws.{spread-same}
 use Rattle.laws.proofs.TestLaws.{not-so}
 use Rattle.laws.proofs.UnionLaws.{has-joined}
 use Rattle.answer.specs.Limits.{maxActions}
-use Rattle.iosa.specs.Model.{compAt, inputs}
+use Rattle.model.specs.Model.{compAt, inputs}
 use Rattle.iosa.specs.Checks.{rowFor, lacksRow}
 use Rattle.layout.specs.Layout.{countOf, blockWord, firstOf, actionAt}
 use Rattle.layout.specs.Image.{compOf, rowIn, modelOf}

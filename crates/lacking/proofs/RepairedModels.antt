@@ -17,8 +17,8 @@ use Rattle.laws.proofs.TestLaws.{not-so}
 use Rattle.laws.proofs.ListLaws.{in-at, in-spread, spread-in, Pairwise, pairwise-spread, pairwise-next, pairwise-from}
 use Rattle.answer.specs.Limits.{maxActions}
 use Rattle.answer.specs.Told.{Told, tell}
-use Rattle.iosa.specs.Model.{Row, Comp, Model, noComp, compAt}
-use Rattle.iosa.specs.WellFormed.{lower, WellComp, WellFormed}
+use Rattle.model.specs.Model.{Row, Comp, Model, noComp, compAt}
+use Rattle.model.specs.WellFormed.{lower, WellComp, WellFormed}
 use Rattle.iosa.specs.Checks.{lacksRow, componentOf, acceptOf}
 use Rattle.iosa.specs.Faults.{Broken12, FaultAt, guarded, repeated, lacking, doubled, inactive, Fault, inside, output-shared, clock-shared, urgency-differs}
 use Rattle.iosa.proofs.Acceptance.Order.{lower-irreflexive, lower-transitive, lower-less, lower-same}

@@ -12,17 +12,17 @@ use Rattle.laws.specs.Fold.{spread}
 use Rattle.laws.proofs.SetLaws.{or-in-l, none-in}
 use Rattle.laws.proofs.ListLaws.{in-at, at-in, in-spread, spread-in, Pairwise, pairwise-append, pairwise-spread, pairwise-next, pairwise-from}
 use Rattle.answer.specs.Limits.{maxActions}
-use Rattle.iosa.specs.Model.{Row, Comp, noRow, rowAt, inputs, outputs, acts}
-use Rattle.iosa.specs.WellFormed.{before, WellRow, WellComp}
+use Rattle.model.specs.Model.{Row, Comp, noRow, rowAt, inputs, outputs, acts}
+use Rattle.model.specs.WellFormed.{before, WellRow, WellComp}
 use Rattle.iosa.specs.Automaton.{Leads}
 use Rattle.iosa.specs.Checks.{rowFor, lacksRow}
 use Rattle.iosa.specs.Faults.{Broken12}
-use Rattle.iosa.specs.Merge.{rowsBy}
+use Rattle.merged.specs.Merge.{rowsBy}
 use Rattle.iosa.proofs.Acceptance.Order.{before-irreflexive, before-transitive, lower-less, lower-same}
 use Rattle.iosa.proofs.Acceptance.Rows.{row-found, row-missing, act-below}
 use Rattle.iosa.proofs.Acceptance.Check12.{lack-broken, broken-lack}
-use Rattle.iosa.proofs.Merging.Rows.{rows-by-in, in-rows-by, rows-by-lead}
-use Rattle.iosa.proofs.Merging.Ascend.{Before, Ascending, by-from, rows-ascending, rows-by-ascend}
+use Rattle.merged.proofs.Merging.Rows.{rows-by-in, in-rows-by, rows-by-lead}
+use Rattle.merged.proofs.Merging.Ascend.{Before, Ascending, by-from, rows-ascending, rows-by-ascend}
 use Rattle.lacking.specs.Repair.{loopAt, missingAt, repairedAt, repaired}
 use Rattle.lacking.specs.Repaired.{SelfLoop, RepairedComp}
 use Rattle.lacking.proofs.SameMembers.{same-ascending}

@@ -15,7 +15,7 @@ use Rattle.laws.proofs.TestLaws.{not-so}
 use Rattle.laws.proofs.TabLaws.{spread-next, spread-done}
 use Rattle.laws.proofs.GrowLaws.{spread-none}
 use Rattle.answer.specs.Limits.{maxActions}
-use Rattle.iosa.specs.Text.{rowLine}
+use Rattle.model.specs.Text.{rowLine}
 use Rattle.layout.specs.Layout.{blockWord}
 use Rattle.lacking.specs.declared.Tally.{Tally}
 use Rattle.lacking.specs.Repair.{loopAt, cell}

@@ -5,9 +5,9 @@ use Prim.Native.Nat.{ℕ}
 use lib.ListN.{length}
 use Rattle.laws.specs.Fold.{spread}
 use Rattle.answer.specs.Limits.{maxActions}
-use Rattle.iosa.specs.Model.{Row, Comp, Model, compAt}
+use Rattle.model.specs.Model.{Row, Comp, Model, compAt}
 use Rattle.iosa.specs.Checks.{lacksRow}
-use Rattle.iosa.specs.Merge.{rowsBy}
+use Rattle.merged.specs.Merge.{rowsBy}
 
 -- "a row to itself with no guard or resets"
 abbrev pub loopAt : ℕ → ℕ → Row

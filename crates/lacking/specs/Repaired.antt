@@ -6,9 +6,9 @@ use mathlib.Core.List.{List, List·Memᴰ as In}
 use Prim.Native.Nat.{ℕ, suc, _≤_, _<_}
 use lib.ListN.{length, getD}
 use Rattle.answer.specs.Limits.{maxRows, maxBytes}
-use Rattle.iosa.specs.Model.{Row, Comp, Model, rowAt, compAt, rowCount}
-use Rattle.iosa.specs.Text.{textOf}
-use Rattle.iosa.specs.WellFormed.{lower, before}
+use Rattle.model.specs.Model.{Row, Comp, Model, rowAt, compAt, rowCount}
+use Rattle.model.specs.Text.{textOf}
+use Rattle.model.specs.WellFormed.{lower, before}
 use Rattle.iosa.specs.Faults.{Broken12}
 use Rattle.lacking.specs.Repair.{loopAt, cell}
 

@@ -8,7 +8,7 @@ use lib.Seq.{sets}
 use Rattle.laws.specs.Sets.{has, _∪_, _∖_, only}
 use Rattle.laws.specs.Fold.{over, spread}
 use Rattle.answer.specs.Limits.{maxActions, maxStates, maxComponents}
-use Rattle.iosa.specs.Text.{rowLine}
+use Rattle.model.specs.Text.{rowLine}
 use Rattle.layout.specs.Layout.{blockWord, firstOf, actionAt}
 use Rattle.lacking.specs.declared.Tally.{Tally}
 use Rattle.lacking.specs.Repair.{loopAt, cell}

@@ -14,9 +14,9 @@ use Rattle.laws.specs.Search.{seek, when, isSome, orElse, mapSome, any}
 use Rattle.laws.specs.Fold.{over}
 use Rattle.laws.proofs.SetLaws.{or-assoc}
 use Rattle.laws.proofs.RangeLaws.{folded, folded-tab, folded-spread, over-list, over-still, over-ext, else-none, over-seek, seek-ext, seek-map, seek-any}
-use Rattle.iosa.specs.Model.{Row, noRow, rowAt, guardSet}
+use Rattle.model.specs.Model.{Row, noRow, rowAt, guardSet}
 use Rattle.iosa.specs.Checks.{rowFor, unstable, enablingIn, enablingOf}
-use Rattle.iosa.specs.Timed.{clockRow}
+use Rattle.timing.specs.Timed.{clockRow}
 use Rattle.layout.specs.Layout.{blockWord, firstOf, actionAt, guardAt}
 use Rattle.layout.specs.Image.{rowIn, rowsLeaving, compOf}
 

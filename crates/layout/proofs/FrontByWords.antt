@@ -8,8 +8,8 @@ use native.Mathlib.Decide.{decLt}
 use lib.ListN.{length, getD, take, length-take}
 use lib.Seq.{ext-getD, getD-take, take-all}
 use Rattle.answer.specs.Limits.{maxComponents, maxRows}
-use Rattle.iosa.specs.Model.{Model, compAt, rowCount}
-use Rattle.iosa.specs.WellFormed.{WellFormed}
+use Rattle.model.specs.Model.{Model, compAt, rowCount}
+use Rattle.model.specs.WellFormed.{WellFormed}
 use Rattle.layout.specs.Layout.{blockWords, rowWords, rowsAt, imageWords, countOf, blockWord}
 use Rattle.layout.specs.Image.{imageOf}
 use Rattle.layout.specs.Words.{rowWord, Holds}

@@ -9,8 +9,8 @@ use lib.Seq.{take-all}
 use borrow.Author.Tests.{le-leb, lt-leb}
 use Rattle.laws.proofs.FoldLaws.{tab-at}
 use Rattle.answer.specs.Limits.{maxStates}
-use Rattle.iosa.specs.Model.{rowAt, rowCount}
-use Rattle.iosa.specs.WellFormed.{WellFormed}
+use Rattle.model.specs.Model.{rowAt, rowCount}
+use Rattle.model.specs.WellFormed.{WellFormed}
 use Rattle.layout.specs.Layout.{headWords, blockWords, rowWords, rowsAt, countOf, blockWord, firstOf, actionAt, guardAt, resetsAt, targetAt}
 use Rattle.layout.specs.Image.{blockOf, firstWord, rowIn, compOf, modelOf, Image}
 use Rattle.layout.specs.Laid.{Laid}

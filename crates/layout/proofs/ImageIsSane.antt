@@ -8,8 +8,8 @@ use lib.ListN.{length, length-take}
 use Rattle.laws.specs.Sets.{_∪_, _∈_, _⊆_}
 use Rattle.laws.proofs.SetLaws.{in-below, in-or, in-one}
 use Rattle.answer.specs.Limits.{maxComponents, maxStates, maxRows, maxActions, maxClocks}
-use Rattle.iosa.specs.Model.{Comp, acts, guardSet}
-use Rattle.iosa.specs.WellFormed.{WellComp}
+use Rattle.model.specs.Model.{Comp, acts, guardSet}
+use Rattle.model.specs.WellFormed.{WellComp}
 use Rattle.layout.specs.Layout.{headWords, imageWords, countOf, blockWord, firstOf, actionAt, guardAt}
 use Rattle.layout.specs.Image.{compOf, modelOf, Image, Sane}
 use Rattle.layout.specs.Ranges.{CompRanges, RowRanges}

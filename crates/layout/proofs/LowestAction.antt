@@ -13,7 +13,7 @@ use Rattle.laws.specs.Search.{seek, when, isSome, mapSome, least, Found}
 use Rattle.laws.proofs.SearchLaws.{seek-some, seek-none, some-seek, when-some, when-none, is-some, none-least, some-least}
 use Rattle.laws.proofs.TestLaws.{and-not-both}
 use Rattle.answer.specs.Limits.{maxActions}
-use Rattle.iosa.specs.WellFormed.{before}
+use Rattle.model.specs.WellFormed.{before}
 use Rattle.iosa.specs.Checks.{rowFor}
 use Rattle.iosa.proofs.Acceptance.Order.{rows-ascend}
 use Rattle.layout.specs.Layout.{countOf, blockWord, firstOf, actionAt}

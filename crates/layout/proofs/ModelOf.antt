@@ -5,7 +5,7 @@ use Prim.Native.Nat.{ℕ, _<_}
 use native.Mathlib.Omega.{arith}
 use lib.ListN.{length}
 use Rattle.laws.proofs.FoldLaws.{tab-length, tab-at}
-use Rattle.iosa.specs.Model.{noComp, compAt}
+use Rattle.model.specs.Model.{noComp, compAt}
 use Rattle.layout.specs.Layout.{countOf}
 use Rattle.layout.specs.Image.{compOf, modelOf}
 

@@ -7,8 +7,8 @@ use native.Mathlib.Decide.{decLt}
 use lib.ListN.{length, getD, take, drop}
 use lib.Seq.{take-all, drop-length, drop-cons, ext-getD}
 use Rattle.laws.specs.Fold.{tab, spread}
-use Rattle.iosa.specs.Model.{Comp, Model, noRow, noComp, rowAt, compAt, rowCount}
-use Rattle.iosa.specs.WellFormed.{WellFormed}
+use Rattle.model.specs.Model.{Comp, Model, noRow, noComp, rowAt, compAt, rowCount}
+use Rattle.model.specs.WellFormed.{WellFormed}
 use Rattle.layout.specs.Layout.{blockWords, imageWords, blockWord}
 use Rattle.layout.specs.Image.{leaveBelow, blockOf, imageOf, rowIn, rowsLeaving, compOf, modelOf, Image}
 use Rattle.layout.proofs.ModelOf.{model-length, comp-at}

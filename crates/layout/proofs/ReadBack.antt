@@ -9,8 +9,8 @@ use borrow.Author.Tests.{le-leb, lt-leb}
 use Rattle.laws.specs.Fold.{tab}
 use Rattle.laws.proofs.FoldLaws.{tab-length, tab-at}
 use Rattle.answer.specs.Limits.{maxComponents, maxRows, maxStates}
-use Rattle.iosa.specs.Model.{Row, Comp, Model, noRow, rowAt, compAt, rowCount}
-use Rattle.iosa.specs.WellFormed.{WellFormed}
+use Rattle.model.specs.Model.{Row, Comp, Model, noRow, rowAt, compAt, rowCount}
+use Rattle.model.specs.WellFormed.{WellFormed}
 use Rattle.layout.specs.Layout.{headWords, blockWords, rowWords, rowsAt, imageWords, countOf, blockWord, firstOf, actionAt, guardAt, resetsAt, targetAt}
 use Rattle.layout.specs.Words.{wordsOf, rowWord}
 use Rattle.layout.specs.Image.{leaveBelow, firstWord, blockOf, blocksOf, rowsOf, allRowsOf, zeros, imageOf}

@@ -9,8 +9,8 @@ use native.Mathlib.Decide.{ℕ-discrete}
 use lib.ListN.{length, getD}
 use lib.Dec.{ltb}
 use borrow.Author.Tests.{ltb-true, ltb-false, lt-ltb, le-ltb}
-use Rattle.iosa.specs.Model.{Row, Comp, noRow, rowAt}
-use Rattle.iosa.specs.WellFormed.{lower, before, WellComp}
+use Rattle.model.specs.Model.{Row, Comp, noRow, rowAt}
+use Rattle.model.specs.WellFormed.{lower, before, WellComp}
 use Rattle.iosa.proofs.Acceptance.Order.{rows-ascend}
 use Rattle.iosa.proofs.Acceptance.Order.{lower-cases}
 use Rattle.layout.specs.Image.{leaveBelow}

@@ -6,8 +6,8 @@ use native.Mathlib.Omega.{arith}
 use native.Mathlib.Decide.{decLt}
 use lib.ListN.{length, take}
 use Rattle.answer.specs.Limits.{maxRows, maxStates}
-use Rattle.iosa.specs.Model.{rowAt, compAt, rowCount}
-use Rattle.iosa.specs.WellFormed.{WellRow, WellComp, WellFormed}
+use Rattle.model.specs.Model.{rowAt, compAt, rowCount}
+use Rattle.model.specs.WellFormed.{WellRow, WellComp, WellFormed}
 use Rattle.layout.specs.Layout.{imageWords, countOf, blockWord, firstOf}
 use Rattle.layout.specs.Image.{leaveBelow, imageOf, rowIn, compOf, modelOf, Image}
 use Rattle.layout.proofs.ModelOf.{model-length, comp-at}

@@ -8,7 +8,7 @@ use lib.ListN.{length, getD, length-append, List·getD-append}
 use lib.Seq.{getD-append-add}
 use Rattle.laws.specs.Fold.{tab, spread}
 use Rattle.laws.proofs.FoldLaws.{tab-length, tab-at}
-use Rattle.iosa.specs.Model.{Row, noRow, rowAt}
+use Rattle.model.specs.Model.{Row, noRow, rowAt}
 use Rattle.layout.specs.Layout.{blockWord, firstOf}
 use Rattle.layout.specs.Image.{leaveBelow, rowIn, rowsLeaving, compOf}
 use Rattle.layout.proofs.RowsAscend.{none-below, all-below}

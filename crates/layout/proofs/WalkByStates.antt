@@ -8,7 +8,7 @@ use lib.ListN.{length}
 use Rattle.laws.specs.Search.{seek, orElse}
 use Rattle.laws.specs.Fold.{over}
 use Rattle.laws.proofs.RangeLaws.{over-ext, over-shift, over-nest, keep, over-seek, over-keep}
-use Rattle.iosa.specs.Model.{Row, rowAt}
+use Rattle.model.specs.Model.{Row, rowAt}
 use Rattle.layout.specs.Layout.{countOf, blockWord, firstOf}
 use Rattle.layout.specs.Image.{rowIn, compOf, Image}
 use Rattle.layout.proofs.RowsOfRange.{rows-end, first-up, range-row}

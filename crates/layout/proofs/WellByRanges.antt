@@ -6,9 +6,9 @@ use Prim.Native.Nat.{ℕ, suc, _+_, _-_, _≤_, _<_}
 use native.Mathlib.Omega.{arith}
 use lib.ListN.{length}
 use Rattle.laws.proofs.TestLaws.{apart-cases}
-use Rattle.iosa.specs.Model.{rowAt}
-use Rattle.iosa.specs.WellFormed.{before, WellRow}
-use Rattle.iosa.proofs.Merging.Ascend.{by-from}
+use Rattle.model.specs.Model.{rowAt}
+use Rattle.model.specs.WellFormed.{before, WellRow}
+use Rattle.merged.proofs.Merging.Ascend.{by-from}
 use Rattle.layout.specs.Layout.{blockWord, firstOf}
 use Rattle.layout.specs.Image.{rowIn, compOf}
 use Rattle.layout.proofs.UpwardRanges.{firsts-up, row-of-range, range-of-row}

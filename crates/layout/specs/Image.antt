@@ -8,8 +8,8 @@ use lib.Dec.{ltb, leb}
 use Rattle.laws.specs.Fold.{tab, spread}
 use Rattle.answer.specs.Limits.{maxComponents, maxRows, maxStates}
 use Rattle.answer.specs.Told.{Told, tell}
-use Rattle.iosa.specs.Model.{Row, Comp, Model, rowCount}
-use Rattle.iosa.specs.WellFormed.{WellFormed}
+use Rattle.model.specs.Model.{Row, Comp, Model, rowCount}
+use Rattle.model.specs.WellFormed.{WellFormed}
 use Rattle.layout.specs.Layout.{blockWords, rowWords, imageWords, countOf, blockWord, firstOf, actionAt, guardAt, resetsAt, targetAt}
 
 -- ---- from a model to words

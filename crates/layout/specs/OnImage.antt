@@ -6,8 +6,8 @@ use Prim.Native.Nat.{ℕ, _*_}
 use lib.ListN.{length, take}
 use Rattle.answer.specs.Told.{Answer, refused, saysChecked, doneOf}
 use Rattle.answer.specs.declared.Checked.{Checked}
-use Rattle.iosa.specs.Model.{Comp, Model}
-use Rattle.iosa.specs.WellFormed.{WellFormed}
+use Rattle.model.specs.Model.{Comp, Model}
+use Rattle.model.specs.WellFormed.{WellFormed}
 use Rattle.layout.specs.Layout.{imageWords}
 use Rattle.layout.specs.Image.{imageOf, noImage}
 use Rattle.layout.specs.Lent.{wordBytes, tableAfter}

@@ -6,7 +6,7 @@ use mathlib.Core.List.{List}
 use Rattle.laws.specs.Sets.{has, _∈_, _⊆_}
 use Rattle.laws.specs.Search.{seek, when, isSome}
 use Rattle.answer.specs.Limits.{maxStates, maxRows, maxActions, maxClocks}
-use Rattle.iosa.specs.Model.{acts, guardSet}
+use Rattle.model.specs.Model.{acts, guardSet}
 use Rattle.iosa.specs.Checks.{rowFor}
 use Rattle.layout.specs.Layout.{blockWord, firstOf, actionAt, guardAt, resetsAt, targetAt}
 use Rattle.layout.specs.Image.{compOf}

@@ -4,7 +4,7 @@ use mathlib.Core.List.{List, [], _∷_}
 use Prim.Native.Nat.{ℕ, _+_, _*_, _≤_, _<_}
 use lib.ListN.{length, getD, take}
 use Rattle.answer.specs.Limits.{maxComponents, maxRows}
-use Rattle.iosa.specs.Model.{Row, Model, rowAt, compAt, rowCount}
+use Rattle.model.specs.Model.{Row, Model, rowAt, compAt, rowCount}
 use Rattle.layout.specs.Layout.{blockWords, rowWords, rowsAt, imageWords, countOf, blockWord}
 use Rattle.layout.specs.Image.{blockOf}
 

@@ -4,7 +4,7 @@ ghost use mathlib.Core.Path.{_≡_};
 ghost use Prim.Native.Nat.{ℕ, _≤_, _<_};
 ghost use lib.ListN.{length};
 ghost use Rattle.answer.specs.Limits.{maxComponents, maxStates, maxRows};
-ghost use Rattle.iosa.specs.Model.{acts};
+ghost use Rattle.model.specs.Model.{acts};
 ghost use Rattle.layout.specs.Image.{compOf};
 ghost use Rattle.layout.specs.Layout.{blockWords, imageWords, countOf, blockWord, joinedWord, firstOf, actionAt, guardAt, resetsAt, targetAt};
 

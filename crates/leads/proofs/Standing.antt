@@ -14,7 +14,7 @@ use Rattle.laws.specs.Fold.{over, tab}
 use Rattle.laws.proofs.RangeLaws.{over-ext}
 use Rattle.laws.proofs.FoldLaws.{tab-length}
 use Rattle.answer.specs.Limits.{maxActions}
-use Rattle.iosa.specs.Model.{Row, Comp, rowAt}
+use Rattle.model.specs.Model.{Row, Comp, rowAt}
 use Rattle.layout.specs.Layout.{countOf, blockWord, firstOf, actionAt}
 use Rattle.layout.specs.Image.{Image, compOf, rowIn}
 use Rattle.layout.specs.Ranges.{RowRanges}

@@ -6,7 +6,7 @@ use Prim.Native.Nat.{ℕ, suc, _≤_, _<_}
 use lib.ListN.{length}
 use Rattle.laws.specs.Sets.{only}
 use Rattle.laws.specs.Fold.{over}
-use Rattle.iosa.specs.Model.{Row, Comp, Model, rowAt, compAt}
+use Rattle.model.specs.Model.{Row, Comp, Model, rowAt, compAt}
 use Rattle.iosa.specs.Checks.{reachOf}
 use Rattle.layout.specs.Layout.{countOf, blockWord, firstOf}
 use Rattle.layout.specs.Image.{Image, compOf, rowIn}

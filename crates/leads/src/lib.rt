@@ -5,7 +5,7 @@ ghost use mathlib.Core.Bool.{cond};
 ghost use Prim.Native.Nat.{ℕ, _<_};
 ghost use lib.ListN.{length};
 ghost use Rattle.answer.specs.Limits.{maxActions};
-ghost use Rattle.iosa.specs.Model.{urgents};
+ghost use Rattle.model.specs.Model.{urgents};
 ghost use Rattle.layout.specs.Layout.{countOf, blockWord};
 ghost use Rattle.layout.specs.Image.{Image, compOf, rowIn};
 ghost use Rattle.triggering.specs.Test.{crossed, uoutsAt, stirred, woken};

@@ -3,8 +3,8 @@ use mathlib.Core.Option.{Option, none, some}
 use mathlib.Core.List.{List}
 use Prim.Native.Nat.{ℕ}
 use lib.ListN.{drop}
-use Rattle.iosa.specs.Text.{lf, compWord, actWord, clkWord, rowWord, Kind as TheKind, in-kind, out-kind, uin-kind, uout-kind}
-use Rattle.iosa.specs.Reading.{Scan, is, stops, got, then, shorter, exactly, theByte, field, number, numbersOrDash, Entry, comp-entry, act-entry, clk-entry, row-entry}
+use Rattle.model.specs.Text.{lf, compWord, actWord, clkWord, rowWord, Kind as TheKind, in-kind, out-kind, uin-kind, uout-kind}
+use Rattle.model.specs.Reading.{Scan, is, stops, got, then, shorter, exactly, theByte, field, number, numbersOrDash, Entry, comp-entry, act-entry, clk-entry, row-entry}
 use Rattle.fields.specs.declared.Guard.{Guard}
 use Rattle.fields.specs.declared.Guard.the-variants as OfGuard
 use Rattle.fields.specs.declared.Kind.{Kind}

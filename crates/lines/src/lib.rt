@@ -1,8 +1,8 @@
 // Lines of a text: the shape of a whole line, one scan from left to right, which answers the line or where it stopped; no value is judged here.
 ghost use mathlib.Core.Path.{_≡_};
 ghost use lib.ListN.{drop};
-ghost use Rattle.iosa.specs.Text.{lf};
-ghost use Rattle.iosa.specs.Reading.{got, then, theByte, field, guardOrDash, kind as kindScan, numbersOrDash, exactly, compEntry, actEntry, clkEntry, rowEntry, entry};
+ghost use Rattle.model.specs.Text.{lf};
+ghost use Rattle.model.specs.Reading.{got, then, theByte, field, guardOrDash, kind as kindScan, numbersOrDash, exactly, compEntry, actEntry, clkEntry, rowEntry, entry};
 ghost use Rattle.fields.specs.Fields.{gotGuard, gotKind};
 ghost use Rattle.fields.specs.Resets.{gotResets, valued, summary};
 ghost use Rattle.lines.specs.Lines.{lineOf, gotLine, rowEnd, stopOf, noWord};

@@ -11,8 +11,8 @@ use Rattle.laws.specs.Fold.{over, tab}
 use Rattle.laws.proofs.FoldLaws.{tab-length}
 use Rattle.laws.proofs.UnionLaws.{over-keeps}
 use Rattle.answer.specs.Limits.{maxActions}
-use Rattle.iosa.specs.Model.{Model, compAt}
-use Rattle.iosa.specs.WellFormed.{WellFormed}
+use Rattle.model.specs.Model.{Model, compAt}
+use Rattle.model.specs.WellFormed.{WellFormed}
 use Rattle.iosa.specs.Automaton.{Joinable}
 use Rattle.iosa.specs.Checks.{acceptOf}
 use Rattle.iosa.proofs.Acceptance.Accepted.{accepted-exactly}

@@ -13,7 +13,7 @@ use Rattle.laws.proofs.RangeLaws.{over-ext}
 use Rattle.laws.proofs.FoldLaws.{over-next, over-end, tab-length}
 use Rattle.laws.proofs.UnionLaws.{over-keeps}
 use Rattle.answer.specs.Limits.{maxActions}
-use Rattle.iosa.specs.Model.{Comp, Model, compAt}
+use Rattle.model.specs.Model.{Comp, Model, compAt}
 use Rattle.iosa.specs.Checks.{reachOf}
 use Rattle.layout.specs.Layout.{countOf, blockWord, firstOf}
 use Rattle.layout.specs.Image.{Image, compOf, rowIn, modelOf}

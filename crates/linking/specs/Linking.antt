@@ -6,7 +6,7 @@ use Prim.Native.Nat.{ℕ, _<_}
 use lib.ListN.{length, getD}
 use Rattle.laws.specs.Sets.{_∈_}
 use Rattle.answer.specs.Limits.{maxActions}
-use Rattle.iosa.specs.Model.{Model}
+use Rattle.model.specs.Model.{Model}
 use Rattle.triggering.specs.Test.{crossAll, spreadBy}
 use Rattle.triggering.specs.Triggering.{LeadsOn, Led}
 

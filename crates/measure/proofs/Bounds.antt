@@ -10,7 +10,7 @@ use Rattle.laws.specs.Sets.{_∪_, _∖_}
 use Rattle.laws.proofs.FoldLaws.{tab-length}
 use Rattle.laws.proofs.TabLaws.{spread-length, sum-at-most}
 use Rattle.answer.specs.Limits.{maxStates, maxRows, maxComponents}
-use Rattle.iosa.specs.Text.{rowLines, compText, textOf}
+use Rattle.model.specs.Text.{rowLines, compText, textOf}
 use Rattle.layout.specs.Layout.{countOf, blockWord, firstOf}
 use Rattle.layout.specs.Image.{rowIn, rowsLeaving, compOf, modelOf, Sane}
 use Rattle.measure.specs.Measure.{bare}

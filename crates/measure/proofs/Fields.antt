@@ -16,8 +16,8 @@ use Rattle.laws.specs.Fold.{tab, sum}
 use Rattle.laws.proofs.SetLaws.{bit-ones, bit-above, has-and, has-ext}
 use Rattle.laws.proofs.TabLaws.{tab-same, sum-add, sum-le, sum-scale, sum-at-most}
 use Rattle.answer.specs.Limits.{maxDigits, maxClocks}
-use Rattle.iosa.proofs.Reading.Joined.{joined-one, joined-more}
-use Rattle.iosa.specs.Text.{digitsOf, decimal, joined, members, guardField, setField, comma}
+use Rattle.model.proofs.Reading.Joined.{joined-one, joined-more}
+use Rattle.model.specs.Text.{digitsOf, decimal, joined, members, guardField, setField, comma}
 use Rattle.sets.specs.Members.{wordBits, sizeOf}
 use Rattle.measure.specs.Measure.{mostBeside, setBytes, perMember}
 

@@ -11,8 +11,8 @@ use Rattle.laws.proofs.SetLaws.{has-or, has-without}
 use Rattle.laws.proofs.FoldLaws.{tab-length}
 use Rattle.laws.proofs.TabLaws.{tab-same, tab-next, tab-done, spread-next, spread-done, spread-length, sum-add}
 use Rattle.answer.specs.Limits.{maxActions, maxClocks}
-use Rattle.iosa.specs.Model.{Row, Comp, Model}
-use Rattle.iosa.specs.Text.{Kind, in-kind, out-kind, uin-kind, uout-kind, kindWord, decimal, guardField, setField, fieldsAfter, compLine, actLine, clkLine, rowLine, kindOf, actPart, clkPart, rowLines, compText, textOf}
+use Rattle.model.specs.Model.{Row, Comp, Model}
+use Rattle.model.specs.Text.{Kind, in-kind, out-kind, uin-kind, uout-kind, kindWord, decimal, guardField, setField, fieldsAfter, compLine, actLine, clkLine, rowLine, kindOf, actPart, clkPart, rowLines, compText, textOf}
 use Rattle.measure.specs.Measure.{actLines, clkLines, perMember, kindsWidth, bare}
 use Rattle.measure.proofs.Fields.{width-1, width-most, set-most, guard-most}
 

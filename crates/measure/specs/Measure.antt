@@ -7,8 +7,8 @@ use Rattle.laws.specs.Sets.{has, _∪_, _∖_}
 use Rattle.laws.specs.Fold.{tab, spread, sum}
 use Rattle.sets.specs.Members.{wordBits}
 use Rattle.answer.specs.Limits.{maxActions, maxClocks}
-use Rattle.iosa.specs.Model.{Comp}
-use Rattle.iosa.specs.Text.{decimal, actPart, clkPart}
+use Rattle.model.specs.Model.{Comp}
+use Rattle.model.specs.Text.{decimal, actPart, clkPart}
 
 -- "first its `act` lines, then `clk`, then `row`": the lines of the first two kinds
 unfoldable pub actLines : Comp → List ℕ

@@ -4,7 +4,7 @@ ghost use Prim.Native.Nat.{ℕ, _+_, _-_, _≤_, _<_};
 ghost use lib.ListN.{length};
 ghost use Rattle.laws.specs.Fold.{tab};
 ghost use Rattle.answer.specs.Limits.{maxComponents, maxRows};
-ghost use Rattle.iosa.specs.Text.{decimal, guardField, setField, rowLine, rowLines, compText, textOf};
+ghost use Rattle.model.specs.Text.{decimal, guardField, setField, rowLine, rowLines, compText, textOf};
 ghost use Rattle.layout.specs.Layout.{imageWords};
 ghost use Rattle.layout.specs.Image.{rowIn, compOf, modelOf, Sane};
 ghost use Rattle.measure.specs.Measure.{mostBeside, perMember, kindsWidth, bare};

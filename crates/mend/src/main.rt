@@ -7,37 +7,21 @@ use libc::STDIN_FILENO;
 use libc::STDOUT_FILENO;
 use stream::Moved;
 ghost use mathlib.Core.Path.{_≡_};
-ghost use Prim.Native.Nat.{_+_, _*_, _≤_};
+ghost use Prim.Native.Nat.{_*_, _≤_};
 ghost use lib.ListN.{length};
-ghost use Rattle.answer.specs.Limits.{maxBytes};
 ghost use Rattle.layout.specs.Image.{Image, modelOf};
 ghost use Rattle.lacking.specs.Walk.{cellBytes, mostCells};
 ghost use Rattle.steplines.specs.Run.{mostBytes};
-ghost use Rattle.mend.specs.Printed.{repairedText, mendedText, Printed, Filled};
-
-// A text, and the byte that makes it too long: 1 is told from no more than these.
-const INPUT: usize = Model::BYTES + 1;
+ghost use Rattle.printout.specs.Printed.{Printed, Filled};
+ghost use Rattle.mend.specs.Mended.{repairedText, mendedText};
 
 // Three bytes for every state and action of the largest model, so that 24 never comes.
 const LIST: usize = 3 * (Model::ACTIONS * Model::STATES * Model::COMPONENTS);
-
-fn empty_input() -> [u8; INPUT]
-    ensures { λ r. ⌜ maxBytes + 1 ≡ length r ⌝ }
-{
-    [0; INPUT]
-}
 
 fn empty_list() -> [u8; LIST]
     ensures { λ r. ⌜ cellBytes * mostCells ≡ length r ⌝ }
 {
     [0; LIST]
-}
-
-// Longer than any text and any line of a refusal.
-fn empty_out() -> [u8; steplines::REPORT]
-    ensures { λ r. ⌜ mostBytes ≡ length r ⌝ }
-{
-    [0; steplines::REPORT]
 }
 
 // The text of the repaired model, or why it cannot be.
@@ -48,8 +32,8 @@ fn put_repaired(t: &mut [u64], out: &mut [u8]) -> usize
     let mut list = empty_list();
     let written = repair::repair(t, &mut list);
     match written {
-        Written::Refused(f) => tell::put_refused(out, 0, f),
-        Written::Length(_) => writing::write_text(t, out),
+        Written::Refused(f) => printout::put_refusal(f, out),
+        Written::Length(_) => printout::put_model(t, out),
     }
 }
 
@@ -60,7 +44,7 @@ fn put_mended(input: &[u8], out: &mut [u8]) -> usize
     let mut table = [0u64; layout::WORDS];
     let checked = text::read(input, &mut table);
     match checked {
-        Checked::Refused(f) => tell::put_refused(out, 0, f),
+        Checked::Refused(f) => printout::put_refusal(f, out),
         Checked::Fine => put_repaired(&mut table, out),
     }
 }
@@ -74,7 +58,7 @@ fn filled(input: &[u8], out: &mut [u8]) -> usize
 
 // Writes the answer to an input, or says that it could not.
 fn answer(input: &[u8]) {
-    let mut out = empty_out();
+    let mut out = printout::empty_out();
     let k = filled(input, &mut out);
     if let Moved::Failed(e) = stream::write(STDOUT_FILENO, &out[..k]) {
         failing::say(b"mend: the text could not be written whole", e);
@@ -82,7 +66,7 @@ fn answer(input: &[u8]) {
 }
 
 fn main() {
-    let mut input = empty_input();
+    let mut input = printout::empty_input();
     match stream::read(STDIN_FILENO, &mut input) {
         Moved::Bytes(n) => answer(&input[..n]),
         Moved::Failed(e) => failing::say(b"mend: standard input could not be read", e),

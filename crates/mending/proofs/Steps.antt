@@ -17,15 +17,15 @@ use Rattle.laws.proofs.RangeLaws.{over-shift, over-ext}
 use Rattle.laws.proofs.TestLaws.{not-so}
 use Rattle.answer.specs.Limits.{maxActions, maxRows, maxComponents, maxStates}
 use Rattle.sets.specs.Members.{wordBits, sizeOf}
-use Rattle.iosa.specs.Model.{Row, Comp, noRow, compAt, rowCount, inputs}
-use Rattle.iosa.specs.WellFormed.{WellComp}
+use Rattle.model.specs.Model.{Row, Comp, noRow, compAt, rowCount, inputs}
+use Rattle.model.specs.WellFormed.{WellComp}
 use Rattle.iosa.specs.Checks.{lacksRow}
 use Rattle.iosa.specs.Faults.{Broken12}
 use Rattle.iosa.proofs.Acceptance.Order.{before-transitive}
 use Rattle.iosa.proofs.Acceptance.Rows.{input-below}
 use Rattle.iosa.proofs.Acceptance.Check12.{lack-broken, broken-lack}
-use Rattle.iosa.proofs.Merging.Rows.{rows-by-lead, in-rows-by}
-use Rattle.iosa.proofs.Merging.Ascend.{Before, Ascending}
+use Rattle.merged.proofs.Merging.Rows.{rows-by-lead, in-rows-by}
+use Rattle.merged.proofs.Merging.Ascend.{Before, Ascending}
 use Rattle.layout.specs.Layout.{headWords, blockWords, rowWords, rowsAt, imageWords, countOf, blockWord, firstOf, actionAt}
 use Rattle.layout.specs.Image.{Image, rowIn, rowsOf, rowsLeaving, compOf, modelOf}
 use Rattle.layout.proofs.ModelOf.{model-length, comp-at}

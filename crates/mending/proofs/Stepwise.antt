@@ -10,7 +10,7 @@ use lib.Dec.{ltb}
 use borrow.Author.Tests.{ltb-true, ltb-false, lt-ltb, le-ltb}
 use Rattle.laws.proofs.TestLaws.{and-true, and-false}
 use Rattle.sets.specs.Members.{lowestOf}
-use Rattle.iosa.specs.Model.{Row}
+use Rattle.model.specs.Model.{Row}
 use Rattle.layout.specs.Layout.{rowWords, rowsAt, actionAt}
 use Rattle.layout.specs.Image.{rowIn}
 use Rattle.lacking.specs.Repair.{loopAt}

@@ -11,7 +11,7 @@ use lib.Seq.{sets}
 use lib.Dec.{ltb}
 use borrow.Author.Tests.{le-ltb}
 use Rattle.sets.specs.Members.{lowestOf, sizeOf}
-use Rattle.iosa.specs.Model.{Row}
+use Rattle.model.specs.Model.{Row}
 use Rattle.layout.specs.Layout.{rowWords, rowsAt}
 use Rattle.layout.specs.Image.{rowIn, rowsOf}
 use Rattle.layout.specs.Words.{wordsOf}

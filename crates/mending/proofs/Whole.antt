@@ -9,8 +9,8 @@ use lib.ListN.{length, getD, set, take, drop, length-set, length-append, length-
 use lib.Seq.{sets, ext-getD, getD-set-same, getD-set-other, take-at, take-all, getD-append-add, getD-drop}
 use Rattle.answer.specs.Limits.{maxComponents, maxStates, maxRows}
 use Rattle.sets.specs.Members.{wordBits, sizeOf}
-use Rattle.iosa.specs.Model.{rowCount}
-use Rattle.iosa.specs.WellFormed.{WellFormed}
+use Rattle.model.specs.Model.{rowCount}
+use Rattle.model.specs.WellFormed.{WellFormed}
 use Rattle.layout.specs.Layout.{headWords, blockWords, rowWords, rowsAt, imageWords, countOf, blockWord, firstOf, actionAt}
 use Rattle.layout.specs.Image.{Image, rowIn, rowsOf, rowsLeaving, imageOf, compOf, modelOf}
 use Rattle.layout.proofs.ModelOf.{model-length, comp-at}

@@ -11,8 +11,8 @@ use Rattle.laws.specs.Sets.{has, _∈_}
 use Rattle.laws.proofs.SetLaws.{none-in}
 use Rattle.laws.proofs.TestLaws.{not-so}
 use Rattle.sets.specs.Members.{wordBits, lowestOf, sizeOf}
-use Rattle.iosa.specs.Model.{Row}
-use Rattle.iosa.proofs.Merging.Ascend.{Before, Ascending}
+use Rattle.model.specs.Model.{Row}
+use Rattle.merged.proofs.Merging.Ascend.{Before, Ascending}
 use Rattle.layout.proofs.RowsAscend.{before-action}
 use Rattle.lacking.specs.Repair.{loopAt}
 use Rattle.lacking.proofs.RepairedRows.{by-action}

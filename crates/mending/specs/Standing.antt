@@ -3,7 +3,7 @@ use mathlib.Core.Path.{_≡_}
 use mathlib.Core.List.{List}
 use Prim.Native.Nat.{ℕ, suc, _+_, _*_, _≤_, _<_}
 use lib.ListN.{length, getD, take}
-use Rattle.iosa.specs.Model.{rowCount}
+use Rattle.model.specs.Model.{rowCount}
 use Rattle.layout.specs.Layout.{headWords, blockWords, rowWords, rowsAt, imageWords, countOf, blockWord, firstOf}
 use Rattle.layout.specs.Image.{modelOf, Image}
 use Rattle.lacking.specs.Repair.{repairedOf}

@@ -6,7 +6,7 @@ use lib.Seq.{sets}
 use lib.Dec.{ltb}
 use Rattle.laws.specs.Sets.{_∖_, only}
 use Rattle.sets.specs.Members.{lowestOf}
-use Rattle.iosa.specs.Model.{Row}
+use Rattle.model.specs.Model.{Row}
 use Rattle.layout.specs.Layout.{rowWords, rowsAt}
 use Rattle.layout.specs.Image.{rowIn}
 use Rattle.layout.specs.Words.{wordsOf}

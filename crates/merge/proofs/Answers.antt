@@ -4,12 +4,12 @@ use mathlib.Core.List.{List}
 use Prim.Native.Nat.{ℕ}
 use Rattle.answer.specs.Told.{Answer}
 use Rattle.answer.specs.declared.Checked.{Checked}
-use Rattle.iosa.specs.Model.{Comp, Model}
-use Rattle.iosa.specs.Merge.{mergeOf}
+use Rattle.model.specs.Model.{Comp, Model}
+use Rattle.merged.specs.Merge.{mergeOf}
 use Rattle.iosa.specs.InOrder.{room}
-use Rattle.iosa.specs.Answers.{MergeCallAnswer}
-use Rattle.iosa.proofs.Answers.InOrder.{Decided}
-use Rattle.iosa.proofs.Answers.Merged.{merge-model-exactly}
+use Rattle.answering.specs.Answers.{MergeCallAnswer}
+use Rattle.answering.proofs.Answers.InOrder.{Decided}
+use Rattle.answering.proofs.Answers.Merged.{merge-model-exactly}
 use Rattle.layout.specs.OnImage.{FillsTable, bytesOf, imageBytes}
 use Rattle.table.proofs.OnImageExactly.{on-table-leaves, table-room-decided}
 use Rattle.merge.specs.Merging.{roomFault, mergeOn, Merging}

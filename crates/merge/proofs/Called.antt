@@ -14,12 +14,12 @@ use Rattle.answer.specs.declared.Place.the-variants.{Whole, Bytes}
 use Rattle.answer.specs.declared.Refusal.{Refusal}
 use Rattle.answer.specs.declared.Checked.{Checked}
 use Rattle.answer.specs.declared.Checked.the-variants.{Fine, Refused}
-use Rattle.iosa.specs.Model.{Model}
+use Rattle.model.specs.Model.{Model}
 use Rattle.iosa.specs.Checks.{acceptOf}
-use Rattle.iosa.specs.Merge.{neighbourFault, sizeFault, mergedAt, mergeOf}
-use Rattle.iosa.specs.MergedExactly.{FitsIn, no-neighbour, too-large, small-enough}
+use Rattle.merged.specs.Merge.{neighbourFault, sizeFault, mergedAt, mergeOf}
+use Rattle.merged.specs.MergedExactly.{FitsIn, no-neighbour, too-large, small-enough}
 use Rattle.iosa.proofs.Acceptance.Accepted.{accepted-exactly}
-use Rattle.iosa.proofs.Merging.Models.{merge-exactly, merged-model-is-well-formed}
+use Rattle.merged.proofs.Merging.Models.{merge-exactly, merged-model-is-well-formed}
 use Rattle.layout.specs.Layout.{imageWords, countOf, blockWord}
 use Rattle.layout.specs.Image.{imageOf, compOf, modelOf, Image}
 use Rattle.layout.proofs.ModelOf.{model-length, comp-at}

@@ -7,9 +7,9 @@ use Prim.Native.Nat.{ℕ}
 use native.Mathlib.Omega.{arith}
 use Rattle.answer.specs.Told.{Told, Answer, answered, refused, saysChecked, doneOf}
 use Rattle.answer.specs.declared.Checked.the-variants.{Fine}
-use Rattle.iosa.specs.Model.{Model}
-use Rattle.iosa.specs.Merge.{mergeOf}
-use Rattle.iosa.proofs.Merging.Accepted.{merging-keeps-acceptance}
+use Rattle.model.specs.Model.{Model}
+use Rattle.merged.specs.Merge.{mergeOf}
+use Rattle.merged.proofs.Merging.Accepted.{merging-keeps-acceptance}
 use Rattle.layout.specs.Image.{modelOf, Image}
 use Rattle.layout.proofs.RowsOfRange.{well-formed}
 use Rattle.table.specs.IsImage.{isImage}

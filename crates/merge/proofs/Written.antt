@@ -6,10 +6,10 @@ use lib.ListN.{length, take, drop}
 use lib.Seq.{take-at, drop-at}
 use Rattle.answer.specs.Told.{answered}
 use Rattle.answer.specs.declared.Checked.{Checked}
-use Rattle.iosa.specs.Model.{Model}
-use Rattle.iosa.specs.Merge.{mergeOf}
-use Rattle.iosa.specs.MergedExactly.{MergedModel}
-use Rattle.iosa.proofs.Merging.Models.{merging-is-exact}
+use Rattle.model.specs.Model.{Model}
+use Rattle.merged.specs.Merge.{mergeOf}
+use Rattle.merged.specs.MergedExactly.{MergedModel}
+use Rattle.merged.proofs.Merging.Models.{merging-is-exact}
 use Rattle.layout.specs.Layout.{imageWords}
 use Rattle.layout.specs.Image.{imageOf, modelOf, Image}
 use Rattle.layout.proofs.ReadBack.{length-of-image}

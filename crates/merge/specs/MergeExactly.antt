@@ -3,7 +3,7 @@ use mathlib.Core.List.{List}
 use Prim.Native.Nat.{ℕ}
 use Rattle.answer.specs.declared.Checked.{Checked}
 use Rattle.iosa.specs.InOrder.{Leaves}
-use Rattle.iosa.specs.Answers.{MergeCallAnswer}
+use Rattle.answering.specs.Answers.{MergeCallAnswer}
 use Rattle.layout.specs.OnImage.{OnImage, FillsTable, bytesOf, imageBytes}
 
 -- t is the table; was is the buffer before the call, and into after it

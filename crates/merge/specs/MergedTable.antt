@@ -5,7 +5,7 @@ use mathlib.Core.List.{List}
 use Prim.Native.Nat.{ℕ}
 use lib.ListN.{drop}
 use Rattle.iosa.specs.Checks.{acceptOf}
-use Rattle.iosa.specs.MergedExactly.{MergedModel}
+use Rattle.merged.specs.MergedExactly.{MergedModel}
 use Rattle.layout.specs.Layout.{imageWords}
 use Rattle.layout.specs.Image.{modelOf, Image}
 

@@ -8,8 +8,8 @@ use lib.Dec.{ltb}
 use Rattle.laws.specs.Search.{when}
 use Rattle.answer.specs.Told.{Told, Answer, saysChecked, doneOf}
 use Rattle.answer.specs.declared.Checked.{Checked}
-use Rattle.iosa.specs.Model.{Model}
-use Rattle.iosa.specs.Merge.{mergeOf}
+use Rattle.model.specs.Model.{Model}
+use Rattle.merged.specs.Merge.{mergeOf}
 use Rattle.layout.specs.Layout.{imageWords}
 use Rattle.layout.specs.Lent.{tableTooShort, tableAfter}
 use Rattle.table.specs.OnTable.{onTable}

@@ -6,14 +6,14 @@ use Prim.Native.Nat.{ℕ}
 use Rattle.laws.specs.Search.{orElse}
 use Rattle.answer.specs.Told.{Answer, answered}
 use Rattle.answer.specs.declared.Checked.{Checked}
-use Rattle.iosa.specs.Model.{Comp, Model}
-use Rattle.iosa.specs.WellFormed.{WellFormed}
+use Rattle.model.specs.Model.{Comp, Model}
+use Rattle.model.specs.WellFormed.{WellFormed}
 use Rattle.iosa.specs.Checks.{clashAmong, acceptOf}
 use Rattle.iosa.specs.Step.{unless}
 use Rattle.iosa.specs.InOrder.{_▹_}
-use Rattle.iosa.specs.Answers.{Fine}
-use Rattle.iosa.proofs.Answers.InOrder.{refusedOr, or-refused, unless-refused, check-exactly, gives-exactly}
-use Rattle.iosa.proofs.Answers.Models.{check-accepted}
+use Rattle.answering.specs.Answers.{Fine}
+use Rattle.answering.proofs.Answers.InOrder.{refusedOr, or-refused, unless-refused, check-exactly, gives-exactly}
+use Rattle.answering.proofs.Answers.Models.{check-accepted}
 use Rattle.layout.specs.OnImage.{Tells}
 use Rattle.table.proofs.OnImageExactly.{on-table-leaves}
 use Rattle.triggering.specs.Test.{openFault, unlessPasses, orderlyOf, elseOrderly, entryOf}

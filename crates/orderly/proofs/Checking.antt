@@ -17,7 +17,7 @@ use Rattle.answer.specs.declared.Checked.the-variants.{Fine, Refused}
 use Rattle.answer.specs.declared.Place.the-variants.{Action}
 use Rattle.answer.specs.declared.Refusal.{Refusal}
 use Rattle.sets.specs.Members.{orEnd, lowestOf}
-use Rattle.iosa.specs.Model.{Model, compAt, inputs, outputs}
+use Rattle.model.specs.Model.{Model, compAt, inputs, outputs}
 use Rattle.iosa.specs.Checks.{acceptOf}
 use Rattle.iosa.specs.Step.{unless}
 use Rattle.layout.specs.Layout.{countOf, blockWord, joinedWord}

@@ -6,7 +6,7 @@ use Prim.Native.Nat.{ℕ}
 use Rattle.laws.specs.Search.{orElse}
 use Rattle.answer.specs.Told.{Told, saysChecked}
 use Rattle.answer.specs.declared.Checked.{Checked}
-use Rattle.iosa.specs.Model.{Model}
+use Rattle.model.specs.Model.{Model}
 use Rattle.iosa.specs.Checks.{clashAmong}
 use Rattle.table.specs.OnTable.{checkOn}
 use Rattle.triggering.specs.Test.{openFault, unlessPasses, elseOrderly, orderlyOf, entryOf}

@@ -3,9 +3,9 @@ use mathlib.Core.List.{List, _∷_}
 use Prim.Native.Nat.{ℕ}
 use Rattle.answer.specs.Told.{Answer}
 use Rattle.answer.specs.declared.Checked.{Checked}
-use Rattle.iosa.specs.Model.{Comp}
+use Rattle.model.specs.Model.{Comp}
 use Rattle.iosa.specs.InOrder.{_▹_, Leaves, accepted}
-use Rattle.iosa.specs.Answers.{Fine}
+use Rattle.answering.specs.Answers.{Fine}
 use Rattle.layout.specs.OnImage.{OnImage, Tells}
 use Rattle.walkable.specs.Entry.{closed, passing, settles}
 

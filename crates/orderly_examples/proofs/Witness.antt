@@ -10,17 +10,17 @@ use Rattle.laws.specs.Tests.{allOf}
 use Rattle.laws.specs.Sets.{_∈_}
 use Rattle.laws.proofs.SetLaws.{none-in, or-in-r}
 use Rattle.answer.specs.Told.{tell, answered}
-use Rattle.iosa.specs.Model.{Row, Comp, Model, compAt, inputs, outputs}
-use Rattle.iosa.specs.WellFormed.{WellFormed}
+use Rattle.model.specs.Model.{Row, Comp, Model, compAt, inputs, outputs}
+use Rattle.model.specs.WellFormed.{WellFormed}
 use Rattle.iosa.specs.Automaton.{Reachable, Conforming, Joinable}
 use Rattle.iosa.specs.Product.{product, stateOf, Within}
-use Rattle.iosa.specs.Reading.{readOf}
+use Rattle.model.specs.Reading.{readOf}
 use Rattle.iosa.specs.Checks.{reachOf, acceptOf, confluentOf}
 use Rattle.iosa.specs.Settle.{play}
 use Rattle.iosa.specs.Orders.{Settling}
-use Rattle.iosa.specs.Merge.{merged}
+use Rattle.merged.specs.Merge.{merged}
 use Rattle.iosa.specs.Demand3.{Demand3}
-use Rattle.iosa.specs.Examples.{bytesOf}
+use Rattle.answering.specs.Examples.{bytesOf}
 use Rattle.iosa.proofs.Acceptance.Accepted.{accepted-exactly}
 use Rattle.iosa.proofs.Settling.WellFormedTest.{wellFormed, wellComp, wellRow, well-formed}
 use Rattle.triggering.specs.Triggering.{Passes, NoOpenInput}

@@ -8,14 +8,14 @@ use Prim.Native.Nat.{ℕ}
 use Prim.Native.String.{String}
 use Rattle.laws.specs.Fold.{over}
 use Rattle.answer.specs.Told.{Told, Answer, answered, refused}
-use Rattle.iosa.specs.Model.{Model}
+use Rattle.model.specs.Model.{Model}
 use Rattle.iosa.specs.Start.{startAll}
-use Rattle.iosa.specs.Reading.{readOf}
+use Rattle.model.specs.Reading.{readOf}
 use Rattle.iosa.specs.Checks.{confluentOf}
 use Rattle.iosa.specs.Step.{urgentStep}
 use Rattle.iosa.specs.Settle.{settle}
 use Rattle.iosa.specs.Orders.{Settling}
-use Rattle.iosa.specs.Examples.{reply, bytesOf, M, M7}
+use Rattle.answering.specs.Examples.{reply, bytesOf, M, M7}
 use Rattle.triggering.specs.Test.{crossed, nothing, uoutsAt, stirred, woken, triggersIn, setsIn, wakersIn, triggersOf, goOn, leadsOf, startsOf, setsOf, wakersOf, ownOf, sharing, elsewhere, togetherOf, spreadBy, ledBy, ledOf, harmed, passesOf, inputsOf, outputsOf, openFault, orderlyOf, entryOf}
 use Rattle.paths.specs.Path.{calmStep, pathStep, walk}
 

@@ -4,8 +4,8 @@ use mathlib.Core.Logic.{_↔_}
 use mathlib.Core.List.{List, _∷_}
 use Prim.Native.Nat.{ℕ}
 use Rattle.answer.specs.Told.{Answer, answered}
-use Rattle.iosa.specs.Model.{Comp}
-use Rattle.iosa.specs.WellFormed.{WellFormed}
+use Rattle.model.specs.Model.{Comp}
+use Rattle.model.specs.WellFormed.{WellFormed}
 use Rattle.iosa.specs.InOrder.{Gives, gives}
 use Rattle.iosa.specs.Start.{Beginning, startOf, StartOf}
 use Rattle.iosa.proofs.Settling.Start.{start-exactly}

@@ -13,7 +13,7 @@ use Rattle.answer.specs.Told.{answered, refused, doneOf, told, saysChecked}
 use Rattle.answer.specs.declared.Checked.the-variants.{Fine, Refused}
 use Rattle.answer.specs.declared.Place.the-variants.{Whole}
 use Rattle.answer.specs.declared.State.{State}
-use Rattle.iosa.specs.Model.{Model, compAt}
+use Rattle.model.specs.Model.{Model, compAt}
 use Rattle.iosa.specs.Start.{startAll, startedAll, Beginning, startOf}
 use Rattle.iosa.proofs.Settling.Start.{start-length, start-at}
 use Rattle.layout.specs.Layout.{countOf, blockWord}

@@ -11,7 +11,7 @@ use Rattle.answer.specs.Told.{Answer, answered, refused, doneOf, saysChecked}
 use Rattle.answer.specs.State.{partsOf}
 use Rattle.answer.specs.declared.Checked.the-variants.{Fine}
 use Rattle.answer.proofs.SaysFixes.{checked-fixed}
-use Rattle.iosa.specs.Model.{Model}
+use Rattle.model.specs.Model.{Model}
 use Rattle.iosa.specs.Start.{startAll, startedAll, startOf}
 use Rattle.iosa.proofs.Settling.Start.{start-exactly}
 use Rattle.layout.specs.Image.{Image, modelOf, noImage}

@@ -7,7 +7,7 @@ use Rattle.answer.specs.Limits.{noState}
 use Rattle.answer.specs.Told.{Answer, answered, refused, doneOf, saysChecked}
 use Rattle.answer.specs.declared.State.{State}
 use Rattle.answer.specs.State.{partsOf}
-use Rattle.iosa.specs.Model.{Comp}
+use Rattle.model.specs.Model.{Comp}
 use Rattle.iosa.specs.Start.{Beginning, startOf, StartOf}
 use Rattle.layout.specs.Image.{Image, modelOf}
 use Rattle.table.specs.OnTable.{onTable}

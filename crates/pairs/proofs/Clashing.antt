@@ -20,8 +20,8 @@ use Rattle.answer.specs.Limits.{maxActions, maxClocks}
 use Rattle.answer.specs.Told.{Told, tell}
 use Rattle.sets.specs.Members.{wordBits, lowestOf}
 use Rattle.sets.proofs.MemberLaws.{lowest-found}
-use Rattle.iosa.specs.Model.{Comp, Model, compAt}
-use Rattle.iosa.specs.WellFormed.{WellComp}
+use Rattle.model.specs.Model.{Comp, Model, compAt}
+use Rattle.model.specs.WellFormed.{WellComp}
 use Rattle.iosa.specs.Checks.{clashIn, clashFor, shareOutput, shareClock, differUrgent, check15, check16, check17}
 use Rattle.iosa.proofs.Acceptance.Rows.{output-below, urgent-below}
 use Rattle.layout.specs.Layout.{countOf}

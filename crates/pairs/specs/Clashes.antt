@@ -8,7 +8,7 @@ use Rattle.laws.specs.Sets.{has, _∪_, _∩_}
 use Rattle.laws.specs.Search.{seek, when, mapSome}
 use Rattle.laws.specs.Fold.{over}
 use Rattle.answer.specs.Told.{Told, tell}
-use Rattle.iosa.specs.Model.{Comp, Model, outputs, urgents}
+use Rattle.model.specs.Model.{Comp, Model, outputs, urgents}
 use Rattle.iosa.specs.Checks.{calmActs, check15, check16, check17}
 use Rattle.layout.specs.Layout.{countOf}
 use Rattle.layout.specs.Image.{compOf}

@@ -6,11 +6,11 @@ use Rattle.answer.specs.Told.{Answer}
 use Rattle.answer.specs.State.{partsOf}
 use Rattle.answer.specs.declared.Outcome.{Outcome}
 use Rattle.answer.specs.declared.State.{State}
-use Rattle.iosa.specs.Model.{Comp}
+use Rattle.model.specs.Model.{Comp}
 use Rattle.iosa.specs.Step.{stepOf}
 use Rattle.iosa.specs.Stepped.{Stepping}
-use Rattle.iosa.specs.Answers.{StepAnswer}
-use Rattle.iosa.proofs.Answers.Models.{step-model-exactly}
+use Rattle.answering.specs.Answers.{StepAnswer}
+use Rattle.answering.proofs.Answers.Models.{step-model-exactly}
 use Rattle.table.proofs.OnImageExactly.{on-table-leaves}
 use Rattle.panel.specs.Advance.{AdvanceCall}
 use Rattle.panel.specs.AdvanceExactly.{AdvanceLeaves, AdvanceExactly}

@@ -9,8 +9,8 @@ use Rattle.answer.specs.Told.{answered}
 use Rattle.answer.specs.State.{partsOf}
 use Rattle.answer.specs.declared.State.{State}
 use Rattle.answer.proofs.StateLaws.{parts-length}
-use Rattle.iosa.specs.Model.{Comp, Model}
-use Rattle.iosa.specs.WellFormed.{WellFormed}
+use Rattle.model.specs.Model.{Comp, Model}
+use Rattle.model.specs.WellFormed.{WellFormed}
 use Rattle.iosa.specs.Product.{Within}
 use Rattle.iosa.specs.Step.{stepOf}
 use Rattle.iosa.specs.Stepped.{StepsByRule, is-stable, moves, Stepping}

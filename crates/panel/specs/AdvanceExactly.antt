@@ -9,7 +9,7 @@ use Rattle.answer.specs.declared.Outcome.{Outcome}
 use Rattle.answer.specs.declared.State.{State}
 use Rattle.iosa.specs.Stepped.{Stepping}
 use Rattle.iosa.specs.InOrder.{Leaves}
-use Rattle.iosa.specs.Answers.{StepAnswer}
+use Rattle.answering.specs.Answers.{StepAnswer}
 use Rattle.layout.specs.OnImage.{OnImage}
 use Rattle.panel.specs.Advance.{outcomeOf, stateAfter}
 

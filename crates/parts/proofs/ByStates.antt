@@ -10,7 +10,7 @@ use Rattle.laws.specs.Search.{seek, when, mapSome, least2, orElse}
 use Rattle.laws.proofs.RangeLaws.{map-when, map-seek, seek-ext}
 use Rattle.answer.specs.Limits.{maxActions}
 use Rattle.answer.specs.Told.{Told, tell}
-use Rattle.iosa.specs.Model.{Comp, rowAt}
+use Rattle.model.specs.Model.{Comp, rowAt}
 use Rattle.iosa.specs.Checks.{repeats, lacksRow, twice, cellOf, check11, check12, check13, faultAt}
 use Rattle.layout.specs.Layout.{countOf, blockWord, firstOf}
 use Rattle.layout.specs.Image.{Image, compOf}

@@ -15,7 +15,7 @@ use Rattle.laws.proofs.SearchLaws.{seek-some, seek-none, some-seek, none-seek, 
 use Rattle.laws.proofs.TestLaws.{and-true, not-so}
 use Rattle.answer.specs.Limits.{maxActions}
 use Rattle.answer.specs.Told.{Told, tell}
-use Rattle.iosa.specs.Model.{Row, Comp, rowAt}
+use Rattle.model.specs.Model.{Row, Comp, rowAt}
 use Rattle.iosa.specs.Checks.{leaves, unclocked, twice}
 use Rattle.iosa.proofs.Acceptance.Rows.{leaves-true, leaves-parts}
 use Rattle.layout.specs.Layout.{countOf, blockWord, firstOf, actionAt}

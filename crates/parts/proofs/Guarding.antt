@@ -8,7 +8,7 @@ use lib.ListN.{length}
 use Rattle.laws.specs.Search.{seek, when, mapSome}
 use Rattle.laws.proofs.RangeLaws.{map-when, map-seek, seek-ext, seek-shift}
 use Rattle.answer.specs.Told.{Told, tell}
-use Rattle.iosa.specs.Model.{Comp, rowAt}
+use Rattle.model.specs.Model.{Comp, rowAt}
 use Rattle.iosa.specs.Checks.{unclocked, badGuard, check10}
 use Rattle.layout.specs.Layout.{countOf, blockWord, firstOf, actionAt, guardAt}
 use Rattle.layout.specs.Image.{Image, compOf}

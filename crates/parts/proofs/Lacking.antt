@@ -18,7 +18,7 @@ use Rattle.answer.specs.Limits.{maxActions}
 use Rattle.answer.specs.Told.{Told, tell}
 use Rattle.sets.specs.Members.{lowestOf}
 use Rattle.sets.proofs.MemberLaws.{lowest-found}
-use Rattle.iosa.specs.Model.{Comp, inputs}
+use Rattle.model.specs.Model.{Comp, inputs}
 use Rattle.iosa.specs.Checks.{rowFor, lacksRow}
 use Rattle.iosa.proofs.Acceptance.Rows.{input-below}
 use Rattle.layout.specs.Layout.{countOf, blockWord, firstOf, actionAt}

@@ -17,7 +17,7 @@ use Rattle.laws.proofs.SearchLaws.{is-some, seek-some, seek-none, is-none, when
 use Rattle.laws.proofs.TestLaws.{and-true, not-so}
 use Rattle.laws.proofs.UnionLaws.{joinAll, has-joined, over-last}
 use Rattle.laws.proofs.FoldLaws.{over-end}
-use Rattle.iosa.specs.Model.{Row, Comp, rowAt, guardSet}
+use Rattle.model.specs.Model.{Row, Comp, rowAt, guardSet}
 use Rattle.iosa.specs.Checks.{sameClock, repeats}
 use Rattle.iosa.specs.Faults.{Broken11}
 use Rattle.iosa.proofs.Acceptance.Check11.{repeat-broken, broken-repeat}

@@ -11,7 +11,7 @@ use Rattle.laws.specs.Fold.{over}
 use Rattle.answer.specs.Limits.{maxActions}
 use Rattle.answer.specs.Told.{Told, tell, saysChecked}
 use Rattle.answer.specs.declared.Checked.{Checked}
-use Rattle.iosa.specs.Model.{Comp}
+use Rattle.model.specs.Model.{Comp}
 use Rattle.iosa.specs.Checks.{check10, check11, check12, check13, check14, repeats, lacksRow, twice}
 use Rattle.iosa.specs.Step.{unless}
 use Rattle.layout.specs.Layout.{firstOf, actionAt}

@@ -11,20 +11,20 @@ use Rattle.laws.specs.Sets.{has, _∈_, only}
 use Rattle.laws.specs.Search.{orElse}
 use Rattle.laws.proofs.SetLaws.{or-in-r, in-one, none-in}
 use Rattle.laws.proofs.SearchLaws.{no-some, map-some}
-use Rattle.iosa.specs.Model.{Row, Comp, Model, outputs}
-use Rattle.iosa.specs.WellFormed.{WellFormed}
+use Rattle.model.specs.Model.{Row, Comp, Model, outputs}
+use Rattle.model.specs.WellFormed.{WellFormed}
 use Rattle.iosa.specs.Automaton.{autoOf, Stable, Conditions, Conforming, Joinable}
 use Rattle.iosa.specs.Product.{product, stateOf, Within}
 use Rattle.iosa.specs.Stepped.{Gone}
 use Rattle.iosa.specs.Step.{urgentStep, isStable}
-use Rattle.iosa.specs.Timed.{clockRow, clockRowOf, fireAll}
+use Rattle.timing.specs.Timed.{clockRow, clockRowOf, fireAll}
 use Rattle.iosa.proofs.Settling.Each.{each-all, any-map}
 use Rattle.iosa.proofs.Settling.Parts.{parts-row, parts-label}
 use Rattle.iosa.proofs.Settling.Moves.{go-within}
 use Rattle.iosa.proofs.Settling.ProductOfMany.{joinable-pairwise, wells, system-own, system-is-an-automaton}
 use Rattle.iosa.proofs.Settling.Steps.{step-is-a-row, row-is-a-step, stable-exactly}
-use Rattle.iosa.proofs.Timing.Enabling.{EnablesIn, product-enables}
-use Rattle.iosa.proofs.Timing.Fire.{clock-row-leads, Shoots, enabling-shoots}
+use Rattle.timing.proofs.Timing.Enabling.{EnablesIn, product-enables}
+use Rattle.timing.proofs.Timing.Fire.{clock-row-leads, Shoots, enabling-shoots}
 use Rattle.paths.specs.Path.{Steps, urgently, calmly, afterOf, onlyIf, byRow, calmStep, pathStep}
 
 -- a row with a clock that some component has here is enabling

@@ -10,11 +10,11 @@ use Rattle.laws.specs.Sets.{_∈_, only}
 use Rattle.laws.specs.Search.{when, mapSome}
 use Rattle.answer.specs.Limits.{maxBudget}
 use Rattle.answer.specs.Told.{Told, tell, Answer, answered, refused}
-use Rattle.iosa.specs.Model.{Row, Model}
+use Rattle.model.specs.Model.{Row, Model}
 use Rattle.iosa.specs.Automaton.{Automaton, UrgentRow, Stable}
 use Rattle.iosa.specs.Stepped.{Gone}
 use Rattle.iosa.specs.Step.{urgentStep, isStable}
-use Rattle.iosa.specs.Timed.{clockRowOf, fireAll}
+use Rattle.timing.specs.Timed.{clockRowOf, fireAll}
 
 -- ---- "steps of which each non-urgent one leaves a stable state"
 -- one step: an urgent output with guard `-`, or a non-urgent output with its clock, from a stable state

@@ -20,9 +20,9 @@ use Rattle.answer.specs.declared.State.{State}
 use Rattle.answer.specs.State.{numbersFrom, partsOf}
 use Rattle.sets.specs.Members.{wordBits, lowestOf}
 use Rattle.sets.proofs.MemberLaws.{lowest-found}
-use Rattle.iosa.proofs.Reading.Joined.{joined-none, joined-one, joined-more}
-use Rattle.iosa.specs.Text.{byte0, comma, dash, digitsOf, decimal, joined, members, guardField, setField}
-use Rattle.iosa.proofs.Reading.Members.{members-same, members-none}
+use Rattle.model.proofs.Reading.Joined.{joined-none, joined-one, joined-more}
+use Rattle.model.specs.Text.{byte0, comma, dash, digitsOf, decimal, joined, members, guardField, setField}
+use Rattle.model.proofs.Reading.Members.{members-same, members-none}
 use Rattle.print.specs.Put.{leading}
 
 -- ---- a number

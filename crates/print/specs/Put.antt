@@ -5,7 +5,7 @@ use mathlib.Core.List.{List, [], _∷_, _++_}
 use Prim.Native.Nat.{ℕ, _+_, _/_, _%_, _≤_}
 use lib.ListN.{length, take, drop}
 use lib.Dec.{ltb}
-use Rattle.iosa.specs.Text.{byte0}
+use Rattle.model.specs.Text.{byte0}
 
 -- the buffer with these bytes from a place on
 unfoldable pub laid : List ℕ → ℕ → List ℕ → List ℕ

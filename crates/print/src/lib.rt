@@ -6,7 +6,7 @@ ghost use Prim.Native.Nat.{_≤_, _<_};
 ghost use lib.ListN.{length};
 ghost use Rattle.answer.specs.Limits.{maxComponents};
 ghost use Rattle.answer.specs.State.{partsOf};
-ghost use Rattle.iosa.specs.Text.{decimal, joined, guardField, setField};
+ghost use Rattle.model.specs.Text.{decimal, joined, guardField, setField};
 ghost use Rattle.print.specs.Put.{Room, Put, leading};
 
 pub fn put_byte(out: &mut [u8], at: usize, b: u8) -> usize

@@ -10,8 +10,8 @@ use lib.Seq.{getD-set-same, getD-set-other}
 use lib.Dec.{leb}
 use borrow.Author.Tests.{le-leb, lt-leb}
 use Rattle.answer.specs.Limits.{maxComponents, maxRows, maxStates}
-use Rattle.iosa.specs.Model.{Row, Comp, rowCount}
-use Rattle.iosa.specs.Reading.{newComp}
+use Rattle.model.specs.Model.{Row, Comp, rowCount}
+use Rattle.model.specs.Reading.{newComp}
 use Rattle.layout.specs.Layout.{headWords, blockWords, rowWords, rowsAt, imageWords, countOf, blockWord}
 use Rattle.layout.specs.Image.{leaveBelow, firstWord, blockOf}
 use Rattle.layout.specs.Words.{wordsOf, rowWord}

@@ -6,8 +6,8 @@ use native.Mathlib.Omega.{arith}
 use native.Mathlib.Decide.{decLt}
 use lib.ListN.{length, getD, take, length-append, length-reverse, List·getD-append}
 use lib.Seq.{take-append-le, take-append-seam, getD-append-seam}
-use Rattle.iosa.specs.Model.{Row, Comp, Model, noComp, noRow, compAt, rowAt, rowCount}
-use Rattle.iosa.proofs.Reading.TextOfRead.{count-reverse}
+use Rattle.model.specs.Model.{Row, Comp, Model, noComp, noRow, compAt, rowAt, rowCount}
+use Rattle.model.proofs.Reading.TextOfRead.{count-reverse}
 use Rattle.layout.specs.Layout.{blockWords, rowWords, blockWord}
 use Rattle.layout.specs.Image.{blockOf}
 use Rattle.layout.specs.Words.{wordsOf, rowWord, Holds}

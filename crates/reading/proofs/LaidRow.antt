@@ -12,8 +12,8 @@ use borrow.Author.Tests.{lt-ltb, le-ltb, le-leb, lt-leb}
 use Rattle.laws.specs.Fold.{tab}
 use Rattle.laws.proofs.FoldLaws.{tab-at}
 use Rattle.answer.specs.Limits.{maxComponents, maxRows, maxStates}
-use Rattle.iosa.specs.Model.{Row, Comp, noRow, rowCount}
-use Rattle.iosa.specs.Reading.{withRow}
+use Rattle.model.specs.Model.{Row, Comp, noRow, rowCount}
+use Rattle.model.specs.Reading.{withRow}
 use Rattle.layout.specs.Layout.{headWords, blockWords, rowWords, rowsAt, imageWords, countOf, blockWord}
 use Rattle.layout.specs.Image.{leaveBelow, firstWord, blockOf}
 use Rattle.layout.specs.Words.{wordsOf, rowWord}

@@ -10,9 +10,9 @@ use lib.Dec.{eqb}
 use Rattle.laws.specs.Sets.{_∪_, only}
 use Rattle.laws.proofs.TestLaws.{apart-cases}
 use Rattle.answer.specs.Limits.{maxComponents, maxRows}
-use Rattle.iosa.specs.Model.{Row, Comp, rowCount}
-use Rattle.iosa.specs.Text.{Kind, in-kind, out-kind, uin-kind, uout-kind}
-use Rattle.iosa.specs.Reading.{withAct, withClk}
+use Rattle.model.specs.Model.{Row, Comp, rowCount}
+use Rattle.model.specs.Text.{Kind, in-kind, out-kind, uin-kind, uout-kind}
+use Rattle.model.specs.Reading.{withAct, withClk}
 use Rattle.layout.specs.Layout.{headWords, blockWords, rowWords, rowsAt, countOf, blockWord}
 use Rattle.layout.specs.Image.{firstWord, blockOf}
 use Rattle.layout.specs.Words.{rowWord}
@@ -61,7 +61,7 @@ laid-word t c c′ cs w v a e s h l =
       count = getD-set-other t (blockAt i w) 0 v 0 (λ z. omega arith) ∙ a .count;
       parts = (
         own-word t i w v (rowCount cs) c c′ (a .parts .0) e h (omega (arith, a .long)),
-        record { words = λ k u p q. other-row t i w v (rowCount cs + k) u l (omega arith) ∙ a .parts .1 .words k u (omega arith) q ∙ ap (λ rs. getD (Rattle.layout.specs.Words.wordsOf (getD rs k Rattle.iosa.specs.Model.noRow)) u 0) (sym s) },
+        record { words = λ k u p q. other-row t i w v (rowCount cs + k) u l (omega arith) ∙ a .parts .1 .words k u (omega arith) q ∙ ap (λ rs. getD (Rattle.layout.specs.Words.wordsOf (getD rs k Rattle.model.specs.Model.noRow)) u 0) (sym s) },
         parts-kept t t′ cs (λ j k p q. other-block t i w v j k (λ z. omega arith) q (omega arith)) (λ r u p q. other-row t i w v r u l (omega arith)) (a .parts .2),
       );
       no-block = λ j k p q r. other-block t i w v j k (λ z. omega arith) r (omega arith) ∙ a .no-block j k p q r;

@@ -9,10 +9,10 @@ use lib.ListN.{length, getD, take}
 use lib.Dec.{leb}
 use Rattle.answer.specs.Limits.{maxComponents, maxRows, maxStates}
 use Rattle.answer.specs.Told.{answered}
-use Rattle.iosa.specs.Model.{Comp, Model, rowCount}
-use Rattle.iosa.specs.Text.{Kind}
-use Rattle.iosa.specs.Reading.{comp-entry, act-entry, clk-entry, row-entry, guardOf, setOf, rowOf, takeIn, readOf}
-use Rattle.iosa.proofs.Reading.TextOfRead.{text-of-read}
+use Rattle.model.specs.Model.{Comp, Model, rowCount}
+use Rattle.model.specs.Text.{Kind}
+use Rattle.model.specs.Reading.{comp-entry, act-entry, clk-entry, row-entry, guardOf, setOf, rowOf, takeIn, readOf}
+use Rattle.model.proofs.Reading.TextOfRead.{text-of-read}
 use Rattle.layout.specs.Layout.{headWords, imageWords, blockWord}
 use Rattle.layout.specs.Image.{leaveBelow, firstWord, imageOf}
 use Rattle.layout.proofs.RowsAscend.{below-le}

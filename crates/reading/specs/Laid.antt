@@ -4,7 +4,7 @@ use mathlib.Core.List.{List, [], _∷_}
 use Prim.Native.Nat.{ℕ, _+_, _≤_, _<_}
 use lib.ListN.{length, getD}
 use Rattle.answer.specs.Limits.{maxComponents, maxRows}
-use Rattle.iosa.specs.Model.{Row, Comp, noRow, rowCount}
+use Rattle.model.specs.Model.{Row, Comp, noRow, rowCount}
 use Rattle.layout.specs.Layout.{blockWords, rowWords, imageWords, countOf, blockWord}
 use Rattle.layout.specs.Image.{blockOf}
 use Rattle.layout.specs.Words.{wordsOf, rowWord}

@@ -8,8 +8,8 @@ use lib.ListN.{length}
 use lib.Dec.{ltb}
 use Rattle.answer.specs.Told.{Answer, answered, refused, saysChecked, doneOf}
 use Rattle.answer.specs.declared.Checked.{Checked}
-use Rattle.iosa.specs.Model.{Model}
-use Rattle.iosa.specs.Reading.{readOf}
+use Rattle.model.specs.Model.{Model}
+use Rattle.model.specs.Reading.{readOf}
 use Rattle.layout.specs.Layout.{imageWords}
 use Rattle.layout.specs.Lent.{tableTooShort, tableAfter}
 

@@ -13,11 +13,11 @@ use Rattle.laws.proofs.TestLaws.{or-false}
 use Rattle.answer.specs.Limits.{maxRows, maxBytes}
 use Rattle.answer.specs.Told.{tell, Answer, answered}
 use Rattle.answer.specs.declared.Written.{Written}
-use Rattle.iosa.specs.Model.{Comp, Model, rowCount}
-use Rattle.iosa.specs.Text.{textOf}
-use Rattle.iosa.specs.WellFormed.{WellFormed}
+use Rattle.model.specs.Model.{Comp, Model, rowCount}
+use Rattle.model.specs.Text.{textOf}
+use Rattle.model.specs.WellFormed.{WellFormed}
 use Rattle.iosa.specs.InOrder.{Gives, needs, room}
-use Rattle.iosa.proofs.Answers.InOrder.{refusedOr, either, or-refused, check-exactly, gives-exactly, room-decided, needs-decided}
+use Rattle.answering.proofs.Answers.InOrder.{refusedOr, either, or-refused, check-exactly, gives-exactly, room-decided, needs-decided}
 use Rattle.table.proofs.OnImageExactly.{on-table-leaves}
 use Rattle.lacking.specs.Repair.{repairedOf, addedTo}
 use Rattle.lacking.specs.Repaired.{Mended, MendedAs, Small}

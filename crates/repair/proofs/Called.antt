@@ -13,9 +13,9 @@ use Rattle.answer.specs.Told.{told, tell, Answer, answered, refused, saysWritte
 use Rattle.answer.specs.declared.Place.the-variants.{Whole, Bytes}
 use Rattle.answer.specs.declared.Written.{Written}
 use Rattle.answer.specs.declared.Written.the-variants.{Length, Refused}
-use Rattle.iosa.specs.Model.{Model, rowCount}
-use Rattle.iosa.specs.Text.{textOf}
-use Rattle.iosa.specs.WellFormed.{WellFormed}
+use Rattle.model.specs.Model.{Model, rowCount}
+use Rattle.model.specs.Text.{textOf}
+use Rattle.model.specs.WellFormed.{WellFormed}
 use Rattle.layout.specs.Layout.{imageWords}
 use Rattle.layout.specs.Image.{Image, imageOf, modelOf, noImage}
 use Rattle.layout.proofs.RowsOfRange.{well-formed}

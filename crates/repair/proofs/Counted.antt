@@ -12,10 +12,10 @@ use Rattle.laws.specs.Fold.{tab, sum, spread}
 use Rattle.laws.proofs.TabLaws.{spread-length, sum-at-most}
 use Rattle.laws.proofs.ListLaws.{All, at-all, in-at}
 use Rattle.answer.specs.Limits.{maxActions, maxStates, maxComponents, maxRows, maxBytes}
-use Rattle.iosa.specs.Model.{Comp, Model, compAt, rowCount}
-use Rattle.iosa.specs.Text.{rowLine, rowLines, textOf}
+use Rattle.model.specs.Model.{Comp, Model, compAt, rowCount}
+use Rattle.model.specs.Text.{rowLine, rowLines, textOf}
 use Rattle.iosa.specs.Checks.{lacksRow}
-use Rattle.iosa.specs.WellFormed.{WellFormed}
+use Rattle.model.specs.WellFormed.{WellFormed}
 use Rattle.measure.proofs.Lines.{rows-more, no-rows, rows-most}
 use Rattle.fill.proofs.FillLaws.{sets-append}
 use Rattle.lacking.specs.Repair.{loopAt, repairedOf, cell, cellAt, cellsOf, addedTo, bytesIn}

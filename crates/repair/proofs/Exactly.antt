@@ -12,9 +12,9 @@ use Rattle.laws.specs.Search.{when, orElse}
 use Rattle.answer.specs.Limits.{maxRows, maxBytes}
 use Rattle.answer.specs.Told.{Told, tell, Answer, answered, refused, saysWritten}
 use Rattle.answer.specs.declared.Written.the-variants.{Length}
-use Rattle.iosa.specs.Model.{Comp, Model, rowCount}
-use Rattle.iosa.specs.Text.{textOf}
-use Rattle.iosa.specs.WellFormed.{WellFormed}
+use Rattle.model.specs.Model.{Comp, Model, rowCount}
+use Rattle.model.specs.Text.{textOf}
+use Rattle.model.specs.WellFormed.{WellFormed}
 use Rattle.iosa.specs.Checks.{componentOf, acceptOf}
 use Rattle.iosa.specs.InOrder.{refuses, passes, gives}
 use Rattle.layout.specs.Layout.{imageWords}

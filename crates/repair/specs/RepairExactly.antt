@@ -6,7 +6,7 @@ use Prim.Native.Nat.{ℕ, _*_}
 use lib.ListN.{length}
 use Rattle.answer.specs.Told.{Answer, saysWritten}
 use Rattle.answer.specs.declared.Written.{Written}
-use Rattle.iosa.specs.Model.{Comp}
+use Rattle.model.specs.Model.{Comp}
 use Rattle.iosa.specs.InOrder.{_▹_, Gives, Leaves, needs, room}
 use Rattle.layout.specs.OnImage.{OnImage}
 use Rattle.lacking.specs.Repaired.{Mended, MendedAs, Small}

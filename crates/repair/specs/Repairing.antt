@@ -10,8 +10,8 @@ use Rattle.laws.specs.Search.{when, orElse}
 use Rattle.answer.specs.Limits.{maxRows, maxBytes}
 use Rattle.answer.specs.Told.{tell, Answer, answered, refused, saysWritten}
 use Rattle.answer.specs.declared.Written.{Written}
-use Rattle.iosa.specs.Model.{Model, rowCount}
-use Rattle.iosa.specs.Text.{textOf}
+use Rattle.model.specs.Model.{Model, rowCount}
+use Rattle.model.specs.Text.{textOf}
 use Rattle.layout.specs.Layout.{imageWords}
 use Rattle.layout.specs.Image.{imageOf}
 use Rattle.table.specs.OnTable.{onTable}

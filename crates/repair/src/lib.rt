@@ -10,7 +10,7 @@ ghost use lib.ListN.{length};
 ghost use lib.Dec.{ltb};
 ghost use Rattle.answer.specs.Limits.{maxRows, maxBytes};
 ghost use Rattle.answer.specs.declared.Written.the-variants as Written;
-ghost use Rattle.iosa.specs.Model.{rowCount};
+ghost use Rattle.model.specs.Model.{rowCount};
 ghost use Rattle.layout.specs.Image.{Image, modelOf};
 ghost use Rattle.repair.specs.Repairing.{Repairing};
 

@@ -14,18 +14,18 @@ use Rattle.laws.proofs.SearchLaws.{no-some}
 use Rattle.answer.specs.Limits.{maxRequest}
 use Rattle.answer.specs.Told.{tell, Answer, answered, refused}
 use Rattle.answer.specs.declared.Written.{Written}
-use Rattle.iosa.specs.Model.{Model}
-use Rattle.iosa.specs.Reading.{Got, Scan, is, stops, readOf}
+use Rattle.model.specs.Model.{Model}
+use Rattle.model.specs.Reading.{Got, Scan, is, stops, readOf}
 use Rattle.iosa.specs.Settle.{settleOf}
-use Rattle.iosa.specs.Report.{Request, requestLine, requestText, requestOf, shortEnough, answerLines, reportOf}
+use Rattle.answering.specs.Report.{Request, requestLine, requestText, requestOf, shortEnough, answerLines, reportOf}
 use Rattle.iosa.specs.InOrder.{_▹_, Gives, room}
 use Rattle.iosa.specs.Lent.{Fills}
-use Rattle.iosa.specs.Printed.{Asks, Prints, is9, no-model, runs}
-use Rattle.iosa.proofs.Reading.ReadOfText.{read-exactly}
-use Rattle.iosa.proofs.Answers.InOrder.{refusedOr, check-exactly, gives-exactly, leaves-exactly, room-decided}
-use Rattle.iosa.proofs.Answers.Models.{settle-model-exactly}
-use Rattle.iosa.proofs.Answers.Texts.{read-text-exactly}
-use Rattle.iosa.proofs.Answers.Lines.{answer-printed}
+use Rattle.answering.specs.Printed.{Asks, Prints, is9, no-model, runs}
+use Rattle.model.proofs.Reading.ReadOfText.{read-exactly}
+use Rattle.answering.proofs.Answers.InOrder.{refusedOr, check-exactly, gives-exactly, leaves-exactly, room-decided}
+use Rattle.answering.proofs.Answers.Models.{settle-model-exactly}
+use Rattle.answering.proofs.Answers.Texts.{read-text-exactly}
+use Rattle.answering.proofs.Answers.Lines.{answer-printed}
 use Rattle.steplines.specs.Run.{mostBytes}
 use Rattle.text.proofs.Filling.{lengthIn, filledWith, fills-exactly}
 use Rattle.request.specs.Kept.{there}

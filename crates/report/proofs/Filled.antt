@@ -9,7 +9,7 @@ use borrow.Author.Tests.{lt-ltb, le-ltb}
 use Rattle.answer.specs.Told.{answered, told, saysWritten}
 use Rattle.answer.specs.declared.Written.the-variants.{Length, Refused}
 use Rattle.answer.specs.declared.Place.the-variants.{Bytes}
-use Rattle.iosa.specs.Report.{reportOf}
+use Rattle.answering.specs.Report.{reportOf}
 use Rattle.print.specs.Put.{laid, Put}
 use Rattle.steplines.specs.Run.{mostBytes}
 use Rattle.report.specs.Reported.{lengthTold, reportIn, Reported}

@@ -10,12 +10,12 @@ use lib.ListN.{length, take, drop, length-append, take-append-drop}
 use lib.Seq.{take-all, take-append-seam, take-append-le, length-take-le}
 use lib.Dec.{ltb}
 use borrow.Author.Tests.{ltb-false}
-use Rattle.iosa.proofs.Reading.Scans.{no-is}
+use Rattle.model.proofs.Reading.Scans.{no-is}
 use Rattle.answer.specs.Limits.{maxRequest, maxBytes}
 use Rattle.answer.specs.Told.{tell}
-use Rattle.iosa.specs.Reading.{Got, Scan, is, stops}
-use Rattle.iosa.specs.Report.{Request, requestLine, requestText, RequestFits, shortEnough, requestOf, refusedLine, reportOf}
-use Rattle.iosa.proofs.Reading.Faults.{too-long-exactly}
+use Rattle.model.specs.Reading.{Got, Scan, is, stops}
+use Rattle.answering.specs.Report.{Request, requestLine, requestText, RequestFits, shortEnough, requestOf, refusedLine, reportOf}
+use Rattle.model.proofs.Reading.Faults.{too-long-exactly}
 use Rattle.request.specs.Kept.{there}
 use Rattle.report.proofs.ReportLaws.{report-9, report-text}
 use Rattle.report.proofs.RequestExact.{request-exact}

@@ -11,16 +11,16 @@ use Rattle.laws.specs.Sets.{_∪_}
 use Rattle.laws.specs.Fold as Fold
 use Rattle.answer.specs.Limits.{maxBudget}
 use Rattle.answer.specs.Told.{answered}
-use Rattle.iosa.specs.Model.{Model}
-use Rattle.iosa.specs.Text.{tab, decimal, textOf}
+use Rattle.model.specs.Model.{Model}
+use Rattle.model.specs.Text.{tab, decimal, textOf}
 use Rattle.iosa.specs.Checks.{confluentOf}
-use Rattle.iosa.specs.Reading.{readOf}
+use Rattle.model.specs.Reading.{readOf}
 use Rattle.request.specs.Kept.{there}
 use Rattle.iosa.specs.Step.{Went, urgentStep, lowest}
 use Rattle.iosa.specs.Settle.{settle, beginFault, budgetFault, traceFault, settleOf}
 use Rattle.iosa.specs.Orders.{Settling}
-use Rattle.iosa.specs.Report.{Request, requestText, stepLine, stepLines, lastLine, answerLines, requestOf, reportOf}
-use Rattle.iosa.specs.Examples.{reply}
+use Rattle.answering.specs.Report.{Request, requestText, stepLine, stepLines, lastLine, answerLines, requestOf, reportOf}
+use Rattle.answering.specs.Examples.{reply}
 use Rattle.iosa.proofs.Settling.Rule.{lowest-some}
 use Rattle.tell.specs.Tell.{tailOf}
 use Rattle.tell.proofs.TellLaws.{step-parts}

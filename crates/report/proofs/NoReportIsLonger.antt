@@ -11,19 +11,19 @@ use lib.Dec.{eqb, ltb}
 use Rattle.laws.specs.Search.{when, orElse, mapSome}
 use Rattle.answer.specs.Limits.{maxBytes, maxBudget}
 use Rattle.answer.specs.Told.{Told, tell, Answer, answered, refused}
-use Rattle.iosa.specs.Model.{Comp, Model}
-use Rattle.iosa.specs.WellFormed.{WellFormed}
+use Rattle.model.specs.Model.{Comp, Model}
+use Rattle.model.specs.WellFormed.{WellFormed}
 use Rattle.iosa.specs.Faults.{FaultAt, guarded, repeated, lacking, doubled, inactive, Fault, inside, output-shared, clock-shared, urgency-differs, Clash, clash}
 use Rattle.iosa.specs.Checks.{confluentOf}
-use Rattle.iosa.specs.Reading.{Got, Scan, is, stops, Entry, Progress, current, entry, faultOf, columnOf, stopColumn, firstColumn, outside, unnamed, statesBy, takeIn, finish, linesFrom, atStart, readOf}
+use Rattle.model.specs.Reading.{Got, Scan, is, stops, Entry, Progress, current, entry, faultOf, columnOf, stopColumn, firstColumn, outside, unnamed, statesBy, takeIn, finish, linesFrom, atStart, readOf}
 use Rattle.iosa.specs.Step.{stateFault, inRange, urgentStep}
 use Rattle.iosa.specs.Settle.{settle, unreachedFrom, reachFault, beginFault, budgetFault, traceFault, settleOf}
 use Rattle.iosa.specs.Orders.{Settling}
-use Rattle.iosa.specs.Report.{Request, requestOf, refusedLine, answerLines, runLines, reportOf}
+use Rattle.answering.specs.Report.{Request, requestOf, refusedLine, answerLines, runLines, reportOf}
 use Rattle.iosa.proofs.Acceptance.Accepted.{accepted-exactly}
 use Rattle.iosa.proofs.Acceptance.Clashes.{unconfluent-exactly}
 use Rattle.iosa.proofs.Acceptance.ConfluentExactly.{confluent-accepted}
-use Rattle.iosa.proofs.Reading.ReadOfText.{read-exactly}
+use Rattle.model.proofs.Reading.ReadOfText.{read-exactly}
 use Rattle.iosa.proofs.Settling.Called.{settle-answers-exactly}
 use Rattle.steplines.specs.Run.{mostBytes, linesOf, runText}
 use Rattle.steplines.proofs.Most.{Brief, refusal-most, run-most}

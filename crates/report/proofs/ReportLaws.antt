@@ -13,13 +13,13 @@ use Rattle.answer.specs.declared.State.{State}
 use Rattle.answer.specs.declared.Checked.{Checked}
 use Rattle.answer.specs.declared.Checked.the-variants.{Fine, Refused}
 use Rattle.answer.specs.declared.Refusal.{Refusal}
-use Rattle.iosa.specs.Model.{Model}
+use Rattle.model.specs.Model.{Model}
 use Rattle.iosa.specs.Checks.{confluentOf}
-use Rattle.iosa.specs.WellFormed.{WellComp, WellFormed}
-use Rattle.iosa.specs.Reading.{readOf}
+use Rattle.model.specs.WellFormed.{WellComp, WellFormed}
+use Rattle.model.specs.Reading.{readOf}
 use Rattle.iosa.specs.Step.{inRange, stateFault, unless}
 use Rattle.iosa.specs.Settle.{beginFault, budgetFault, traceFault, settleOf}
-use Rattle.iosa.specs.Report.{Request, requestOf, refusedLine, answerLines, runLines, reportOf}
+use Rattle.answering.specs.Report.{Request, requestOf, refusedLine, answerLines, runLines, reportOf}
 use Rattle.iosa.proofs.Settling.Each.{All, each-all}
 use Rattle.layout.specs.Image.{modelOf}
 use Rattle.parts.specs.Faults.{Says}

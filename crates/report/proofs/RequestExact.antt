@@ -2,13 +2,13 @@
 use mathlib.Core.Path.{_≡_, refl, sym, _∙_, ap, subst}
 use mathlib.Core.List.{List, [], _∷_, _++_, append-assoc}
 use Prim.Native.Nat.{ℕ}
-use Rattle.iosa.specs.Text.{tab, lf, decimal, joined, fieldsAfter}
-use Rattle.iosa.specs.Reading.{Got, Scan, is, got, then, exactly, theByte, number, numbers, field}
-use Rattle.iosa.specs.Line.{Fits, ListFits, Any, Exact}
-use Rattle.iosa.specs.Report.{Request, fromWord, requestLine, requestText, RequestFits}
-use Rattle.iosa.proofs.Reading.Lines.{field-printed, field-scanned, field-before}
-use Rattle.iosa.proofs.Reading.Scans.{is-inj, then-is}
-use Rattle.iosa.proofs.Reading.Fields.{exactly-scanned, number-exact, numbers-exact}
+use Rattle.model.specs.Text.{tab, lf, decimal, joined, fieldsAfter}
+use Rattle.model.specs.Reading.{Got, Scan, is, got, then, exactly, theByte, number, numbers, field}
+use Rattle.model.specs.Line.{Fits, ListFits, Any, Exact}
+use Rattle.answering.specs.Report.{Request, fromWord, requestLine, requestText, RequestFits}
+use Rattle.model.proofs.Reading.Lines.{field-printed, field-scanned, field-before}
+use Rattle.model.proofs.Reading.Scans.{is-inj, then-is}
+use Rattle.model.proofs.Reading.Fields.{exactly-scanned, number-exact, numbers-exact}
 
 printed : (q : Request) (bs : List ℕ) → RequestFits q → requestLine (requestText q ++ bs) ≡ got q bs
 unfolding requestLine requestText fieldsAfter exactly

@@ -10,7 +10,7 @@ use lib.Dec.{ltb}
 use Rattle.answer.specs.Told.{Answer, answered, refused, tell, saysWritten}
 use Rattle.answer.specs.declared.Written.{Written}
 use Rattle.answer.specs.declared.Written.the-variants.{Length}
-use Rattle.iosa.specs.Report.{reportOf}
+use Rattle.answering.specs.Report.{reportOf}
 use Rattle.steplines.specs.Run.{mostBytes}
 use Rattle.report.specs.Reported.{lengthTold, reportIn, Reported}
 

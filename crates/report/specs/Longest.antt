@@ -5,9 +5,9 @@ use Prim.Native.Nat.{ℕ, _+_, _-_, _^_}
 use lib.ListN.{replicate}
 use Rattle.laws.specs.Sets.{only}
 use Rattle.answer.specs.Limits.{maxComponents, maxClocks, maxBudget}
-use Rattle.iosa.specs.Model.{Comp, Model}
-use Rattle.iosa.specs.Text.{textOf}
-use Rattle.iosa.specs.Report.{Request, requestText}
+use Rattle.model.specs.Model.{Comp, Model}
+use Rattle.model.specs.Text.{textOf}
+use Rattle.answering.specs.Report.{Request, requestText}
 use Rattle.steplines.specs.Run.{stateDigits}
 
 abbrev pub allClocks : ℕ

@@ -5,7 +5,7 @@ use lib.ListN.{length}
 use Rattle.answer.specs.declared.Written.{Written}
 use Rattle.iosa.specs.InOrder.{_▹_, Gives, Leaves, room}
 use Rattle.iosa.specs.Lent.{Fills}
-use Rattle.iosa.specs.Printed.{Prints}
+use Rattle.answering.specs.Printed.{Prints}
 
 -- the bytes that `report` asks for, whatever the input: no report is longer (`no-report-is-longer`), and one is as long (`longest-reached`)
 abbrev pub longestReport : ℕ

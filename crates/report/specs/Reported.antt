@@ -8,7 +8,7 @@ use lib.ListN.{length, drop}
 use lib.Dec.{ltb}
 use Rattle.answer.specs.Told.{Answer, answered, refused, tell, saysWritten}
 use Rattle.answer.specs.declared.Written.{Written}
-use Rattle.iosa.specs.Report.{reportOf}
+use Rattle.answering.specs.Report.{reportOf}
 use Rattle.steplines.specs.Run.{mostBytes}
 
 -- "24 .. bytes needed": one need for every input

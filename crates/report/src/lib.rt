@@ -8,7 +8,7 @@ ghost use Prim.Native.Nat.{_≤_};
 ghost use lib.ListN.{length};
 ghost use Rattle.answer.specs.State.{partsOf};
 ghost use Rattle.iosa.specs.Settle.{settleOf};
-ghost use Rattle.iosa.specs.Report.{answerLines, reportOf};
+ghost use Rattle.answering.specs.Report.{answerLines, reportOf};
 ghost use Rattle.report.specs.Reported.{Reported};
 ghost use Rattle.layout.specs.Image.{Image, modelOf};
 ghost use Rattle.print.specs.Put.{Put};

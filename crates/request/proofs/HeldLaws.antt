@@ -16,7 +16,7 @@ use Rattle.answer.specs.Limits.{maxComponents, maxStates, noState}
 use Rattle.answer.specs.declared.State.{State}
 use Rattle.answer.specs.State.{numbersFrom, partsOf}
 use Rattle.answer.proofs.StateLaws.{parts-front, parts-length}
-use Rattle.iosa.specs.Model.{Comp, Model}
+use Rattle.model.specs.Model.{Comp, Model}
 use Rattle.iosa.specs.Step.{inRange}
 use Rattle.iosa.proofs.Settling.Range.{range-length, wrong-length}
 use Rattle.request.specs.Kept.{byteOf, with, withAll, held}

@@ -13,10 +13,10 @@ use lib.Dec.{ltb}
 use borrow.Author.Tests.{lt-ltb, le-ltb}
 use Rattle.answer.specs.Limits.{maxRequest, noState}
 use Rattle.answer.specs.declared.State.{State}
-use Rattle.iosa.specs.Text.{tab, lf}
-use Rattle.iosa.specs.Reading.{Got, Scan, is, stops, got, then, exactly, theByte, number, moreNumbers, numbers, field}
-use Rattle.iosa.specs.Report.{Request, fromWord, requestLine, requestOf}
-use Rattle.iosa.proofs.Reading.Scans.{no-is}
+use Rattle.model.specs.Text.{tab, lf}
+use Rattle.model.specs.Reading.{Got, Scan, is, stops, got, then, exactly, theByte, number, moreNumbers, numbers, field}
+use Rattle.answering.specs.Report.{Request, fromWord, requestLine, requestOf}
+use Rattle.model.proofs.Reading.Scans.{no-is}
 use Rattle.fields.specs.Resets.{valued}
 use Rattle.fields.proofs.NumberLaws.{numbers-all, no-number}
 use Rattle.request.specs.declared.PartsScan.{PartsScan}

@@ -7,8 +7,8 @@ use lib.ListN.{drop, set}
 use lib.Dec.{ltb}
 use Rattle.answer.specs.Limits.{maxComponents, noState}
 use Rattle.answer.specs.declared.State.{State}
-use Rattle.iosa.specs.Reading.{Got, Scan, is, stops}
-use Rattle.iosa.specs.Report.{Request}
+use Rattle.model.specs.Reading.{Got, Scan, is, stops}
+use Rattle.answering.specs.Report.{Request}
 use Rattle.request.specs.declared.PartsScan.{PartsScan}
 use Rattle.request.specs.declared.Asked.{Asked}
 

@@ -17,7 +17,7 @@ use Rattle.answer.specs.declared.Refusal.{Refusal}
 use Rattle.answer.specs.declared.Settled.{Settled}
 use Rattle.answer.specs.declared.Verdict.the-variants as OfVerdict
 use Rattle.answer.specs.State.{partsOf}
-use Rattle.iosa.specs.Model.{declared}
+use Rattle.model.specs.Model.{declared}
 use Rattle.iosa.specs.Product.{Within}
 use Rattle.iosa.specs.Step.{urgentStep}
 use Rattle.iosa.specs.Settle.{settle}

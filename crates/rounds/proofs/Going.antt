@@ -15,9 +15,9 @@ use Rattle.answer.specs.declared.State.{State}
 use Rattle.answer.specs.declared.Simulated.{Simulated}
 use Rattle.answer.specs.declared.Ended.the-variants as OfEnded
 use Rattle.answer.specs.State.{partsOf}
-use Rattle.iosa.specs.Model.{Model}
+use Rattle.model.specs.Model.{Model}
 use Rattle.iosa.specs.Start.{startAll, startedAll}
-use Rattle.iosa.specs.Timed.{enablingAll, timedFrom}
+use Rattle.timing.specs.Timed.{enablingAll, timedFrom}
 use Rattle.iosa.specs.TimedExactly.{Timing, valueOf}
 use Rattle.iosa.proofs.Settling.Start.{start-length, start-in-range}
 use Rattle.layout.specs.Image.{modelOf}

@@ -6,20 +6,20 @@ use native.Mathlib.Omega.{arith}
 use lib.IntN.{ℤ, pos}
 use Rattle.laws.proofs.TickLaws.{count-of}
 use Rattle.answer.specs.Told.{tell, answered, refused, fired, quiet}
-use Rattle.iosa.specs.Model.{Model, declared}
-use Rattle.iosa.specs.WellFormed.{WellFormed}
+use Rattle.model.specs.Model.{Model, declared}
+use Rattle.model.specs.WellFormed.{WellFormed}
 use Rattle.iosa.specs.Automaton.{Conforming, Joinable}
 use Rattle.iosa.specs.Product.{Within}
 use Rattle.iosa.specs.Step.{urgentStep}
 use Rattle.iosa.specs.Settle.{settle}
-use Rattle.iosa.specs.Timed.{enablingAll, timedFrom, quietly, fire, agedFrom}
+use Rattle.timing.specs.Timed.{enablingAll, timedFrom, quietly, fire, agedFrom}
 use Rattle.iosa.specs.TimedExactly.{InTicks, Timing, valueOf}
 use Rattle.iosa.proofs.Settling.Called.{no-answer, same-answer}
 use Rattle.iosa.proofs.Settling.Demand3.{our-run-is-a-series}
 use Rattle.iosa.proofs.Settling.ProductOfMany.{wells}
-use Rattle.iosa.proofs.Timing.Enabling.{declared-below}
-use Rattle.iosa.proofs.Timing.Shots.{waiting, fire-is-a-row}
-use Rattle.iosa.proofs.Timing.Values.{aged-falls, falls-in-ticks}
+use Rattle.timing.proofs.Timing.Enabling.{declared-below}
+use Rattle.timing.proofs.Timing.Shots.{waiting, fire-is-a-row}
+use Rattle.timing.proofs.Timing.Values.{aged-falls, falls-in-ticks}
 use Rattle.firing.specs.declared.Choice.{Choice}
 use Rattle.firing.specs.declared.Choice.the-variants.{Negative, Shared, Quiet, Fires}
 use Rattle.firing.specs.Choices.{choiceOf, answerOf}

@@ -7,7 +7,7 @@ use lib.IntN.{ℤ}
 use Rattle.answer.specs.declared.State.{State}
 use Rattle.answer.specs.State.{partsOf, withParts}
 use Rattle.answer.proofs.StateLaws.{with-parts}
-use Rattle.iosa.specs.Model.{Model, declared}
+use Rattle.model.specs.Model.{Model, declared}
 use Rattle.iosa.specs.Product.{Within}
 use Rattle.iosa.specs.TimedExactly.{InTicks}
 use Rattle.iosa.proofs.Settling.Parts.{within-length}

@@ -11,8 +11,8 @@ use Rattle.answer.specs.declared.State.{State}
 use Rattle.answer.specs.declared.Timed.{Timed}
 use Rattle.answer.specs.declared.Firing.the-variants as OfFiring
 use Rattle.answer.specs.State.{partsOf}
-use Rattle.iosa.specs.Model.{Model}
-use Rattle.iosa.specs.Timed.{enablingAll, timedFrom}
+use Rattle.model.specs.Model.{Model}
+use Rattle.timing.specs.Timed.{enablingAll, timedFrom}
 use Rattle.iosa.specs.TimedExactly.{Timing}
 use Rattle.layout.specs.Image.{modelOf}
 use Rattle.layout.proofs.RowsOfRange.{well-formed}

@@ -12,9 +12,9 @@ use Rattle.answer.specs.declared.Refusal.{Refusal}
 use Rattle.answer.specs.declared.Ended.the-variants as OfEnded
 use Rattle.answer.specs.declared.State.{State}
 use Rattle.answer.specs.declared.Simulated.{Simulated}
-use Rattle.iosa.specs.Model.{Model, declared}
+use Rattle.model.specs.Model.{Model, declared}
 use Rattle.iosa.specs.Automaton.{Conforming, Joinable}
-use Rattle.iosa.specs.Timed.{timedFrom, enablingAll}
+use Rattle.timing.specs.Timed.{timedFrom, enablingAll}
 use Rattle.layout.specs.Image.{Image, modelOf}
 use Rattle.words.specs.Bytes.{stateOf}
 use Rattle.ticks.specs.Ticks.{Ticking}

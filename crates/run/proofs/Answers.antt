@@ -14,7 +14,7 @@ use Rattle.answer.specs.declared.State.{State}
 use Rattle.answer.specs.declared.Refusal.{Refusal}
 use Rattle.answer.specs.declared.Stepped.{Stepped}
 use Rattle.answer.specs.declared.Settled.{Settled}
-use Rattle.iosa.specs.Model.{Model}
+use Rattle.model.specs.Model.{Model}
 use Rattle.iosa.specs.Checks.{acceptOf, confluentOf}
 use Rattle.iosa.specs.Step.{unless, takenBy, named, urgentStep, inRange, stateFault, stepOf, stepByOf}
 use Rattle.iosa.specs.Stepped.{Stepping}

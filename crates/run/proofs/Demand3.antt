@@ -12,7 +12,7 @@ use Rattle.answer.specs.declared.State.{State}
 use Rattle.answer.specs.declared.Settled.{Settled}
 use Rattle.iosa.specs.Orders.{Settling}
 use Rattle.iosa.specs.InOrder.{refuses, passes, gives}
-use Rattle.iosa.specs.Answers.{SettleAnswer, SettleListAnswer, is23, is-series}
+use Rattle.answering.specs.Answers.{SettleAnswer, SettleListAnswer, is23, is-series}
 use Rattle.layout.specs.OnImage.{OnImage, is20, of-model}
 use Rattle.settling.specs.Gives.{SettleAnswers}
 use Rattle.run.specs.Calls.{SettleCall, SettleListCall}

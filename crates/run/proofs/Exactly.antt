@@ -8,13 +8,13 @@ use Rattle.answer.specs.State.{partsOf}
 use Rattle.answer.specs.declared.State.{State}
 use Rattle.answer.specs.declared.Stepped.{Stepped}
 use Rattle.answer.specs.declared.Settled.{Settled}
-use Rattle.iosa.specs.Model.{Comp, Model}
+use Rattle.model.specs.Model.{Comp, Model}
 use Rattle.iosa.specs.Step.{stepOf, stepByOf}
 use Rattle.iosa.specs.Stepped.{Stepping}
 use Rattle.iosa.specs.Settle.{settleOf, settleListOf}
 use Rattle.iosa.specs.Orders.{Settling}
-use Rattle.iosa.specs.Answers.{StepAnswer, StepByAnswer, SettleAnswer, SettleListAnswer}
-use Rattle.iosa.proofs.Answers.Models.{step-model-exactly, step-by-model-exactly, settle-model-exactly, settle-list-model-exactly}
+use Rattle.answering.specs.Answers.{StepAnswer, StepByAnswer, SettleAnswer, SettleListAnswer}
+use Rattle.answering.proofs.Answers.Models.{step-model-exactly, step-by-model-exactly, settle-model-exactly, settle-list-model-exactly}
 use Rattle.settling.specs.Gives.{StepAnswers, SettleAnswers}
 use Rattle.table.proofs.OnImageExactly.{on-table-leaves}
 use Rattle.run.specs.Calls.{StepCall, StepByCall, SettleCall, SettleListCall}

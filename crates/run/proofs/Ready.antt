@@ -21,7 +21,7 @@ use Rattle.layout.proofs.RowsOfRange.{well-formed}
 use Rattle.settling.specs.Gives.{Ready}
 use Rattle.settling.proofs.Begun.{begun}
 use Rattle.entry.specs.Entry.{entryFault}
-use Rattle.iosa.specs.Model.{Model}
+use Rattle.model.specs.Model.{Model}
 use Rattle.table.specs.IsImage.{isImage}
 use Rattle.table.specs.OnTable.{checkOn}
 use Rattle.table.proofs.CheckedLaws.{fine-passes, refused-tells}

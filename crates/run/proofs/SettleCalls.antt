@@ -12,7 +12,7 @@ use Rattle.answer.specs.declared.Refusal.{Refusal}
 use Rattle.answer.specs.declared.State.{State}
 use Rattle.answer.specs.declared.Settled.{Settled}
 use Rattle.answer.specs.State.{partsOf}
-use Rattle.iosa.specs.Model.{Model}
+use Rattle.model.specs.Model.{Model}
 use Rattle.iosa.specs.Step.{urgentStep}
 use Rattle.iosa.specs.Settle.{settle, play, budgetFault, settleOf, settleListOf}
 use Rattle.iosa.specs.Orders.{Settling}

@@ -11,7 +11,7 @@ use Rattle.answer.specs.declared.Refusal.{Refusal}
 use Rattle.answer.specs.declared.State.{State}
 use Rattle.answer.specs.declared.Stepped.{Stepped}
 use Rattle.answer.specs.State.{partsOf}
-use Rattle.iosa.specs.Model.{Model}
+use Rattle.model.specs.Model.{Model}
 use Rattle.iosa.specs.Checks.{acceptOf}
 use Rattle.iosa.specs.Step.{inRange, stepOf, stepByOf}
 use Rattle.iosa.specs.Stepped.{Stepping}

@@ -3,7 +3,7 @@ use mathlib.Core.List.{List, _∷_}
 use Prim.Native.Nat.{ℕ}
 use Rattle.answer.specs.State.{partsOf}
 use Rattle.answer.specs.declared.State.{State}
-use Rattle.iosa.specs.Model.{Comp}
+use Rattle.model.specs.Model.{Comp}
 use Rattle.iosa.specs.Automaton.{Joinable, AllConfluent}
 use Rattle.iosa.specs.Thesis.{AllDefinition41}
 use Rattle.iosa.specs.Product.{product, stateOf, Reached}

@@ -10,7 +10,7 @@ use Rattle.answer.specs.declared.Stepped.{Stepped}
 use Rattle.answer.specs.declared.Settled.{Settled}
 use Rattle.iosa.specs.Orders.{Settling}
 use Rattle.iosa.specs.InOrder.{Leaves}
-use Rattle.iosa.specs.Answers.{StepAnswer, StepByAnswer, SettleAnswer, SettleListAnswer}
+use Rattle.answering.specs.Answers.{StepAnswer, StepByAnswer, SettleAnswer, SettleListAnswer}
 use Rattle.layout.specs.OnImage.{OnImage}
 use Rattle.settling.specs.Gives.{StepAnswers, SettleAnswers}
 use Rattle.run.specs.Calls.{traceAfter}

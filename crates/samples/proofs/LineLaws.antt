@@ -8,8 +8,8 @@ use native.Mathlib.Omega.{arith}
 use lib.ListN.{length, getD, drop, drop-of-length-le, length-drop}
 use lib.Dec.{eqb}
 use borrow.Author.Tests.{eq-eqb, ne-eqb, eqb-true}
-use Rattle.iosa.specs.Text.{lf, tab}
-use Rattle.iosa.specs.Reading.{Scan, is, stops, got, then, exactly, theByte, field, number}
+use Rattle.model.specs.Text.{lf, tab}
+use Rattle.model.specs.Reading.{Scan, is, stops, got, then, exactly, theByte, field, number}
 use Rattle.fields.proofs.ScanLaws.{exactly-end, exactly-stop, byte-here, byte-other, then-stops, then-is}
 use Rattle.fields.specs.declared.Cursor.{Cursor}
 use Rattle.fields.specs.declared.NumberScan.{NumberScan}

@@ -12,7 +12,7 @@ use lib.Seq.{append-snoc, getD-append-add, getD-set-same, getD-set-other}
 use Rattle.laws.specs.Sets.{has}
 use Rattle.answer.specs.Limits.{maxClocks}
 use Rattle.answer.specs.Told.{tell, told, Answer, answered, refused, saysChecked}
-use Rattle.iosa.specs.Reading.{stops, got}
+use Rattle.model.specs.Reading.{stops, got}
 use Rattle.fields.proofs.ScanLaws.{front}
 use Rattle.simulation.specs.Simulate.{andThen}
 use Rattle.simulation.specs.Samples.{lineAt, listsFrom, samplesOf}

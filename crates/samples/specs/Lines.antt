@@ -3,7 +3,7 @@ use mathlib.Core.Path.{_≡_}
 use mathlib.Core.List.{List, [], _∷_}
 use Prim.Native.Nat.{ℕ}
 use lib.ListN.{drop}
-use Rattle.iosa.specs.Reading.{Scan, is, stops, got, field}
+use Rattle.model.specs.Reading.{Scan, is, stops, got, field}
 use Rattle.simulation.specs.Samples.{ticking, sampleAt, lineAt}
 use Rattle.samples.specs.declared.Line.{Line}
 use Rattle.samples.specs.declared.Line.the-variants.{Is, Missing}

@@ -12,7 +12,7 @@ ghost use mathlib.Core.Path.{_≡_};
 ghost use mathlib.Core.List.{List};
 ghost use Prim.Native.Nat.{ℕ, _≤_, _<_};
 ghost use lib.ListN.{length, drop};
-ghost use Rattle.iosa.specs.Reading.{is, field};
+ghost use Rattle.model.specs.Reading.{is, field};
 ghost use Rattle.fields.specs.Fields.{past, gotNumber};
 ghost use Rattle.simulation.specs.Samples.{sampleAt, samplesAt, samplesOf};
 ghost use Rattle.answer.specs.Limits.{maxClocks};

@@ -11,7 +11,7 @@ use Rattle.answer.specs.Told.{Told, Answer, answered, told, asRefused, saysWrit
 use Rattle.answer.specs.declared.Refusal.{Refusal}
 use Rattle.answer.specs.declared.Written.{Written}
 use Rattle.answer.specs.declared.Written.the-variants.{Length, Refused}
-use Rattle.iosa.specs.Report.{reportOf}
+use Rattle.answering.specs.Report.{reportOf}
 use Rattle.steplines.specs.Run.{mostBytes}
 use Rattle.report.specs.Reported.{lengthTold, reportIn, Reported}
 use Rattle.settle.specs.Filled.{Filled}

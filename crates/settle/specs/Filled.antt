@@ -4,7 +4,7 @@ use mathlib.Core.Path.{_≡_}
 use mathlib.Core.List.{List}
 use Prim.Native.Nat.{ℕ, _≤_}
 use lib.ListN.{length, take}
-use Rattle.iosa.specs.Report.{reportOf}
+use Rattle.answering.specs.Report.{reportOf}
 
 pub record Filled (input out : List ℕ) (r : ℕ) : Type 0 where
   pub within : r ≤ length out

@@ -17,7 +17,7 @@ use Rattle.answer.specs.Told.{Told, tell, Answer, answered, refused}
 use Rattle.answer.specs.declared.State.{State}
 use Rattle.answer.specs.declared.Settled.{Settled}
 use Rattle.answer.specs.State.{partsOf, withParts}
-use Rattle.iosa.specs.Model.{Model}
+use Rattle.model.specs.Model.{Model}
 use Rattle.iosa.specs.Automaton.{Conforming, Joinable}
 use Rattle.iosa.specs.Step.{urgentStep, lowest, isStable}
 use Rattle.iosa.specs.Stepped.{Gone}

@@ -5,7 +5,7 @@ use Prim.Native.Nat.{ℕ}
 use lib.IntN.{ℤ}
 use Rattle.answer.specs.Told.{Answer}
 use Rattle.answer.specs.declared.Simulated.{Simulated}
-use Rattle.iosa.specs.Model.{Comp}
+use Rattle.model.specs.Model.{Comp}
 use Rattle.table.proofs.OnImageExactly.{on-table-leaves}
 use Rattle.simulation.specs.Call.{Simulating, simulateText, SimulationAnswers}
 use Rattle.simulation.specs.Exactly.{SimulateAnswer}

@@ -17,7 +17,7 @@ use Rattle.answer.specs.declared.Checked.the-variants as OfChecked
 use Rattle.answer.specs.declared.Ended.the-variants as OfEnded
 use Rattle.answer.specs.declared.Place.the-variants as OfPlace
 use Rattle.answer.specs.declared.Simulated.{Simulated}
-use Rattle.iosa.specs.Model.{Model, declared}
+use Rattle.model.specs.Model.{Model, declared}
 use Rattle.iosa.specs.Settle.{budgetFault}
 use Rattle.triggering.specs.Test.{entryOf}
 use Rattle.layout.specs.Image.{modelOf}

@@ -10,7 +10,7 @@ use lib.IntN.{ℤ}
 use Rattle.answer.specs.Limits.{maxBudget, maxClocks}
 use Rattle.answer.specs.Told.{Told, Answer, answered, refused, saysEnded}
 use Rattle.answer.specs.declared.Simulated.{Simulated}
-use Rattle.iosa.specs.Model.{Comp, declared}
+use Rattle.model.specs.Model.{Comp, declared}
 use Rattle.iosa.specs.Automaton.{Joinable}
 use Rattle.iosa.specs.Thesis.{AllDefinition41}
 use Rattle.iosa.specs.InOrder.{refuses, passes}

@@ -6,7 +6,7 @@ use lib.IntN.{ℤ}
 use Rattle.answer.specs.Limits.{maxClocks}
 use Rattle.answer.specs.declared.Simulated.{Simulated}
 use Rattle.words.specs.Bytes.{stateOf}
-use Rattle.iosa.specs.Model.{Comp, declared}
+use Rattle.model.specs.Model.{Comp, declared}
 use Rattle.iosa.specs.Automaton.{Joinable}
 use Rattle.iosa.specs.Thesis.{AllDefinition41}
 use Rattle.iosa.specs.TimedExactly.{Waits}

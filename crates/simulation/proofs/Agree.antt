@@ -10,8 +10,8 @@ use lib.Signed.{ltZ}
 use Rattle.laws.specs.Sets.{_∪_, only}
 use Rattle.laws.proofs.SetLaws.{in-one}
 use Rattle.laws.proofs.TickLaws.{less-irreflexive, less-transitive}
-use Rattle.iosa.specs.Model.{Comp}
-use Rattle.iosa.specs.WellFormed.{WellFormed}
+use Rattle.model.specs.Model.{Comp}
+use Rattle.model.specs.WellFormed.{WellFormed}
 use Rattle.iosa.specs.Automaton.{Stable, Conditions}
 use Rattle.iosa.specs.Product.{product, stateOf, Within}
 use Rattle.iosa.specs.Checks.{acceptOf}
@@ -21,7 +21,7 @@ use Rattle.iosa.proofs.Settling.Parts.{within-length}
 use Rattle.iosa.proofs.Settling.ProductOfMany.{system-is-an-automaton}
 use Rattle.iosa.proofs.Settling.Start.{start-in-range}
 use Rattle.iosa.proofs.Settling.Steps.{state-is-one-list}
-use Rattle.iosa.proofs.Timing.Values.{falls-once}
+use Rattle.timing.proofs.Timing.Values.{falls-once}
 use Rattle.simulation.specs.Simulate.{Supply, Round}
 use Rattle.simulation.specs.Free.{Takes, Closes, After, first, later, Counting}
 use Rattle.simulation.proofs.Fed.{takes-once}

@@ -17,14 +17,14 @@ use Rattle.laws.specs.Search.{orElse}
 use Rattle.laws.proofs.SearchLaws.{no-some}
 use Rattle.answer.specs.Limits.{maxBudget, maxClocks, maxTicks}
 use Rattle.answer.specs.Told.{Answer, answered, refused}
-use Rattle.iosa.specs.Model.{Comp, Model, declared}
-use Rattle.iosa.specs.WellFormed.{WellFormed}
+use Rattle.model.specs.Model.{Comp, Model, declared}
+use Rattle.model.specs.WellFormed.{WellFormed}
 use Rattle.iosa.specs.Checks.{acceptOf}
 use Rattle.iosa.specs.Settle.{budgetFault}
 use Rattle.iosa.specs.InOrder.{_▹_, refuses, passes, needs}
 use Rattle.iosa.specs.TimedExactly.{valueOf}
-use Rattle.iosa.proofs.Answers.InOrder.{Decided, refusedOr, either, or-refused, check-exactly, needs-decided}
-use Rattle.iosa.proofs.Answers.Models.{budget-decided}
+use Rattle.answering.proofs.Answers.InOrder.{Decided, refusedOr, either, or-refused, check-exactly, needs-decided}
+use Rattle.answering.proofs.Answers.Models.{budget-decided}
 use Rattle.iosa.proofs.Acceptance.Accepted.{accepted-exactly}
 use Rattle.triggering.specs.Test.{entryOf}
 use Rattle.walkable.specs.Orderly.{Settles}

@@ -12,8 +12,8 @@ use Rattle.laws.specs.Sets.{_∪_}
 use Rattle.laws.specs.Lowest.{Lowest}
 use Rattle.answer.specs.Limits.{maxBudget, maxClocks}
 use Rattle.answer.specs.Told.{tell, Answer, answered, refused}
-use Rattle.iosa.specs.Model.{Comp}
-use Rattle.iosa.specs.WellFormed.{WellFormed}
+use Rattle.model.specs.Model.{Comp}
+use Rattle.model.specs.WellFormed.{WellFormed}
 use Rattle.iosa.specs.Product.{product, Within}
 use Rattle.iosa.specs.Checks.{acceptOf}
 use Rattle.iosa.specs.Step.{urgentStep}

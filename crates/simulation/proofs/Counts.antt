@@ -3,8 +3,8 @@ use mathlib.Core.Path.{sym, subst}
 use mathlib.Core.Logic.{inr}
 use mathlib.Core.List.{List, _∷_}
 use Prim.Native.Nat.{ℕ}
-use Rattle.iosa.specs.Model.{Comp}
-use Rattle.iosa.specs.WellFormed.{WellFormed}
+use Rattle.model.specs.Model.{Comp}
+use Rattle.model.specs.WellFormed.{WellFormed}
 use Rattle.iosa.specs.Automaton.{Reachable, at-start, by-row}
 use Rattle.iosa.specs.Product.{product, stateOf}
 use Rattle.iosa.proofs.Reaching.Keeps.{series-reaches}

@@ -8,13 +8,13 @@ use lib.ListN.{length, length-append}
 use lib.Dec.{eqb, leb}
 use borrow.Author.Tests.{le-leb, leb-true, eq-eqb, eqb-true, eqb-false, ne-eqb}
 use Rattle.answer.specs.Limits.{maxDigits, maxTicks, maxTickDigits}
-use Rattle.iosa.specs.Text.{lf, byte0, digitsOf, decimal, fieldsAfter}
-use Rattle.iosa.specs.Reading.{Got, Scan, is, stops, got, then, exactly, theByte, field, isDigit, moreDigits, number}
-use Rattle.iosa.specs.Line.{Ends, Exact}
-use Rattle.iosa.proofs.Reading.Scans.{is-inj, no-is, then-is}
-use Rattle.iosa.proofs.Reading.Number.{digit-is, is-digit, digits-of, Digits, digits-taken, digits-end, taken, behind-least, digits-back}
-use Rattle.iosa.proofs.Reading.Fields.{exactly-scanned, ends-no-digit, number-exact}
-use Rattle.iosa.proofs.Reading.Lines.{fields-end, field-printed, field-scanned, field-before}
+use Rattle.model.specs.Text.{lf, byte0, digitsOf, decimal, fieldsAfter}
+use Rattle.model.specs.Reading.{Got, Scan, is, stops, got, then, exactly, theByte, field, isDigit, moreDigits, number}
+use Rattle.model.specs.Line.{Ends, Exact}
+use Rattle.model.proofs.Reading.Scans.{is-inj, no-is, then-is}
+use Rattle.model.proofs.Reading.Number.{digit-is, is-digit, digits-of, Digits, digits-taken, digits-end, taken, behind-least, digits-back}
+use Rattle.model.proofs.Reading.Fields.{exactly-scanned, ends-no-digit, number-exact}
+use Rattle.model.proofs.Reading.Lines.{fields-end, field-printed, field-scanned, field-before}
 use Rattle.simulation.specs.Samples.{ticking, sampleAt, samplesAt, lineAt, texts, lineOf, Ticks, AllTicks}
 
 -- ---- one sample

@@ -13,20 +13,20 @@ use lib.IntN.{ℤ, pos}
 use Rattle.laws.specs.Search.{when, orElse}
 use Rattle.answer.specs.Limits.{maxClocks}
 use Rattle.answer.specs.Told.{tell, Answer, answered, refused, fired, quiet}
-use Rattle.iosa.specs.Model.{Comp}
-use Rattle.iosa.specs.WellFormed.{WellFormed}
+use Rattle.model.specs.Model.{Comp}
+use Rattle.model.specs.WellFormed.{WellFormed}
 use Rattle.iosa.specs.Checks.{acceptOf}
 use Rattle.iosa.specs.Start.{startAll, startedAll}
 use Rattle.iosa.specs.Step.{stateFault}
-use Rattle.iosa.specs.Timed.{enablingAll, unstableFault, valuesFault, timedFrom, timedOf, quietly}
+use Rattle.timing.specs.Timed.{enablingAll, unstableFault, valuesFault, timedFrom, timedOf, quietly}
 use Rattle.iosa.specs.TimedExactly.{Timing, Ready, TimedAnswer, is-quiet, is-fired, is21, is27, is28, is29, is30, Fires, Falls}
 use Rattle.iosa.proofs.Acceptance.Accepted.{accepted-exactly}
 use Rattle.iosa.proofs.Settling.Called.{not-refused, state-faultless}
 use Rattle.iosa.proofs.Settling.ProductOfMany.{wells}
 use Rattle.iosa.proofs.Settling.Start.{start-in-range}
 use Rattle.iosa.proofs.Settling.Steps.{stable-exactly}
-use Rattle.iosa.proofs.Timing.Exactly.{timed-exactly}
-use Rattle.iosa.proofs.Timing.Ticks.{values-exactly}
+use Rattle.timing.proofs.Timing.Exactly.{timed-exactly}
+use Rattle.timing.proofs.Timing.Ticks.{values-exactly}
 use Rattle.simulation.specs.Simulate.{Supply, Round, Simulation, closeOf, noValues, noneTaken, roundZero, andThen, roundsFrom, simulateOf}
 use Rattle.simulation.specs.Free.{Closes, After, first, later, Opens, at-start, by-firing, Fair, Counting, Simulates, is-done, is30 as tie, is41 as out, is42 as unending}
 use Rattle.simulation.proofs.Agree.{after-counts, after-within, after-stable}

@@ -12,10 +12,10 @@ use borrow.Author.Tests.{ne-eqb}
 use Rattle.laws.specs.Sets.{has, _∈_}
 use Rattle.answer.specs.Limits.{maxClocks, maxDigits, maxTickDigits}
 use Rattle.answer.specs.Told.{tell, Answer, answered, refused}
-use Rattle.iosa.specs.Text.{lf, byte0, digitsOf, decimal, fieldsAfter}
-use Rattle.iosa.specs.Reading.{Scan, is, stops, got}
+use Rattle.model.specs.Text.{lf, byte0, digitsOf, decimal, fieldsAfter}
+use Rattle.model.specs.Reading.{Scan, is, stops, got}
 use Rattle.iosa.specs.Product.{count}
-use Rattle.iosa.proofs.Reading.Scans.{no-is}
+use Rattle.model.proofs.Reading.Scans.{no-is}
 use Rattle.simulation.specs.Simulate.{andThen}
 use Rattle.simulation.specs.Samples.{lineAt, listsFrom, samplesOf, texts, lineOf, linesFrom, AllTicks, GoodFrom, LinesOf, BadFrom, no-line, line-too-many, SamplesAnswer, are, is40}
 use Rattle.simulation.proofs.Lines.{line-printed, line-scanned}

@@ -14,8 +14,8 @@ use lib.Signed.{ltZ, leZ}
 use Rattle.laws.specs.Sets.{has, only, _∪_, _∖_, _∈_}
 use Rattle.laws.proofs.SetLaws.{in-or, or-in-l, or-in-r, in-without, not-or, in-one}
 use Rattle.answer.specs.Limits.{maxClocks, maxTicks}
-use Rattle.iosa.specs.Model.{Comp, Model, declared}
-use Rattle.iosa.specs.WellFormed.{WellFormed}
+use Rattle.model.specs.Model.{Comp, Model, declared}
+use Rattle.model.specs.WellFormed.{WellFormed}
 use Rattle.iosa.specs.Automaton.{Automaton, Stable, Active, Conditions, Conforming, Joinable}
 use Rattle.iosa.specs.Product.{product, stateOf, Within, Series, over, next}
 use Rattle.iosa.specs.Checks.{acceptOf}
@@ -24,9 +24,9 @@ use Rattle.iosa.specs.TimedExactly.{floor, greater, valueOf, Waits, InTicks, Be
 use Rattle.iosa.proofs.Acceptance.Accepted.{accepted-exactly}
 use Rattle.iosa.proofs.Settling.ProductOfMany.{wells, system-is-an-automaton, in-range-is-a-state}
 use Rattle.iosa.proofs.Settling.Start.{start-of-the-product}
-use Rattle.iosa.proofs.Timing.Enabling.{declared-below}
-use Rattle.iosa.proofs.Timing.Shots.{waits-declared}
-use Rattle.iosa.proofs.Timing.Values.{falls-in-ticks}
+use Rattle.timing.proofs.Timing.Enabling.{declared-below}
+use Rattle.timing.proofs.Timing.Shots.{waits-declared}
+use Rattle.timing.proofs.Timing.Values.{falls-in-ticks}
 use Rattle.simulation.specs.Simulate.{Supply, Round, noValues}
 use Rattle.simulation.specs.Free.{Closes, After, first, later, Fair}
 

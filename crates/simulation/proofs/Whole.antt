@@ -5,8 +5,8 @@ use mathlib.Core.Option.{none}
 use mathlib.Core.List.{List, _∷_}
 use Prim.Native.Nat.{ℕ, _≤_}
 use Rattle.answer.specs.Told.{Told, refused}
-use Rattle.iosa.specs.Model.{Comp}
-use Rattle.iosa.specs.WellFormed.{WellFormed}
+use Rattle.model.specs.Model.{Comp}
+use Rattle.model.specs.WellFormed.{WellFormed}
 use Rattle.iosa.specs.Automaton.{Joinable}
 use Rattle.iosa.specs.Thesis.{AllDefinition41}
 use Rattle.iosa.specs.Checks.{acceptOf}

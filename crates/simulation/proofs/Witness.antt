@@ -7,14 +7,14 @@ use Prim.Native.Nat.{ℕ}
 use lib.ListN.{replicate}
 use lib.IntN.{pos}
 use Rattle.answer.specs.Told.{tell, answered}
-use Rattle.iosa.specs.Model.{Row, Comp}
-use Rattle.iosa.specs.WellFormed.{WellFormed}
+use Rattle.model.specs.Model.{Row, Comp}
+use Rattle.model.specs.WellFormed.{WellFormed}
 use Rattle.iosa.specs.Checks.{confluentOf}
-use Rattle.iosa.specs.Reading.{readOf}
-use Rattle.iosa.specs.Examples.{M, bytesOf}
+use Rattle.model.specs.Reading.{readOf}
+use Rattle.answering.specs.Examples.{M, bytesOf}
 use Rattle.iosa.proofs.Acceptance.Accepted.{accepted-exactly}
-use Rattle.iosa.proofs.Reading.ReadOfText.{read-exactly}
-use Rattle.iosa.proofs.Settling.Witness.{M₀, M₁, M-is-read}
+use Rattle.model.proofs.Reading.ReadOfText.{read-exactly}
+use Rattle.answering.proofs.Witness.Settling.{M₀, M₁, M-is-read}
 use Rattle.triggering.specs.Test.{entryOf}
 use Rattle.walkable.proofs.Orderly.{entry-exactly}
 use Rattle.simulation.specs.Simulate.{Supply, Round, Simulation, simulateOf}

@@ -14,7 +14,7 @@ use Rattle.answer.specs.Limits.{maxClocks, noState}
 use Rattle.answer.specs.Told.{Told, tell, Answer, answered, refused, saysEnded}
 use Rattle.answer.specs.declared.Simulated.{Simulated}
 use Rattle.words.specs.Bytes.{stateOf}
-use Rattle.iosa.specs.Model.{Model, declared}
+use Rattle.model.specs.Model.{Model, declared}
 use Rattle.iosa.specs.Settle.{budgetFault}
 use Rattle.iosa.specs.TimedExactly.{valueOf}
 use Rattle.triggering.specs.Test.{entryOf}

@@ -8,7 +8,7 @@ use lib.IntN.{ℤ}
 use Rattle.laws.specs.Sets.{has, _∈_}
 use Rattle.answer.specs.Limits.{maxBudget, maxClocks}
 use Rattle.answer.specs.Told.{Told, Answer, answered, refused}
-use Rattle.iosa.specs.Model.{Comp, Model, declared}
+use Rattle.model.specs.Model.{Comp, Model, declared}
 use Rattle.iosa.specs.InOrder.{Check, _▹_, needs, accepted}
 use Rattle.iosa.specs.TimedExactly.{valueOf}
 use Rattle.walkable.specs.Entry.{settles}

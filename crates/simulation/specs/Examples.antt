@@ -6,18 +6,18 @@ use Prim.Native.String.{String}
 use lib.ListN.{replicate, getD}
 use lib.IntN.{ℤ, pos, negsuc}
 use Rattle.answer.specs.Told.{Answer, answered, refused}
-use Rattle.iosa.specs.Examples.{bytesOf, M}
+use Rattle.answering.specs.Examples.{bytesOf, M}
 use Rattle.iosa.specs.Start.{startAll, startedAll}
-use Rattle.iosa.specs.Model.{Model, declared, rowCount}
-use Rattle.iosa.specs.Text.{digitsOf, decimal, joined, members, guardField, setField, fieldsAfter}
-use Rattle.iosa.specs.WellFormed.{lower, before}
-use Rattle.iosa.specs.Reading.{exactly, moreDigits, number, moreNumbers, numbers, guardOrDash, numbersOrDash, kind, compEntry, actEntry, clkEntry, rowEntry, entry, shorter, resetValues, firstBad, columnOf, outOfTurn, allBelow, outOfRange, allIn, lacks, ascending, setOf, follows, outOfOrder, tooMany, faultOf, takeIn, linesFrom, readOf}
+use Rattle.model.specs.Model.{Model, declared, rowCount}
+use Rattle.model.specs.Text.{digitsOf, decimal, joined, members, guardField, setField, fieldsAfter}
+use Rattle.model.specs.WellFormed.{lower, before}
+use Rattle.model.specs.Reading.{exactly, moreDigits, number, moreNumbers, numbers, guardOrDash, numbersOrDash, kind, compEntry, actEntry, clkEntry, rowEntry, entry, shorter, resetValues, firstBad, columnOf, outOfTurn, allBelow, outOfRange, allIn, lacks, ascending, setOf, follows, outOfOrder, tooMany, faultOf, takeIn, linesFrom, readOf}
 use Rattle.laws.specs.Search.{seek}
 use Rattle.laws.specs.Fold.{over}
 use Rattle.iosa.specs.Checks.{rowFor, badGuard, check10, repeats, check11, lacksRow, check12, twice, check13, enablingOf, unstable, allowed, narrow, greatest, check14, faultAt, faultFrom, clashFor, check15, check16, check17, follow, unreached, reachOf, clashes, check18, clashAmong, acceptOf}
 use Rattle.iosa.specs.Step.{move, moveAll, isUout, urgentStep, lowest, isStable, inRange, stateFault}
 use Rattle.iosa.specs.Settle.{settle, unreachedFrom, reachFault, beginFault, budgetFault}
-use Rattle.iosa.specs.Timed.{enablingAll, unstableFault, outOfTicks, valuesFault, belowZero, check29, isLeast, shares, check30, clockRow, clockRowOf, fireOne, fireAll, fallen, agedFrom, fire, timedFrom}
+use Rattle.timing.specs.Timed.{enablingAll, unstableFault, outOfTicks, valuesFault, belowZero, check29, isLeast, shares, check30, clockRow, clockRowOf, fireOne, fireAll, fallen, agedFrom, fire, timedFrom}
 use Rattle.triggering.specs.Test.{crossed, nothing, uoutsAt, stirred, woken, triggersIn, setsIn, wakersIn, triggersOf, goOn, leadsOf, startsOf, setsOf, wakersOf, ownOf, sharing, elsewhere, togetherOf, spreadBy, ledBy, ledOf, harmed, passesOf, inputsOf, outputsOf, openFault, entryOf}
 use Rattle.simulation.specs.Simulate.{lacks as lacksOne, fedAt, countedAt, eachFrom, endOf, closeOf, noValues, noneTaken, roundZero, roundsFrom, simulateOf}
 use Rattle.simulation.specs.Samples.{sampleAt, samplesAt, lineAt, listsFrom, samplesOf, nth}

@@ -10,7 +10,7 @@ use Rattle.laws.specs.Sets.{has, _∪_, _∈_}
 use Rattle.laws.specs.Lowest.{Lowest}
 use Rattle.answer.specs.Limits.{maxBudget, maxClocks, maxTicks}
 use Rattle.answer.specs.Told.{tell, Answer, answered, refused}
-use Rattle.iosa.specs.Model.{Comp}
+use Rattle.model.specs.Model.{Comp}
 use Rattle.iosa.specs.Automaton.{Stable}
 use Rattle.iosa.specs.Product.{product, stateOf, Within, Series}
 use Rattle.iosa.specs.Start.{startAll, startedAll}

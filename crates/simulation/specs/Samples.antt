@@ -9,8 +9,8 @@ use lib.Dec.{eqb, leb}
 use Rattle.laws.specs.Sets.{has, _∈_}
 use Rattle.answer.specs.Limits.{maxClocks, maxTicks, maxTickDigits}
 use Rattle.answer.specs.Told.{tell, Answer, answered, refused}
-use Rattle.iosa.specs.Text.{byte0, lf, digitsOf, decimal, fieldsAfter}
-use Rattle.iosa.specs.Reading.{Got, Scan, is, stops, got, then, theByte, field, isDigit, moreDigits, number}
+use Rattle.model.specs.Text.{byte0, lf, digitsOf, decimal, fieldsAfter}
+use Rattle.model.specs.Reading.{Got, Scan, is, stops, got, then, theByte, field, isDigit, moreDigits, number}
 use Rattle.iosa.specs.Product.{count}
 use Rattle.simulation.specs.Simulate.{Supply, andThen}
 

@@ -9,11 +9,11 @@ use Rattle.laws.specs.Sets.{has, _∪_}
 use Rattle.laws.specs.Search.{isSome, least}
 use Rattle.answer.specs.Limits.{maxClocks, maxBudget}
 use Rattle.answer.specs.Told.{tell, Answer, answered, refused, fired, quiet}
-use Rattle.iosa.specs.Model.{Model}
+use Rattle.model.specs.Model.{Model}
 use Rattle.iosa.specs.Start.{startAll, startedAll}
 use Rattle.iosa.specs.Step.{urgentStep}
 use Rattle.iosa.specs.Settle.{settle}
-use Rattle.iosa.specs.Timed.{timedFrom, enablingAll}
+use Rattle.timing.specs.Timed.{timedFrom, enablingAll}
 
 -- Where the samples come from: what clock x takes after j samples before, or nothing where it has none left; and the number of that refusal, 41 of lists
 pub record Supply : Type 0 where

@@ -11,11 +11,11 @@ use Rattle.laws.specs.Sets.{_∪_, _∖_}
 use Rattle.laws.proofs.TestLaws.{and-true, and-false}
 use Rattle.laws.proofs.ListLaws.{joined-count}
 use Rattle.answer.specs.Limits.{maxStates, maxRows, maxBytes}
-use Rattle.iosa.specs.Model.{Comp, Model, noComp, compAt, rowCount}
-use Rattle.iosa.specs.Text.{compText, rowLines, textOf}
-use Rattle.iosa.specs.Merge.{productRows, merged, mergedAt}
-use Rattle.iosa.specs.MergedExactly.{FitsIn}
-use Rattle.iosa.proofs.Merging.Sizes.{merged-byte-count}
+use Rattle.model.specs.Model.{Comp, Model, noComp, compAt, rowCount}
+use Rattle.model.specs.Text.{compText, rowLines, textOf}
+use Rattle.merged.specs.Merge.{productRows, merged, mergedAt}
+use Rattle.merged.specs.MergedExactly.{FitsIn}
+use Rattle.merged.proofs.Merging.Sizes.{merged-byte-count}
 use Rattle.layout.specs.Layout.{imageWords, countOf, blockWord}
 use Rattle.layout.specs.Image.{Image, compOf, modelOf}
 use Rattle.layout.proofs.ModelOf.{model-length, comp-at}

@@ -1,5 +1,5 @@
 -- A component without its rows: its text is the lines beside them.
-use Rattle.iosa.specs.Model.{Comp}
+use Rattle.model.specs.Model.{Comp}
 use Rattle.measure.specs.Measure.{bare}
 
 unfoldable pub bareOf : Comp → Comp

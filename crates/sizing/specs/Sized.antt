@@ -4,9 +4,9 @@ use mathlib.Core.Bool.{Bool, true, false}
 use mathlib.Core.List.{List}
 use Prim.Native.Nat.{ℕ, _+_}
 use lib.ListN.{length, take}
-use Rattle.iosa.specs.Model.{rowCount}
-use Rattle.iosa.specs.Merge.{productRows}
-use Rattle.iosa.specs.MergedExactly.{FitsIn}
+use Rattle.model.specs.Model.{rowCount}
+use Rattle.merged.specs.Merge.{productRows}
+use Rattle.merged.specs.MergedExactly.{FitsIn}
 use Rattle.layout.specs.Image.{compOf, modelOf}
 use Rattle.sizing.specs.declared.Size.{Size}
 

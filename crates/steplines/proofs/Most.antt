@@ -13,17 +13,17 @@ use Rattle.answer.specs.Told.{Told, tell, valuesAt}
 use Rattle.answer.specs.declared.Place.{Place}
 use Rattle.answer.specs.declared.Place.the-variants.{Whole, Line, Row, Bytes, Index, Clock, Component, Cell, Clash, SharedAction, SharedClock, Spot, Condition, Action}
 use Rattle.answer.specs.declared.Refusal.{Refusal}
-use Rattle.iosa.specs.Model.{Model, compAt}
+use Rattle.model.specs.Model.{Model, compAt}
 use Rattle.iosa.specs.Automaton.{Conforming, Joinable}
 use Rattle.iosa.specs.Product.{Within}
-use Rattle.iosa.specs.WellFormed.{WellComp, WellFormed}
-use Rattle.iosa.specs.Text.{tab, lf, comma, decimal, joined, setField, fieldsAfter}
+use Rattle.model.specs.WellFormed.{WellComp, WellFormed}
+use Rattle.model.specs.Text.{tab, lf, comma, decimal, joined, setField, fieldsAfter}
 use Rattle.iosa.specs.Step.{urgentStep}
 use Rattle.iosa.specs.Stepped.{Gone}
 use Rattle.iosa.specs.Settle.{settle}
 use Rattle.iosa.specs.Orders.{Settling}
-use Rattle.iosa.specs.Report.{refusedLine, stepLine, stepLines, lastLine}
-use Rattle.iosa.proofs.Reading.Joined.{joined-none, joined-one, joined-more}
+use Rattle.answering.specs.Report.{refusedLine, stepLine, stepLines, lastLine}
+use Rattle.model.proofs.Reading.Joined.{joined-none, joined-one, joined-more}
 use Rattle.iosa.proofs.Settling.Descent.{Keeps}
 use Rattle.iosa.proofs.Settling.Parts.{within-length}
 use Rattle.iosa.proofs.Settling.Rule.{Bounded, LowRun, stay, low, settle-ran}

@@ -7,11 +7,11 @@ use native.Mathlib.Nat.{le-refl}
 use borrow.Author.Tests.{lt-ltb}
 use Rattle.answer.specs.Limits.{maxBudget}
 use Rattle.answer.specs.Told.{tell}
-use Rattle.iosa.specs.Model.{Model}
+use Rattle.model.specs.Model.{Model}
 use Rattle.iosa.specs.Checks.{confluentOf}
 use Rattle.iosa.specs.Step.{urgentStep}
 use Rattle.iosa.specs.Settle.{beginFault, budgetFault, settleOf, settle}
-use Rattle.iosa.specs.Report.{refusedLine, answerLines}
+use Rattle.answering.specs.Report.{refusedLine, answerLines}
 use Rattle.iosa.proofs.Settling.Called.{begin-faultless, settle-answers-exactly}
 use Rattle.answer.specs.declared.Place.the-variants.{Whole}
 use Rattle.tell.specs.Tell.{refusedText}

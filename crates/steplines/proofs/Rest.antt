@@ -12,13 +12,13 @@ use Rattle.laws.specs.Sets.{_∪_}
 use Rattle.answer.specs.Limits.{maxActions, maxComponents, maxBudget}
 use Rattle.answer.specs.declared.State.{State}
 use Rattle.answer.specs.State.{partsOf, withParts}
-use Rattle.iosa.specs.Model.{Model}
+use Rattle.model.specs.Model.{Model}
 use Rattle.iosa.specs.Automaton.{Conforming, Joinable}
 use Rattle.iosa.specs.Step.{Went, urgentStep, lowest}
 use Rattle.iosa.specs.Stepped.{Gone}
 use Rattle.iosa.specs.Settle.{resting, settle}
 use Rattle.iosa.specs.Orders.{Settling}
-use Rattle.iosa.specs.Report.{stepLine, stepLines, lastLine}
+use Rattle.answering.specs.Report.{stepLine, stepLines, lastLine}
 use Rattle.iosa.proofs.Settling.Rule.{lowest-some}
 use Rattle.layout.specs.Image.{modelOf}
 use Rattle.layout.proofs.RowsOfRange.{well-formed}

@@ -2,11 +2,11 @@
 use mathlib.Core.List.{List, [], _∷_, _++_}
 use Prim.Native.Nat.{ℕ, _+_, _*_, _-_}
 use Rattle.answer.specs.Limits.{maxComponents, maxBudget}
-use Rattle.iosa.specs.Model.{Model}
+use Rattle.model.specs.Model.{Model}
 use Rattle.iosa.specs.Step.{urgentStep}
 use Rattle.iosa.specs.Settle.{settle}
 use Rattle.iosa.specs.Orders.{Settling}
-use Rattle.iosa.specs.Report.{stepLines, lastLine}
+use Rattle.answering.specs.Report.{stepLines, lastLine}
 use Rattle.measure.specs.Measure.{setBytes}
 
 -- the digits of the largest number of a state: with maxStates, what the report's widths change by

@@ -13,7 +13,7 @@ ghost use Rattle.answer.specs.State.{partsOf};
 ghost use Rattle.answer.specs.Told.{tell};
 ghost use Rattle.iosa.specs.Checks.{confluentOf};
 ghost use Rattle.iosa.specs.Settle.{beginFault, settleOf};
-ghost use Rattle.iosa.specs.Report.{refusedLine, answerLines};
+ghost use Rattle.answering.specs.Report.{refusedLine, answerLines};
 ghost use Rattle.layout.specs.Image.{Image, modelOf};
 ghost use Rattle.settling.specs.Gives.{Ready};
 ghost use Rattle.print.specs.Put.{Put};

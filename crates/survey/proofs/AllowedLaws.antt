@@ -14,14 +14,14 @@ use Rattle.laws.proofs.SetLaws.{bit-ones}
 use Rattle.laws.proofs.ListLaws.{All}
 use Rattle.sets.specs.Members.{wordBits}
 use Rattle.answer.specs.Limits.{maxClocks}
-use Rattle.iosa.specs.Model.{Comp, acts}
-use Rattle.iosa.specs.Reading.{got, Entry, comp-entry, act-entry, clk-entry, row-entry, entry, Progress, current, outOfRange, faultOf}
-use Rattle.iosa.specs.Reading.{Value, states-value, state-value, action-value, clock-value, set-value, dash-value, valueText, guardValue, resetValues, lastValues, valuesOf, firstBad, firstColumn, outside, unnamed, statesBy}
-use Rattle.iosa.specs.Faulty.{Each, GuardIs, InRange, Named, LineFault, wrong-shape, out-of-turn, out-of-range, not-named, out-of-order, too-many}
-use Rattle.iosa.proofs.Reading.Lines.{line-exactly}
-use Rattle.iosa.proofs.Reading.Scans.{is-inj}
-use Rattle.iosa.proofs.Reading.Tests.{range-decided}
-use Rattle.iosa.proofs.Reading.LowestFault.{fault-some, fault-number}
+use Rattle.model.specs.Model.{Comp, acts}
+use Rattle.model.specs.Reading.{got, Entry, comp-entry, act-entry, clk-entry, row-entry, entry, Progress, current, outOfRange, faultOf}
+use Rattle.model.specs.Reading.{Value, states-value, state-value, action-value, clock-value, set-value, dash-value, valueText, guardValue, resetValues, lastValues, valuesOf, firstBad, firstColumn, outside, unnamed, statesBy}
+use Rattle.model.specs.Faulty.{Each, GuardIs, InRange, Named, LineFault, wrong-shape, out-of-turn, out-of-range, not-named, out-of-order, too-many}
+use Rattle.model.proofs.Reading.Lines.{line-exactly}
+use Rattle.model.proofs.Reading.Scans.{is-inj}
+use Rattle.model.proofs.Reading.Tests.{range-decided}
+use Rattle.model.proofs.Reading.LowestFault.{fault-some, fault-number}
 use Rattle.columns.specs.declared.Allowed.{Allowed}
 use Rattle.columns.specs.Columns.{memberOf, beyond}
 use Rattle.columns.proofs.MemberLaws.{member-all}

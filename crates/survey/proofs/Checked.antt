@@ -7,11 +7,11 @@ use Prim.Native.Nat.{ℕ}
 use Rattle.answer.specs.Told.{saysChecked, doneOf}
 use Rattle.answer.specs.declared.Checked.{Checked}
 use Rattle.answer.proofs.SaysFixes.{checked-fixed}
-use Rattle.iosa.specs.Reading.{readOf}
+use Rattle.model.specs.Reading.{readOf}
 use Rattle.iosa.specs.InOrder.{Leaves}
-use Rattle.iosa.specs.Answers.{ReadAnswer}
-use Rattle.iosa.proofs.Answers.InOrder.{leaves-exactly}
-use Rattle.iosa.proofs.Answers.Texts.{read-text-exactly}
+use Rattle.answering.specs.Answers.{ReadAnswer}
+use Rattle.answering.proofs.Answers.InOrder.{leaves-exactly}
+use Rattle.answering.proofs.Answers.Texts.{read-text-exactly}
 
 pub check-text-determined : (t : List ℕ) (r q : Checked) → saysChecked r ≡ some (doneOf (readOf t)) → saysChecked q ≡ some (doneOf (readOf t)) → r ≡ q
 check-text-determined t r q e f = checked-fixed r q (doneOf (readOf t)) e f

@@ -12,9 +12,9 @@ use lib.ListN.{length, drop, drop-of-length-le, length-drop}
 use Rattle.answer.specs.declared.Place.the-variants.{Whole, Spot}
 use Rattle.answer.specs.declared.Checked.the-variants.{Fine, Refused}
 use Rattle.answer.specs.Told.{told, tell, Answer, refused, asRefused, saysChecked, doneOf}
-use Rattle.iosa.specs.Model.{Model, Comp, rowCount}
-use Rattle.iosa.specs.Reading.{stops, got, Entry, comp-entry, act-entry, clk-entry, row-entry, entry, Progress, current, turn, outOfTurn, faultOf, columnOf, stopColumn, statesBy, firstColumn, outside, unnamed, rowOf, withAct, withClk, withRow, onLast, takeIn, finish, linesFrom, atStart}
-use Rattle.iosa.proofs.Reading.LinesFrom.{entry-shortens, lines-end, lines-shapeless, lines-fault, lines-next}
+use Rattle.model.specs.Model.{Model, Comp, rowCount}
+use Rattle.model.specs.Reading.{stops, got, Entry, comp-entry, act-entry, clk-entry, row-entry, entry, Progress, current, turn, outOfTurn, faultOf, columnOf, stopColumn, statesBy, firstColumn, outside, unnamed, rowOf, withAct, withClk, withRow, onLast, takeIn, finish, linesFrom, atStart}
+use Rattle.model.proofs.Reading.LinesFrom.{entry-shortens, lines-end, lines-shapeless, lines-fault, lines-next}
 use Rattle.fields.specs.Resets.{valued}
 use Rattle.lines.specs.declared.Line.{Line as CodeLine}
 use Rattle.lines.specs.Lines.{lineOf}

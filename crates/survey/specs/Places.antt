@@ -4,7 +4,7 @@ use mathlib.Core.List.{List}
 use Prim.Native.Nat.{ℕ, _-_, _^_}
 use lib.Dec.{eqb}
 use Rattle.sets.specs.Members.{wordBits}
-use Rattle.iosa.specs.Reading.{Scan, is, stops}
+use Rattle.model.specs.Reading.{Scan, is, stops}
 use Rattle.answer.specs.declared.Place.{Place}
 use Rattle.answer.specs.declared.Place.the-variants.{Line, Spot}
 use Rattle.lines.specs.declared.Line.{Line as CodeLine}

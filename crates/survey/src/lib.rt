@@ -4,7 +4,7 @@ ghost use mathlib.Core.Option.{some};
 ghost use Prim.Native.Nat.{_≤_};
 ghost use lib.ListN.{length, drop};
 ghost use Rattle.answer.specs.Told.{saysChecked, doneOf};
-ghost use Rattle.iosa.specs.Reading.{entry, linesFrom, atStart, readOf};
+ghost use Rattle.model.specs.Reading.{entry, linesFrom, atStart, readOf};
 ghost use Rattle.fields.specs.Resets.{valued};
 ghost use Rattle.lines.specs.Lines.{lineOf};
 ghost use Rattle.survey.specs.Places.{allowedOf, placeOf, columnIn};

@@ -9,7 +9,7 @@ use native.Mathlib.Omega.{arith}
 use Rattle.answer.specs.Told.{Told, told, Answer, answered, refused, asRefused, saysChecked}
 use Rattle.answer.specs.declared.Refusal.{Refusal}
 use Rattle.answer.specs.declared.Checked.the-variants.{Fine, Refused}
-use Rattle.iosa.specs.Model.{Model}
+use Rattle.model.specs.Model.{Model}
 use Rattle.iosa.specs.Step.{unless}
 use Rattle.layout.specs.Image.{modelOf, noImage}
 use Rattle.answer.proofs.SaysFixes.{tells}

@@ -6,8 +6,8 @@ use mathlib.Core.List.{List}
 use Prim.Native.Nat.{ℕ}
 use lib.ListN.{take}
 use Rattle.answer.specs.Told.{Answer}
-use Rattle.iosa.specs.Model.{Model}
-use Rattle.iosa.specs.WellFormed.{WellFormed}
+use Rattle.model.specs.Model.{Model}
+use Rattle.model.specs.WellFormed.{WellFormed}
 use Rattle.layout.specs.Layout.{imageWords}
 use Rattle.layout.specs.Image.{imageOf, modelOf, Image}
 use Rattle.layout.proofs.RowsOfRange.{image-front, well-formed}

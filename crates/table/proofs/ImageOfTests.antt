@@ -7,7 +7,7 @@ use native.Mathlib.Omega.{arith}
 use lib.ListN.{getD}
 use Rattle.answer.specs.Limits.{maxRows}
 use Rattle.sets.specs.Members.{wordBits}
-use Rattle.iosa.specs.WellFormed.{WellComp, WellFormed}
+use Rattle.model.specs.WellFormed.{WellComp, WellFormed}
 use Rattle.layout.specs.Layout.{blockWords, rowWords, rowsAt, countOf, blockWord, firstOf}
 use Rattle.layout.specs.Image.{compOf, modelOf, Image}
 use Rattle.layout.specs.Laid.{Laid}

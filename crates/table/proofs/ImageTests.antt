@@ -12,7 +12,7 @@ use Rattle.laws.proofs.FoldLaws.{all-true, true-all}
 use Rattle.laws.proofs.TestLaws.{both-true, true-both, both-no, both-go}
 use Rattle.answer.specs.Limits.{maxBytes}
 use Rattle.sets.specs.Members.{wordBits}
-use Rattle.iosa.specs.Text.{textOf}
+use Rattle.model.specs.Text.{textOf}
 use Rattle.layout.specs.Layout.{imageWords}
 use Rattle.layout.specs.Image.{modelOf, Sane}
 use Rattle.blocks.specs.Blocks.{blocksRight, Bounded}

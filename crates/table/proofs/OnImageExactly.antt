@@ -10,10 +10,10 @@ use lib.Dec.{ltb}
 use borrow.Author.Tests.{ltb-true, ltb-false, lt-ltb, le-ltb}
 use Rattle.laws.specs.Search.{when}
 use Rattle.answer.specs.Told.{Answer}
-use Rattle.iosa.specs.Model.{Comp, Model}
-use Rattle.iosa.specs.WellFormed.{WellFormed}
+use Rattle.model.specs.Model.{Comp, Model}
+use Rattle.model.specs.WellFormed.{WellFormed}
 use Rattle.iosa.specs.InOrder.{Leaves, room}
-use Rattle.iosa.proofs.Answers.InOrder.{Decided, leaves-exactly, test-decided}
+use Rattle.answering.proofs.Answers.InOrder.{Decided, leaves-exactly, test-decided}
 use Rattle.layout.specs.Layout.{imageWords}
 use Rattle.layout.specs.Image.{Image, modelOf}
 use Rattle.layout.specs.Lent.{tableTooShort}

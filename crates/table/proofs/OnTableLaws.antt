@@ -4,7 +4,7 @@ use mathlib.Core.Bool.{true, false}
 use mathlib.Core.List.{List}
 use Prim.Native.Nat.{ℕ}
 use Rattle.answer.specs.Told.{Answer, refused}
-use Rattle.iosa.specs.Model.{Model}
+use Rattle.model.specs.Model.{Model}
 use Rattle.layout.specs.Image.{modelOf, noImage}
 use Rattle.table.specs.IsImage.{isImage}
 use Rattle.table.specs.OnTable.{onTable}

@@ -11,8 +11,8 @@ use Rattle.laws.specs.Fold.{all}
 use Rattle.laws.proofs.SetLaws.{within-true, true-within}
 use Rattle.laws.proofs.FoldLaws.{all-true, true-all}
 use Rattle.laws.proofs.TestLaws.{both-true, true-both}
-use Rattle.iosa.specs.Model.{acts, guardSet}
-use Rattle.iosa.specs.WellFormed.{before, WellRow}
+use Rattle.model.specs.Model.{acts, guardSet}
+use Rattle.model.specs.WellFormed.{before, WellRow}
 use Rattle.layout.specs.Layout.{blockWords, rowWords, rowsAt, imageWords, countOf, blockWord, firstOf, actionAt, guardAt, resetsAt, targetAt}
 use Rattle.layout.specs.Image.{rowIn, compOf}
 use Rattle.blocks.specs.Blocks.{zeroWords, endBefore}

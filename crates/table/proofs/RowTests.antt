@@ -10,8 +10,8 @@ use Rattle.laws.specs.Sets.{has, within, only}
 use Rattle.laws.proofs.SetLaws.{bit-above, one-in, in-one, none-in, within-true, true-within}
 use Rattle.laws.proofs.TestLaws.{not-so}
 use Rattle.sets.specs.Members.{wordBits}
-use Rattle.iosa.specs.Model.{guardSet}
-use Rattle.iosa.specs.WellFormed.{lower, before}
+use Rattle.model.specs.Model.{guardSet}
+use Rattle.model.specs.WellFormed.{lower, before}
 use Rattle.iosa.proofs.Acceptance.Order.{lower-same, lower-here, lower-last}
 use Rattle.layout.specs.Layout.{actionAt, guardAt, resetsAt, targetAt}
 use Rattle.table.specs.Rows.{climbs}

@@ -9,8 +9,8 @@ use lib.ListN.{length, getD}
 use Rattle.laws.proofs.SetLaws.{subset-le}
 use Rattle.answer.specs.Limits.{maxComponents, maxRows}
 use Rattle.sets.specs.Members.{wordBits}
-use Rattle.iosa.specs.Model.{Row, Comp, rowAt, compAt, rowCount}
-use Rattle.iosa.specs.WellFormed.{before, WellRow, WellComp}
+use Rattle.model.specs.Model.{Row, Comp, rowAt, compAt, rowCount}
+use Rattle.model.specs.WellFormed.{before, WellRow, WellComp}
 use Rattle.layout.specs.Layout.{headWords, blockWords, rowWords, rowsAt, imageWords, countOf, blockWord, firstOf}
 use Rattle.layout.specs.Image.{rowIn, compOf, modelOf, Image, Sane}
 use Rattle.layout.specs.Laid.{Laid}

@@ -8,7 +8,7 @@ use Rattle.laws.specs.Fold.{all}
 use Rattle.laws.specs.Tests.{both}
 use Rattle.answer.specs.Limits.{maxBytes}
 use Rattle.sets.specs.Members.{wordBits}
-use Rattle.iosa.specs.Text.{textOf}
+use Rattle.model.specs.Text.{textOf}
 use Rattle.layout.specs.Layout.{imageWords}
 use Rattle.layout.specs.Image.{modelOf}
 use Rattle.blocks.specs.Blocks.{blocksRight}

@@ -6,8 +6,8 @@ use lib.Dec.{ltb}
 use Rattle.laws.specs.Sets.{has, within}
 use Rattle.laws.specs.Fold.{all}
 use Rattle.laws.specs.Tests.{both}
-use Rattle.iosa.specs.Model.{acts, guardSet}
-use Rattle.iosa.specs.WellFormed.{before}
+use Rattle.model.specs.Model.{acts, guardSet}
+use Rattle.model.specs.WellFormed.{before}
 use Rattle.layout.specs.Layout.{blockWords, rowWords, rowsAt, imageWords, countOf, blockWord, firstOf, actionAt, guardAt, resetsAt, targetAt}
 use Rattle.layout.specs.Image.{rowIn, compOf}
 use Rattle.blocks.specs.Blocks.{zeroWords, endBefore}

@@ -6,7 +6,7 @@ ghost use lib.ListN.{length};
 ghost use Rattle.laws.specs.Sets.{within};
 ghost use Rattle.laws.specs.Fold.{all};
 ghost use Rattle.answer.specs.Limits.{maxRows};
-ghost use Rattle.iosa.specs.Model.{acts, guardSet};
+ghost use Rattle.model.specs.Model.{acts, guardSet};
 ghost use Rattle.layout.specs.Layout.{imageWords, countOf, blockWord};
 ghost use Rattle.layout.specs.Image.{compOf};
 ghost use Rattle.blocks.specs.Blocks.{endBefore, Bounded};

@@ -7,10 +7,10 @@ use Prim.Native.Nat.{ℕ}
 use native.Mathlib.Omega.{arith}
 use Rattle.answer.specs.Told.{Told, tell, shapeOf, shapeAt, same-shape, valuesAt, told}
 use Rattle.answer.specs.declared.Refusal.{Refusal}
-use Rattle.iosa.specs.Text.{tab, lf, comma, decimal, joined, setField, fieldsAfter}
+use Rattle.model.specs.Text.{tab, lf, comma, decimal, joined, setField, fieldsAfter}
 use Rattle.iosa.specs.Stepped.{Gone}
 use Rattle.iosa.specs.Orders.{Settling}
-use Rattle.iosa.specs.Report.{stepWord, stableWord, unsettledWord, refusedWord, stepLine, lastLine, refusedLine}
+use Rattle.answering.specs.Report.{stepWord, stableWord, unsettledWord, refusedWord, stepLine, lastLine, refusedLine}
 use Rattle.print.specs.Put.{Room, Put}
 use Rattle.print.proofs.LaidLaws.{Left, left-all, left-room, left-next}
 use Rattle.tell.specs.Tell.{tailOf, verdictWord, refusedText}

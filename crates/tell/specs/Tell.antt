@@ -6,10 +6,10 @@ use Rattle.answer.specs.Told.{Told, tell, valuesAt}
 use Rattle.answer.specs.State.{partsOf}
 use Rattle.answer.specs.declared.State.{State}
 use Rattle.answer.specs.declared.Refusal.{Refusal}
-use Rattle.iosa.specs.Text.{joined, setField, fieldsAfter}
+use Rattle.model.specs.Text.{joined, setField, fieldsAfter}
 use Rattle.iosa.specs.Stepped.{Gone}
 use Rattle.iosa.specs.Orders.{Settling}
-use Rattle.iosa.specs.Report.{stableWord, unsettledWord, refusedLine}
+use Rattle.answering.specs.Report.{stableWord, unsettledWord, refusedLine}
 
 -- "resets, state after", "clocks reset, state": the last fields, with LF
 unfoldable pub tailOf : ℕ → List ℕ → List ℕ

@@ -9,8 +9,8 @@ ghost use lib.ListN.{length};
 ghost use Rattle.answer.specs.Limits.{maxComponents};
 ghost use Rattle.answer.specs.State.{partsOf};
 ghost use Rattle.answer.specs.Told.{valuesAt};
-ghost use Rattle.iosa.specs.Text.{joined};
-ghost use Rattle.iosa.specs.Report.{stepLine, lastLine};
+ghost use Rattle.model.specs.Text.{joined};
+ghost use Rattle.answering.specs.Report.{stepLine, lastLine};
 ghost use Rattle.print.specs.Put.{Room, Put};
 ghost use Rattle.tell.specs.Tell.{tailOf, verdictWord, goneWith, endsWith, refusedText};
 

@@ -11,16 +11,16 @@ use Rattle.laws.specs.Search.{when}
 use Rattle.answer.specs.Told.{tell, Answer, answered, refused}
 use Rattle.answer.specs.declared.Checked.{Checked}
 use Rattle.answer.specs.declared.Written.{Written}
-use Rattle.iosa.specs.Model.{Comp, Model}
-use Rattle.iosa.specs.Text.{textOf}
-use Rattle.iosa.specs.WellFormed.{WellFormed}
-use Rattle.iosa.specs.Reading.{readOf}
+use Rattle.model.specs.Model.{Comp, Model}
+use Rattle.model.specs.Text.{textOf}
+use Rattle.model.specs.WellFormed.{WellFormed}
+use Rattle.model.specs.Reading.{readOf}
 use Rattle.iosa.specs.InOrder.{_▹_, refuses, passes, Gives, room}
-use Rattle.iosa.specs.Answers.{ReadAnswer, readable, ReadCallAnswer, WriteAnswer}
+use Rattle.answering.specs.Answers.{ReadAnswer, readable, ReadCallAnswer, WriteAnswer}
 use Rattle.iosa.specs.Lent.{Fills}
 use Rattle.iosa.proofs.Settling.Called.{no-answer, same-answer}
-use Rattle.iosa.proofs.Answers.InOrder.{refusedOr, check-exactly, gives-exactly, leaves-exactly, room-decided}
-use Rattle.iosa.proofs.Answers.Texts.{read-text-exactly}
+use Rattle.answering.proofs.Answers.InOrder.{refusedOr, check-exactly, gives-exactly, leaves-exactly, room-decided}
+use Rattle.answering.proofs.Answers.Texts.{read-text-exactly}
 use Rattle.layout.specs.Layout.{imageWords}
 use Rattle.layout.specs.Image.{modelOf}
 use Rattle.layout.specs.Lent.{tableTooShort}

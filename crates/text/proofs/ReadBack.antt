@@ -9,9 +9,9 @@ use lib.Seq.{take-at}
 use lib.Dec.{ltb}
 use Rattle.answer.specs.Told.{Answer, answered, refused}
 use Rattle.answer.specs.declared.Written.the-variants.{Length}
-use Rattle.iosa.specs.Text.{textOf}
-use Rattle.iosa.specs.Reading.{readOf}
-use Rattle.iosa.proofs.Reading.ReadOfText.{read-of-text, read-exactly}
+use Rattle.model.specs.Text.{textOf}
+use Rattle.model.specs.Reading.{readOf}
+use Rattle.model.proofs.Reading.ReadOfText.{read-of-text, read-exactly}
 use Rattle.layout.specs.Image.{modelOf, noImage}
 use Rattle.layout.proofs.RowsOfRange.{well-formed}
 use Rattle.table.specs.IsImage.{isImage}

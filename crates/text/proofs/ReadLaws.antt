@@ -11,8 +11,8 @@ use Rattle.answer.specs.declared.Place.the-variants.{Bytes}
 use Rattle.answer.specs.declared.Refusal.{Refusal}
 use Rattle.answer.specs.declared.Checked.{Checked}
 use Rattle.answer.specs.declared.Checked.the-variants.{Fine, Refused}
-use Rattle.iosa.specs.Model.{Model}
-use Rattle.iosa.specs.Reading.{readOf}
+use Rattle.model.specs.Model.{Model}
+use Rattle.model.specs.Reading.{readOf}
 use Rattle.layout.specs.Layout.{imageWords}
 use Rattle.layout.specs.Image.{imageOf}
 use Rattle.layout.specs.Lent.{wordBytes, tableTooShort, tableAfter}

@@ -13,9 +13,9 @@ use Rattle.answer.specs.declared.Checked.{Checked}
 use Rattle.answer.specs.declared.Checked.the-variants.{Fine}
 use Rattle.answer.specs.declared.Written.{Written}
 use Rattle.answer.specs.declared.Written.the-variants.{Length}
-use Rattle.iosa.specs.Model.{Model}
-use Rattle.iosa.specs.Reading.{readOf}
-use Rattle.iosa.proofs.Reading.TextOfRead.{text-of-read}
+use Rattle.model.specs.Model.{Model}
+use Rattle.model.specs.Reading.{readOf}
+use Rattle.model.proofs.Reading.TextOfRead.{text-of-read}
 use Rattle.layout.specs.Layout.{imageWords}
 use Rattle.layout.specs.Image.{imageOf, modelOf}
 use Rattle.layout.proofs.ReadBack.{length-of-image}

@@ -11,8 +11,8 @@ use Rattle.answer.specs.Told.{told, Answer, answered, refused, saysWritten}
 use Rattle.answer.specs.declared.Place.the-variants.{Whole, Bytes}
 use Rattle.answer.specs.declared.Written.{Written}
 use Rattle.answer.specs.declared.Written.the-variants.{Length, Refused}
-use Rattle.iosa.specs.Model.{Model}
-use Rattle.iosa.specs.Text.{textOf}
+use Rattle.model.specs.Model.{Model}
+use Rattle.model.specs.Text.{textOf}
 use Rattle.layout.specs.Image.{modelOf, noImage}
 use Rattle.table.specs.IsImage.{isImage}
 use Rattle.table.proofs.OnTableLaws.{on-image, on-no-image}

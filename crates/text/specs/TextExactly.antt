@@ -5,7 +5,7 @@ use lib.ListN.{length}
 use Rattle.answer.specs.declared.Checked.{Checked}
 use Rattle.answer.specs.declared.Written.{Written}
 use Rattle.iosa.specs.InOrder.{Leaves}
-use Rattle.iosa.specs.Answers.{ReadCallAnswer, WriteAnswer}
+use Rattle.answering.specs.Answers.{ReadCallAnswer, WriteAnswer}
 use Rattle.iosa.specs.Lent.{Fills}
 use Rattle.layout.specs.OnImage.{OnImage, FillsTable, bytesOf, imageBytes}
 

@@ -8,8 +8,8 @@ use lib.ListN.{length, drop}
 use lib.Dec.{ltb}
 use Rattle.answer.specs.Told.{Told, tell, Answer, answered, refused, saysWritten}
 use Rattle.answer.specs.declared.Written.{Written}
-use Rattle.iosa.specs.Model.{Model}
-use Rattle.iosa.specs.Text.{textOf}
+use Rattle.model.specs.Model.{Model}
+use Rattle.model.specs.Text.{textOf}
 use Rattle.layout.specs.Image.{modelOf}
 use Rattle.table.specs.OnTable.{onTable}
 

@@ -17,7 +17,7 @@ use Rattle.laws.proofs.SearchLaws.{none-least, some-least, least-some, least-no
 use Rattle.laws.proofs.TestLaws.{and-true, and-not-both, not-so}
 use Rattle.laws.proofs.TickLaws.{less-irreflexive, less-transitive, less-total, at-most, not-less}
 use Rattle.answer.specs.Limits.{maxClocks}
-use Rattle.iosa.specs.Timed.{isLeast, shares, check30}
+use Rattle.timing.specs.Timed.{isLeast, shares, check30}
 use Rattle.iosa.specs.TimedExactly.{valueOf}
 use Rattle.ticks.specs.Ticks.{rivals, betterOf, byValue, orNone}
 use Rattle.ticks.proofs.Singles.{better-other, better-first, better-less, better-not}

@@ -12,7 +12,7 @@ use mir.Syntax.{w64}
 use borrow.Author.Tests.{leb-true}
 use Rattle.laws.specs.Sets.{has}
 use Rattle.answer.specs.Limits.{maxTicks}
-use Rattle.iosa.specs.Timed.{fallen}
+use Rattle.timing.specs.Timed.{fallen}
 use Rattle.iosa.specs.TimedExactly.{floor}
 use Rattle.ticks.specs.Ticks.{Tick, agedOne}
 

@@ -7,7 +7,7 @@ use native.Mathlib.Numerals.{add-one}
 use lib.ListN.{length, take, drop, set, getD, drop-of-length-le}
 use lib.Seq.{take-all}
 use lib.IntN.{ℤ, pos}
-use Rattle.iosa.specs.Timed.{agedFrom}
+use Rattle.timing.specs.Timed.{agedFrom}
 use Rattle.iosa.specs.TimedExactly.{valueOf}
 use Rattle.ticks.specs.Ticks.{agedOne}
 

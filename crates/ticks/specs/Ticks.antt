@@ -11,7 +11,7 @@ use lib.Signed.{ltZ, leZ}
 use Rattle.laws.specs.Sets.{has, _∈_}
 use Rattle.laws.specs.Search.{any}
 use Rattle.answer.specs.Limits.{maxClocks, maxTicks}
-use Rattle.iosa.specs.Timed.{fallen}
+use Rattle.timing.specs.Timed.{fallen}
 use Rattle.iosa.specs.TimedExactly.{floor, valueOf}
 
 -- "-2^40 to 2^40"

@@ -8,7 +8,7 @@ ghost use Rattle.answer.specs.Limits.{maxClocks};
 ghost use lib.Signed.{ltZ};
 ghost use Rattle.laws.specs.Sets.{_∈_};
 ghost use Rattle.laws.specs.Search.{any, least};
-ghost use Rattle.iosa.specs.Timed.{fallen, agedFrom, check29, isLeast};
+ghost use Rattle.timing.specs.Timed.{fallen, agedFrom, check29, isLeast};
 ghost use Rattle.iosa.specs.TimedExactly.{valueOf};
 ghost use Rattle.ticks.specs.Ticks.{Tick, Ticking, outside, negative, rivals, agedOne, betterOf, byValue, orNone};
 

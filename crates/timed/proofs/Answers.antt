@@ -7,11 +7,11 @@ use Rattle.answer.specs.Told.{Answer}
 use Rattle.answer.specs.State.{partsOf}
 use Rattle.answer.specs.declared.State.{State}
 use Rattle.answer.specs.declared.Timed.{Timed}
-use Rattle.iosa.specs.Model.{Comp}
-use Rattle.iosa.specs.Timed.{timedOf}
+use Rattle.model.specs.Model.{Comp}
+use Rattle.timing.specs.Timed.{timedOf}
 use Rattle.iosa.specs.TimedExactly.{Timing}
-use Rattle.iosa.specs.Answers.{TimedStepAnswer}
-use Rattle.iosa.proofs.Answers.Texts.{timed-step-model-exactly}
+use Rattle.answering.specs.Answers.{TimedStepAnswer}
+use Rattle.answering.proofs.Answers.Texts.{timed-step-model-exactly}
 use Rattle.table.proofs.OnImageExactly.{on-table-leaves}
 use Rattle.firing.specs.Shots.{TimingAnswers}
 use Rattle.timed.specs.TimedStep.{TimedStep}

@@ -13,10 +13,10 @@ use Rattle.answer.specs.declared.Refusal.{Refusal}
 use Rattle.answer.specs.declared.Timed.{Timed}
 use Rattle.answer.specs.declared.Checked.the-variants as OfChecked
 use Rattle.answer.specs.declared.Firing.the-variants.{Refused}
-use Rattle.iosa.specs.Model.{Model}
+use Rattle.model.specs.Model.{Model}
 use Rattle.iosa.specs.Checks.{acceptOf}
 use Rattle.iosa.specs.Step.{stateFault}
-use Rattle.iosa.specs.Timed.{enablingAll, unstableFault, valuesFault, timedFrom, timedOf}
+use Rattle.timing.specs.Timed.{enablingAll, unstableFault, valuesFault, timedFrom, timedOf}
 use Rattle.iosa.specs.TimedExactly.{Timing}
 use Rattle.layout.specs.Image.{Image, modelOf}
 use Rattle.table.specs.OnTable.{onTable, checkOn}

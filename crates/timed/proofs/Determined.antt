@@ -8,7 +8,7 @@ use Rattle.answer.specs.State.{partsOf}
 use Rattle.answer.specs.declared.State.{State}
 use Rattle.answer.specs.declared.Timed.{Timed}
 use Rattle.answer.proofs.SaysFixes.{firing-fixed}
-use Rattle.iosa.specs.Timed.{timedOf}
+use Rattle.timing.specs.Timed.{timedOf}
 use Rattle.iosa.specs.TimedExactly.{Timing}
 use Rattle.table.specs.OnTable.{onTable}
 use Rattle.firing.specs.Shots.{TimingAnswers}

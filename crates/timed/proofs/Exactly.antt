@@ -11,12 +11,12 @@ use Rattle.answer.specs.Told.{Answer, answered, refused, Shot, saysFiring}
 use Rattle.answer.specs.State.{partsOf}
 use Rattle.answer.specs.declared.State.{State}
 use Rattle.answer.specs.declared.Timed.{Timed}
-use Rattle.iosa.specs.Model.{Comp}
+use Rattle.model.specs.Model.{Comp}
 use Rattle.iosa.specs.Checks.{acceptOf}
-use Rattle.iosa.specs.Timed.{timedOf}
+use Rattle.timing.specs.Timed.{timedOf}
 use Rattle.iosa.specs.TimedExactly.{Waits, TimedAnswer, valueOf, Timing}
-use Rattle.iosa.proofs.Timing.Exactly.{timed-exactly}
-use Rattle.iosa.proofs.Timing.Answered.{enabling-clocks-end-from-zero-on}
+use Rattle.timing.proofs.Timing.Exactly.{timed-exactly}
+use Rattle.timing.proofs.Timing.Answered.{enabling-clocks-end-from-zero-on}
 use Rattle.layout.specs.Image.{Image, modelOf}
 use Rattle.layout.proofs.RowsOfRange.{well-formed}
 use Rattle.table.specs.OnTable.{onTable}

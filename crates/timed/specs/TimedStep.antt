@@ -5,7 +5,7 @@ use lib.IntN.{ℤ}
 use Rattle.answer.specs.State.{partsOf}
 use Rattle.answer.specs.declared.State.{State}
 use Rattle.answer.specs.declared.Timed.{Timed}
-use Rattle.iosa.specs.Timed.{timedOf}
+use Rattle.timing.specs.Timed.{timedOf}
 use Rattle.table.specs.OnTable.{onTable}
 use Rattle.firing.specs.Shots.{TimingAnswers}
 

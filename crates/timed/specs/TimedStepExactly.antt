@@ -6,7 +6,7 @@ use Rattle.answer.specs.State.{partsOf}
 use Rattle.answer.specs.declared.State.{State}
 use Rattle.answer.specs.declared.Timed.{Timed}
 use Rattle.iosa.specs.InOrder.{Leaves}
-use Rattle.iosa.specs.Answers.{TimedStepAnswer}
+use Rattle.answering.specs.Answers.{TimedStepAnswer}
 use Rattle.layout.specs.OnImage.{OnImage}
 use Rattle.firing.specs.Shots.{TimingAnswers}
 

@@ -9,8 +9,8 @@ use borrow.Author.Tests.{eqb-true, eq-eqb}
 use Rattle.laws.specs.Sets.{has, _∈_, only}
 use Rattle.laws.proofs.SetLaws.{in-and, and-in, or-in-r, in-one, one-in}
 use Rattle.answer.specs.Limits.{maxActions}
-use Rattle.iosa.specs.Model.{Comp, rowAt}
-use Rattle.iosa.specs.WellFormed.{WellComp}
+use Rattle.model.specs.Model.{Comp, rowAt}
+use Rattle.model.specs.WellFormed.{WellComp}
 use Rattle.iosa.specs.Automaton.{Leads, autoOf}
 use Rattle.iosa.proofs.Acceptance.Rows.{output-below}
 use Rattle.iosa.proofs.Acceptance.Enabled.{urgent-output}

@@ -9,7 +9,7 @@ use native.Mathlib.Omega.{arith}
 use native.Mathlib.Decide.{ℕ-discrete}
 use lib.ListN.{length, getD}
 use Rattle.laws.specs.Sets.{_∈_}
-use Rattle.iosa.specs.Model.{Row, Comp, Model, compAt, outputs, urgents}
+use Rattle.model.specs.Model.{Row, Comp, Model, compAt, outputs, urgents}
 use Rattle.iosa.specs.Automaton.{alphabet, autoOf, Stable, Reachable}
 use Rattle.iosa.specs.Parts.{Go, goes, sits-out, GoAll, end, and}
 use Rattle.iosa.specs.Start.{startAll}

@@ -14,8 +14,8 @@ use Rattle.laws.proofs.TestLaws.{not-so}
 use Rattle.laws.proofs.FoldLaws.{over-end}
 use Rattle.laws.proofs.UnionLaws.{over-last}
 use Rattle.answer.specs.Limits.{maxActions}
-use Rattle.iosa.specs.Model.{Model, compAt}
-use Rattle.iosa.specs.WellFormed.{WellFormed}
+use Rattle.model.specs.Model.{Model, compAt}
+use Rattle.model.specs.WellFormed.{WellFormed}
 use Rattle.iosa.proofs.Acceptance.Rows.{urgent-below}
 use Rattle.marks.specs.Ways.{Way, edge, join}
 use Rattle.marks.proofs.Going.{links, one-more, way-map}

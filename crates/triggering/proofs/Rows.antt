@@ -11,8 +11,8 @@ use Rattle.laws.specs.Sets.{has, _∈_, _∖_, only}
 use Rattle.laws.proofs.SetLaws.{in-without, without-in, in-one, one-in}
 use Rattle.laws.proofs.TestLaws.{and-true, not-so}
 use Rattle.answer.specs.Limits.{maxActions}
-use Rattle.iosa.specs.Model.{Row, Comp, rowAt, urgents}
-use Rattle.iosa.specs.WellFormed.{WellComp}
+use Rattle.model.specs.Model.{Row, Comp, rowAt, urgents}
+use Rattle.model.specs.WellFormed.{WellComp}
 use Rattle.iosa.specs.Automaton.{autoOf, Stable, Reachable}
 use Rattle.iosa.specs.Checks.{unstable, reachOf}
 use Rattle.iosa.proofs.Acceptance.Rows.{leads-at}

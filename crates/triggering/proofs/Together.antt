@@ -12,8 +12,8 @@ use Rattle.laws.specs.Sets.{has, _∩_, _∖_, _∈_, only}
 use Rattle.laws.proofs.SetLaws.{in-and, and-in, in-without, without-in, or-in-r, in-one, one-in, none-in}
 use Rattle.laws.proofs.TestLaws.{not-so, apart-cases}
 use Rattle.answer.specs.Limits.{maxActions}
-use Rattle.iosa.specs.Model.{Model, compAt, outputs}
-use Rattle.iosa.specs.WellFormed.{WellFormed}
+use Rattle.model.specs.Model.{Model, compAt, outputs}
+use Rattle.model.specs.WellFormed.{WellFormed}
 use Rattle.iosa.specs.Automaton.{autoOf, Joinable}
 use Rattle.iosa.proofs.Acceptance.Enabled.{urgent-output}
 use Rattle.triggering.specs.Triggering.{Enabled, part, LeadsOn, AtStart, Woken, Together, start, inOneSet, inTwoParts, Led}

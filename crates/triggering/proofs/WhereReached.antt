@@ -9,8 +9,8 @@ use native.Mathlib.Omega.{arith}
 use lib.ListN.{length, getD}
 use Rattle.laws.specs.Sets.{has, _∈_}
 use Rattle.laws.proofs.SetLaws.{or-in-r, in-or}
-use Rattle.iosa.specs.Model.{Comp, Model, compAt, inputs, outputs, urgents, acts}
-use Rattle.iosa.specs.WellFormed.{WellComp, WellFormed}
+use Rattle.model.specs.Model.{Comp, Model, compAt, inputs, outputs, urgents, acts}
+use Rattle.model.specs.WellFormed.{WellComp, WellFormed}
 use Rattle.iosa.specs.Automaton.{alphabet, autoOf, Stable, Reachable, at-start, by-row, ReachedIn, MeetsAt, Meets, Confluent, Conforming, Joinable}
 use Rattle.iosa.specs.Product.{product, stateOf, EachPart, Within, Reached, MadeOf}
 use Rattle.iosa.specs.Parts.{GoAll}

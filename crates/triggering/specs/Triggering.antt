@@ -3,7 +3,7 @@ use mathlib.Core.Logic.{_≢_}
 use Prim.Native.Nat.{ℕ, _<_}
 use lib.ListN.{length}
 use Rattle.laws.specs.Sets.{_∈_}
-use Rattle.iosa.specs.Model.{Model, compAt, inputs, outputs}
+use Rattle.model.specs.Model.{Model, compAt, inputs, outputs}
 use Rattle.iosa.specs.Automaton.{Automaton, autoOf, UrgentRow, Stable, Reachable, ConfluentFor}
 
 -- the urgent output b is enabled in s: a row of it leaves s

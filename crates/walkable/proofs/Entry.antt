@@ -6,14 +6,14 @@ use mathlib.Core.Option.{Option, none, some}
 use Rattle.laws.specs.Search.{orElse}
 use Rattle.laws.proofs.SearchLaws.{no-some}
 use Rattle.answer.specs.Told.{Told, Answer}
-use Rattle.iosa.specs.Model.{Model}
-use Rattle.iosa.specs.WellFormed.{WellFormed}
+use Rattle.model.specs.Model.{Model}
+use Rattle.model.specs.WellFormed.{WellFormed}
 use Rattle.iosa.specs.Automaton.{Conforming, Joinable, AllConfluent}
 use Rattle.iosa.specs.Faults.{Clash, First}
 use Rattle.iosa.specs.Checks.{clashAmong, acceptOf}
 use Rattle.iosa.specs.InOrder.{_▹_, accepted}
-use Rattle.iosa.proofs.Answers.InOrder.{Decided, refusedOr, or-refused, check-exactly}
-use Rattle.iosa.proofs.Answers.Models.{confluent-decided, check-accepted}
+use Rattle.answering.proofs.Answers.InOrder.{Decided, refusedOr, or-refused, check-exactly}
+use Rattle.answering.proofs.Answers.Models.{confluent-decided, check-accepted}
 use Rattle.triggering.specs.Triggering.{Passes, NoOpenInput}
 use Rattle.triggering.specs.Test.{passesOf, openFault, unlessPasses, elseOrderly, entryOf}
 use Rattle.triggering.proofs.Passing.{passes-exactly, confluent-passes}

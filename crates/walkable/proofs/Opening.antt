@@ -13,8 +13,8 @@ use Rattle.laws.proofs.SearchLaws.{no-some, least-none, none-least, least-some,
 use Rattle.laws.proofs.TestLaws.{and-true, not-so}
 use Rattle.answer.specs.Limits.{maxActions}
 use Rattle.answer.specs.Told.{Told, tell}
-use Rattle.iosa.specs.Model.{Model, compAt, inputs, outputs}
-use Rattle.iosa.specs.WellFormed.{WellFormed}
+use Rattle.model.specs.Model.{Model, compAt, inputs, outputs}
+use Rattle.model.specs.WellFormed.{WellFormed}
 use Rattle.iosa.proofs.Acceptance.Rows.{input-below}
 use Rattle.triggering.specs.Triggering.{NoOpenInput, OpenInput}
 use Rattle.triggering.specs.Test.{inputsOf, outputsOf, openFault}

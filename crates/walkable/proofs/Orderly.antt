@@ -6,14 +6,14 @@ use mathlib.Core.List.{List, _∷_}
 use Prim.Native.Nat.{ℕ}
 use Rattle.laws.proofs.SearchLaws.{or-else-none}
 use Rattle.answer.specs.Told.{Told}
-use Rattle.iosa.specs.Model.{Comp, Model}
-use Rattle.iosa.specs.WellFormed.{WellFormed}
+use Rattle.model.specs.Model.{Comp, Model}
+use Rattle.model.specs.WellFormed.{WellFormed}
 use Rattle.iosa.specs.Automaton.{Conforming, Joinable, Reachable}
 use Rattle.iosa.specs.Product.{product, stateOf, Within}
 use Rattle.iosa.specs.Checks.{clashAmong, acceptOf, confluentOf}
 use Rattle.iosa.specs.Demand3.{Demand3}
 use Rattle.iosa.proofs.Acceptance.Accepted.{accepted-exactly}
-use Rattle.iosa.proofs.Answers.Models.{confluent-decided}
+use Rattle.answering.proofs.Answers.Models.{confluent-decided}
 use Rattle.iosa.proofs.Settling.Demand3.{demand-3-from-reached-parts}
 use Rattle.iosa.proofs.Settling.Parts.{within-length}
 use Rattle.iosa.proofs.Settling.Steps.{state-is-one-list}

@@ -1,7 +1,7 @@
 -- The checks of the new test, and of the calls that take systems that pass either test (02, 8/13), behind acceptance.
 use mathlib.Core.Logic.{_⊎_}
 use Rattle.answer.specs.Told.{Told}
-use Rattle.iosa.specs.Model.{Model}
+use Rattle.model.specs.Model.{Model}
 use Rattle.iosa.specs.Automaton.{AllConfluent}
 use Rattle.iosa.specs.Faults.{Clash, First}
 use Rattle.iosa.specs.InOrder.{Check}

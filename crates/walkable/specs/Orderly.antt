@@ -5,7 +5,7 @@ use mathlib.Core.List.{[], _∷_}
 use Prim.Native.Nat.{ℕ}
 use Rattle.laws.specs.Lowest.{Lowest}
 use Rattle.answer.specs.Told.{Told, tell}
-use Rattle.iosa.specs.Model.{Model}
+use Rattle.model.specs.Model.{Model}
 use Rattle.iosa.specs.Automaton.{Conforming, Joinable, AllConfluent}
 use Rattle.triggering.specs.Triggering.{Passes, NoOpenInput, OpenInput}
 

@@ -11,7 +11,7 @@ use Rattle.answer.specs.Told.{tell, Answer, answered, refused}
 use Rattle.answer.specs.State.{partsOf}
 use Rattle.answer.specs.declared.State.{State}
 use Rattle.answer.proofs.StateLaws.{with-parts}
-use Rattle.iosa.specs.Model.{Model}
+use Rattle.model.specs.Model.{Model}
 use Rattle.iosa.specs.Checks.{acceptOf}
 use Rattle.iosa.specs.Start.{startAll}
 use Rattle.iosa.proofs.Acceptance.Accepted.{accepted-exactly}

@@ -14,17 +14,17 @@ use Rattle.laws.proofs.TestLaws.{and-true, and-not-both}
 use Rattle.answer.specs.Limits.{maxActions, maxClocks}
 use Rattle.answer.specs.State.{withParts}
 use Rattle.answer.specs.declared.State.{State}
-use Rattle.iosa.specs.Model.{Row, Model, outputs}
-use Rattle.iosa.specs.WellFormed.{WellComp, WellFormed}
+use Rattle.model.specs.Model.{Row, Model, outputs}
+use Rattle.model.specs.WellFormed.{WellComp, WellFormed}
 use Rattle.iosa.specs.Automaton.{autoOf, Conditions, Conforming, Joinable}
 use Rattle.iosa.specs.Product.{Within}
 use Rattle.iosa.specs.Step.{urgentStep, isStable}
-use Rattle.iosa.specs.Timed.{clockRowOf, fireAll}
+use Rattle.timing.specs.Timed.{clockRowOf, fireAll}
 use Rattle.iosa.proofs.Acceptance.Rows.{output-below}
 use Rattle.iosa.proofs.Settling.Each.{All, Any, each-all}
 use Rattle.iosa.proofs.Settling.ProductOfMany.{joinable-pairwise, wells}
-use Rattle.iosa.proofs.Timing.Enabling.{enables-clock, clock-declared, declared-below}
-use Rattle.iosa.proofs.Timing.Fire.{Shoots, enabling-shoots}
+use Rattle.timing.proofs.Timing.Enabling.{enables-clock, clock-declared, declared-below}
+use Rattle.timing.proofs.Timing.Fire.{Shoots, enabling-shoots}
 use Rattle.moves.specs.Moves.{afterBy}
 use Rattle.firing.specs.Fired.{actionOr, firedOne}
 use Rattle.firing.proofs.Shoots.{fires-as-all}

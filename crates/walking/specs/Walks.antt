@@ -9,9 +9,9 @@ use Rattle.answer.specs.Limits.{noState}
 use Rattle.answer.specs.Told.{Told, tell, Answer, answered, refused}
 use Rattle.answer.specs.State.{withParts}
 use Rattle.answer.specs.declared.State.{State}
-use Rattle.iosa.specs.Model.{Row, Model}
+use Rattle.model.specs.Model.{Row, Model}
 use Rattle.iosa.specs.Step.{isStable}
-use Rattle.iosa.specs.Timed.{clockRowOf}
+use Rattle.timing.specs.Timed.{clockRowOf}
 use Rattle.words.specs.Bytes.{stateOf}
 use Rattle.walking.specs.declared.Pace.{Pace}
 use Rattle.walking.specs.declared.Way.{Way}

@@ -10,8 +10,8 @@ use Rattle.laws.specs.Sets.{has}
 use Rattle.laws.specs.Fold.{tab, spread}
 use Rattle.laws.proofs.TabLaws.{tab-next, tab-done, spread-next, spread-done}
 use Rattle.answer.specs.Limits.{maxActions, maxClocks}
-use Rattle.iosa.specs.Model.{Row, Comp, acts}
-use Rattle.iosa.specs.Text.{tab as tabByte, lf, compWord, actWord, clkWord, rowWord, in-kind, out-kind, uin-kind, uout-kind, kindWord, decimal, guardField, setField, fieldsAfter, compLine, actLine, clkLine, rowLine, kindOf, actPart, clkPart, rowLines, compText, textOf}
+use Rattle.model.specs.Model.{Row, Comp, acts}
+use Rattle.model.specs.Text.{tab as tabByte, lf, compWord, actWord, clkWord, rowWord, in-kind, out-kind, uin-kind, uout-kind, kindWord, decimal, guardField, setField, fieldsAfter, compLine, actLine, clkLine, rowLine, kindOf, actPart, clkPart, rowLines, compText, textOf}
 use Rattle.layout.specs.Layout.{countOf, blockWord, firstOf, actionAt, guardAt, resetsAt, targetAt}
 use Rattle.layout.specs.Image.{rowIn, rowsLeaving, compOf, modelOf}
 use Rattle.measure.specs.Measure.{actLines, clkLines}

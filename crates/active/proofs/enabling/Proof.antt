@@ -8,7 +8,7 @@ use denote.Ref.{now}
 use Rattle.laws.specs.Sets.{_∪_}
 use Rattle.laws.specs.Fold.{over}
 use Rattle.laws.proofs.FoldLaws.{over-next, over-end}
-use Rattle.iosa.specs.Model.{guardSet}
+use Rattle.model.specs.Model.{guardSet}
 use Rattle.layout.specs.Layout.{guardAt}
 use Rattle.layout.proofs.Bridge.{enabling-is}
 use Rattle.rows.proofs.Ready.{first-ready, next-ready, range-ready, row-ready, range-over}

@@ -6,7 +6,7 @@ use native.Mathlib.Numerals.{add-one}
 use lib.ListN.{length, getD, set}
 use denote.Ref.{now}
 use Rattle.laws.specs.Sets.{only}
-use Rattle.iosa.specs.Model.{guardSet}
+use Rattle.model.specs.Model.{guardSet}
 use borrow.Author.Needs.{needs}
 use Rattle.active.proofs.guard_set.Statement.{statement}
 use Rattle.active.proofs.guard_set.Tie as tie

@@ -10,7 +10,7 @@ use denote.Ref.{now}
 use Rattle.laws.specs.Sets.{_∪_, _∩_, _∖_}
 use Rattle.laws.specs.Fold.{over}
 use Rattle.laws.proofs.FoldLaws.{over-next, over-end}
-use Rattle.iosa.specs.Model.{guardSet}
+use Rattle.model.specs.Model.{guardSet}
 use Rattle.iosa.specs.Checks.{breaks, narrowed}
 use Rattle.layout.specs.Layout.{guardAt, targetAt, resetsAt}
 use Rattle.layout.specs.Image.{rowIn}

@@ -4,7 +4,7 @@ use denote.Ref.{now}
 use Rattle.laws.specs.Search.{orElse}
 use Rattle.answer.specs.Told.{Told}
 use Rattle.answer.specs.declared.Checked.{Checked}
-use Rattle.iosa.specs.Model.{Model}
+use Rattle.model.specs.Model.{Model}
 use Rattle.iosa.specs.Checks.{compatibleOf}
 use Rattle.layout.specs.Image.{modelOf}
 use Rattle.pairs.specs.declared.Shared.the-variants.{Outputs, Clocks, Urgency}

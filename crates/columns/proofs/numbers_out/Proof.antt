@@ -5,7 +5,7 @@ use native.Mathlib.Omega.{arith}
 use borrow.Author.Tests.{not-true, not-false}
 use lib.ListN.{length}
 use denote.Ref.{now}
-use Rattle.iosa.specs.Reading.{number}
+use Rattle.model.specs.Reading.{number}
 use Rattle.fields.specs.Fields.{gotNumber}
 use Rattle.columns.proofs.OutLaws.{Looking, looking-first, out-end, out-stops, out-here, out-last, out-behind, out-more, out-less}
 use borrow.Author.Needs.{needs}

@@ -5,7 +5,7 @@ use native.Mathlib.Omega.{arith}
 use borrow.Author.Tests.{not-true, not-false}
 use lib.ListN.{drop}
 use denote.Ref.{now}
-use Rattle.iosa.specs.Reading.{stopColumn}
+use Rattle.model.specs.Reading.{stopColumn}
 use Rattle.measure.proofs.Fields.{width-most}
 use Rattle.columns.specs.Columns.{resetsOut, beforeResets}
 use Rattle.columns.proofs.CaseLaws.{wide-most, row-from, row-guard, row-action, row-resets}

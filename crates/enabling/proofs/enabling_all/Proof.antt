@@ -9,9 +9,9 @@ use Rattle.laws.specs.Sets.{_∪_}
 use Rattle.answer.specs.Limits.{maxComponents}
 use Rattle.answer.specs.State.{partsOf}
 use Rattle.answer.proofs.StateLaws.{parts-at}
-use Rattle.iosa.specs.Model.{compAt}
+use Rattle.model.specs.Model.{compAt}
 use Rattle.iosa.specs.Checks.{enablingOf}
-use Rattle.iosa.specs.Timed.{enablingAll}
+use Rattle.timing.specs.Timed.{enablingAll}
 use Rattle.layout.specs.Image.{modelOf}
 use Rattle.moves.proofs.Ready.{count-model, count-few, in-table, in-model, in-parts, comp-is, part-low}
 use Rattle.enabling.proofs.Joined.{enabling-next, enabling-end}

@@ -6,7 +6,7 @@ use borrow.Author.Needs.{needs}
 use denote.Ref.{now}
 use mir.ValLaws.{toZ-ofZ}
 use mir.Syntax.{w32}
-use Rattle.iosa.specs.Text.{decimal}
+use Rattle.model.specs.Text.{decimal}
 use Rattle.print.proofs.LaidLaws.{Left, Next, left-as, left-room, left-next, left-last, last-room}
 use Rattle.failing.specs.Line.{failureLine, errorNumber, errorWord, closeWord}
 use Rattle.failing.proofs.Line.{behind, digits, first-left}

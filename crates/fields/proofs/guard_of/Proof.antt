@@ -3,7 +3,7 @@ use mathlib.Core.Path.{sym, _∙_, ap}
 use mathlib.Core.Option.{some}
 use lib.ListN.{drop}
 use denote.Ref.{now}
-use Rattle.iosa.specs.Reading.{got}
+use Rattle.model.specs.Reading.{got}
 use Rattle.fields.specs.Fields.{past, gotNumber}
 use Rattle.fields.proofs.ScanLaws.{then-stops, then-is}
 use Rattle.fields.proofs.FieldLaws.{guard-dash, guard-clock}

@@ -4,8 +4,8 @@ use mathlib.Core.List.{List}
 use Prim.Native.Nat.{ℕ}
 use lib.ListN.{drop}
 use denote.Ref.{now}
-use Rattle.iosa.specs.Text.{in-kind, out-kind, uin-kind, uout-kind, kindWord}
-use Rattle.iosa.specs.Reading.{stops, shorter, exactly}
+use Rattle.model.specs.Text.{in-kind, out-kind, uin-kind, uout-kind, kindWord}
+use Rattle.model.specs.Reading.{stops, shorter, exactly}
 use Rattle.fields.specs.Fields.{past}
 use Rattle.fields.proofs.FieldLaws.{kind-in, kind-out, kind-uin, kind-uout, kind-none}
 use borrow.Author.Needs.{needs}

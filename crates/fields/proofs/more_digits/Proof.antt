@@ -7,7 +7,7 @@ use native.Mathlib.Omega.{arith}
 use borrow.Author.Tests.{not-true, not-false}
 use lib.ListN.{drop, getD}
 use denote.Ref.{now}
-use Rattle.iosa.specs.Reading.{is, moreDigits, isDigit}
+use Rattle.model.specs.Reading.{is, moreDigits, isDigit}
 use Rattle.fields.proofs.ScanLaws.{more-full, digits-end, digits-stop, digits-on, is-digit, digits-room, digits-few}
 use Rattle.fields.proofs.more_digits.Statement.{statement}
 use Rattle.fields.proofs.more_digits.Tie as tie

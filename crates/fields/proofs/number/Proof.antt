@@ -6,7 +6,7 @@ use native.Mathlib.Omega.{arith}
 use borrow.Author.Tests.{not-true, not-false}
 use lib.ListN.{getD}
 use denote.Ref.{now}
-use Rattle.iosa.specs.Reading.{isDigit}
+use Rattle.model.specs.Reading.{isDigit}
 use Rattle.fields.proofs.ScanLaws.{number-end, number-not, number-nought, number-on, is-digit}
 use borrow.Author.Needs.{needs}
 use Rattle.fields.proofs.number.Statement.{statement}

@@ -1,7 +1,7 @@
 -- `fields::number_field` meets its contract.
 use mathlib.Core.Path.{sym, _∙_, ap}
 use denote.Ref.{now}
-use Rattle.iosa.specs.Reading.{number}
+use Rattle.model.specs.Reading.{number}
 use Rattle.fields.specs.Fields.{past}
 use Rattle.fields.proofs.ScanLaws.{then-stops, then-is}
 use borrow.Author.Needs.{needs}

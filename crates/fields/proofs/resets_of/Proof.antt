@@ -2,7 +2,7 @@
 use mathlib.Core.Path.{sym, _∙_, ap}
 use lib.ListN.{length, drop}
 use denote.Ref.{now}
-use Rattle.iosa.specs.Reading.{numbersOrDash, moreNumbers}
+use Rattle.model.specs.Reading.{numbersOrDash, moreNumbers}
 use Rattle.fields.specs.Fields.{past, gotNumber}
 use Rattle.fields.specs.Resets.{valued, summary, withAll}
 use Rattle.fields.proofs.FieldLaws.{resets-dash, resets-numbers}

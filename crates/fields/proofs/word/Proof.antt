@@ -4,7 +4,7 @@ use Prim.Native.Nat.{_≤_, _-_}
 use native.Mathlib.Omega.{arith}
 use lib.ListN.{length, drop}
 use denote.Ref.{now}
-use Rattle.iosa.specs.Reading.{exactly}
+use Rattle.model.specs.Reading.{exactly}
 use Rattle.fields.proofs.ScanLaws.{word-done, word-short, word-other, word-on}
 use Rattle.fields.proofs.word.Statement.{statement}
 use Rattle.fields.proofs.word.Tie as tie

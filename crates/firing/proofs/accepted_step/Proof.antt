@@ -12,7 +12,7 @@ use Rattle.answer.specs.Limits.{maxActions, maxClocks}
 use Rattle.answer.specs.Told.{tell, told}
 use Rattle.answer.specs.State.{partsOf}
 use Rattle.iosa.specs.Step.{inRange}
-use Rattle.iosa.specs.Model.{declared}
+use Rattle.model.specs.Model.{declared}
 use Rattle.iosa.proofs.Acceptance.Accepted.{accepted-exactly}
 use Rattle.iosa.proofs.Settling.Range.{range-exactly}
 use Rattle.layout.specs.Image.{modelOf}

@@ -9,8 +9,8 @@ use lib.ListN.{length, getD, drop}
 use Rattle.answer.specs.Limits.{maxComponents, maxActions}
 use Rattle.answer.specs.State.{partsOf}
 use Rattle.answer.proofs.StateLaws.{parts-at}
-use Rattle.iosa.specs.Model.{Row, compAt}
-use Rattle.iosa.specs.Timed.{clockRow, clockRowOf}
+use Rattle.model.specs.Model.{Row, compAt}
+use Rattle.timing.specs.Timed.{clockRow, clockRowOf}
 use Rattle.layout.specs.Image.{compOf, modelOf}
 use Rattle.moves.proofs.Ready.{count-model, count-few, in-table, in-model, in-parts, comp-is, part-low}
 use Rattle.firing.specs.Fired.{actionOr}

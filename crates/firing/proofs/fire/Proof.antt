@@ -4,8 +4,8 @@ use borrow.Author.Needs.{needs}
 use denote.Ref.{now}
 use lib.IntN.{ℤ}
 use Rattle.answer.specs.State.{partsOf}
-use Rattle.iosa.specs.Model.{declared}
-use Rattle.iosa.specs.Timed.{agedFrom}
+use Rattle.model.specs.Model.{declared}
+use Rattle.timing.specs.Timed.{agedFrom}
 use Rattle.iosa.specs.TimedExactly.{valueOf}
 use Rattle.layout.specs.Image.{modelOf}
 use Rattle.layout.proofs.RowsOfRange.{well-formed}

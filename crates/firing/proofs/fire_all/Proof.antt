@@ -12,7 +12,7 @@ use Rattle.answer.specs.State.{partsOf, withParts}
 use Rattle.answer.proofs.StateLaws.{parts-at}
 use Rattle.laws.specs.Sets.{_∪_}
 use Rattle.layout.specs.Image.{modelOf, compOf}
-use Rattle.iosa.specs.Model.{compAt}
+use Rattle.model.specs.Model.{compAt}
 use Rattle.moves.specs.Moves.{resetBy, afterBy}
 use Rattle.firing.specs.Fired.{firedOne}
 use Rattle.moves.proofs.Ready.{count-model, count-few, in-table, in-model, in-parts, comp-is, part-low}

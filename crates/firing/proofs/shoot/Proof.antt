@@ -7,7 +7,7 @@ use lib.ListN.{length}
 use Rattle.answer.specs.Limits.{maxComponents}
 use Rattle.answer.specs.Told.{tell, told}
 use Rattle.answer.specs.State.{partsOf}
-use Rattle.iosa.specs.Timed.{enablingAll}
+use Rattle.timing.specs.Timed.{enablingAll}
 use Rattle.layout.specs.Image.{modelOf}
 use Rattle.moves.proofs.Ready.{count-few}
 use Rattle.firing.specs.Choices.{choiceOf, answerOf}

@@ -1,7 +1,7 @@
 -- `floodneedle::floodneedle_check_text` meets its contract: the words are those of what the check says.
 use borrow.Author.Needs.{needs}
 use Rattle.answer.specs.Told.{doneOf}
-use Rattle.iosa.specs.Reading.{readOf}
+use Rattle.model.specs.Reading.{readOf}
 use Rattle.floodneedle.proofs.floodneedle_check_text.Statement.{statement}
 use Rattle.floodneedle.proofs.floodneedle_check_text.Tie as tie
 

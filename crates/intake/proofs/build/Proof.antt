@@ -4,7 +4,7 @@ use mathlib.Core.List.{_++_}
 use borrow.Author.Needs.{needs}
 use lib.ListN.{length, drop}
 use denote.Ref.{now}
-use Rattle.iosa.specs.Reading.{entry}
+use Rattle.model.specs.Reading.{entry}
 use Rattle.lines.specs.Lines.{lineOf, gotLine}
 use Rattle.lines.proofs.LineLaws.{valued-stops}
 use Rattle.layout.specs.Image.{imageOf}

@@ -9,8 +9,8 @@ use lib.ListN.{length, take}
 use Rattle.laws.specs.Search.{seek, mapSome}
 use Rattle.laws.proofs.SearchLaws.{seek-none, none-seek, when-none, or-else-none, map-none}
 use Rattle.answer.specs.Told.{tell}
-use Rattle.iosa.specs.Model.{Comp, Model, compAt, rowCount}
-use Rattle.iosa.specs.WellFormed.{WellComp, WellFormed}
+use Rattle.model.specs.Model.{Comp, Model, compAt, rowCount}
+use Rattle.model.specs.WellFormed.{WellComp, WellFormed}
 use Rattle.iosa.specs.Automaton.{autoOf, Conditions, Conforming, Joinable}
 use Rattle.iosa.specs.Checks.{check10, check11, check12, check13, check14, check15, check16, check17, faultAt, componentOf, compatibleOf, acceptOf}
 use Rattle.iosa.proofs.Acceptance.Check10.{check10-exactly}

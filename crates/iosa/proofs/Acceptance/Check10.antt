@@ -12,8 +12,8 @@ use Rattle.laws.specs.Sets.{has, _∈_}
 use Rattle.laws.proofs.SetLaws.{in-or, or-in-l, or-in-r, or-cases, or-right}
 use Rattle.laws.proofs.SearchLaws.{least-none, none-least}
 use Rattle.laws.proofs.TestLaws.{and-true, not-so}
-use Rattle.iosa.specs.Model.{Comp, rowAt, guardSet, outputs, urgents}
-use Rattle.iosa.specs.WellFormed.{WellComp}
+use Rattle.model.specs.Model.{Comp, rowAt, guardSet, outputs, urgents}
+use Rattle.model.specs.WellFormed.{WellComp}
 use Rattle.iosa.specs.Automaton.{autoOf, CondA, CondB}
 use Rattle.iosa.specs.Checks.{unclocked, badGuard, check10}
 use Rattle.iosa.specs.Faults.{AgainstA, AgainstB, Broken10}

@@ -12,8 +12,8 @@ use Rattle.laws.specs.Sets.{_∈_}
 use Rattle.laws.proofs.SearchLaws.{least-none, none-least, any-true, true-any}
 use Rattle.laws.proofs.TestLaws.{and-true, not-so, apart-cases}
 use Rattle.laws.proofs.SetLaws.{in-one}
-use Rattle.iosa.specs.Model.{Row, Comp, rowAt}
-use Rattle.iosa.specs.WellFormed.{WellComp}
+use Rattle.model.specs.Model.{Row, Comp, rowAt}
+use Rattle.model.specs.WellFormed.{WellComp}
 use Rattle.iosa.specs.Automaton.{Leads, autoOf, CondC}
 use Rattle.iosa.specs.Checks.{sameClock, repeats, check11}
 use Rattle.iosa.specs.Faults.{Broken11}

@@ -10,8 +10,8 @@ use Rattle.laws.specs.Search.{isSome}
 use Rattle.laws.proofs.SearchLaws.{is-some, is-none, least2-none, none-least2}
 use Rattle.laws.proofs.TestLaws.{and-true, and-false, not-so}
 use Rattle.answer.specs.Limits.{maxActions}
-use Rattle.iosa.specs.Model.{Row, Comp, inputs}
-use Rattle.iosa.specs.WellFormed.{WellComp}
+use Rattle.model.specs.Model.{Row, Comp, inputs}
+use Rattle.model.specs.WellFormed.{WellComp}
 use Rattle.iosa.specs.Automaton.{autoOf, CondA, CondD}
 use Rattle.iosa.specs.Checks.{rowFor, lacksRow, cellOf, check12}
 use Rattle.iosa.specs.Faults.{Broken12}

@@ -11,8 +11,8 @@ use Rattle.laws.specs.Search.{any}
 use Rattle.laws.proofs.SearchLaws.{any-true, true-any, least2-none, none-least2}
 use Rattle.laws.proofs.TestLaws.{and-true, not-so, apart-cases}
 use Rattle.answer.specs.Limits.{maxActions}
-use Rattle.iosa.specs.Model.{Comp, rowAt, guardSet}
-use Rattle.iosa.specs.WellFormed.{WellComp}
+use Rattle.model.specs.Model.{Comp, rowAt, guardSet}
+use Rattle.model.specs.WellFormed.{WellComp}
 use Rattle.iosa.specs.Automaton.{Leads, autoOf, CondE}
 use Rattle.iosa.specs.Checks.{leaves, unclocked, twice, cellOf, check13}
 use Rattle.iosa.specs.Faults.{Broken13}

@@ -18,8 +18,8 @@ use Rattle.laws.proofs.SetLaws.{in-and, within-true, true-within}
 use Rattle.laws.proofs.SearchLaws.{least-none, least-some, any-true, any-false, any-same}
 use Rattle.laws.proofs.FoldLaws.{tab-length, tab-at, sum-set}
 use Rattle.laws.proofs.TestLaws.{not-so}
-use Rattle.iosa.specs.Model.{Row, Comp, rowAt}
-use Rattle.iosa.specs.WellFormed.{WellComp}
+use Rattle.model.specs.Model.{Row, Comp, rowAt}
+use Rattle.model.specs.WellFormed.{WellComp}
 use Rattle.iosa.specs.Automaton.{autoOf, CondF}
 use Rattle.iosa.specs.Checks.{enablingOf, allowed, handedOn, breaks, narrowed, narrow, greatest, check14}
 use Rattle.iosa.specs.Greatest.{Above, Greatest}

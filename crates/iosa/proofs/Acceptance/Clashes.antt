@@ -8,8 +8,8 @@ use native.Mathlib.Omega.{arith}
 use lib.ListN.{length}
 use Rattle.laws.specs.Search.{orElse, mapSome}
 use Rattle.answer.specs.Told.{Told, tell}
-use Rattle.iosa.specs.Model.{Comp, Model, compAt}
-use Rattle.iosa.specs.WellFormed.{WellFormed}
+use Rattle.model.specs.Model.{Comp, Model, compAt}
+use Rattle.model.specs.WellFormed.{WellFormed}
 use Rattle.iosa.specs.Checks.{check18, clashAmong, acceptOf, confluentOf}
 use Rattle.iosa.specs.Faults.{Broken18, Clash, clash, Fault, First}
 use Rattle.iosa.proofs.Acceptance.Check18.{decides-18}

@@ -8,8 +8,8 @@ use native.Mathlib.Omega.{arith}
 use lib.ListN.{length}
 use Rattle.laws.proofs.SearchLaws.{no-some, or-else-none}
 use Rattle.answer.specs.Told.{Told, tell}
-use Rattle.iosa.specs.Model.{Model, compAt}
-use Rattle.iosa.specs.WellFormed.{WellFormed}
+use Rattle.model.specs.Model.{Model, compAt}
+use Rattle.model.specs.WellFormed.{WellFormed}
 use Rattle.iosa.specs.Automaton.{AllConfluent}
 use Rattle.iosa.specs.Checks.{check18, clashAmong, acceptOf, confluentOf}
 use Rattle.iosa.proofs.Acceptance.Rows.{Single}

@@ -12,8 +12,8 @@ use Rattle.laws.specs.Sets.{has, _∈_, _⊆_}
 use Rattle.laws.proofs.SetLaws.{in-or, or-in-l, or-in-r, none-in}
 use Rattle.laws.proofs.SearchLaws.{any-true, any-false}
 use Rattle.laws.proofs.TestLaws.{and-true, not-so}
-use Rattle.iosa.specs.Model.{Row, Comp, rowAt, noRow, guardSet}
-use Rattle.iosa.specs.WellFormed.{WellComp}
+use Rattle.model.specs.Model.{Row, Comp, rowAt, noRow, guardSet}
+use Rattle.model.specs.WellFormed.{WellComp}
 use Rattle.iosa.specs.Automaton.{autoOf, Stable, Enabling}
 use Rattle.iosa.specs.Checks.{enablingIn, enablingOf, unstable}
 

@@ -7,8 +7,8 @@ use Prim.Native.Nat.{ℕ, _+_}
 use lib.ListN.{length}
 use Rattle.answer.specs.Limits.{maxActions}
 use Rattle.answer.specs.Told.{Told, tell}
-use Rattle.iosa.specs.Model.{Comp}
-use Rattle.iosa.specs.WellFormed.{WellComp}
+use Rattle.model.specs.Model.{Comp}
+use Rattle.model.specs.WellFormed.{WellComp}
 use Rattle.iosa.specs.Checks.{badGuard, repeats, lacksRow, twice, check10, check11, check12, check13, check14, faultAt}
 use Rattle.iosa.specs.Faults.{Broken10, Broken11, Broken12, Broken13, Broken14, FaultAt, guarded, repeated, lacking, doubled, inactive}
 use Rattle.iosa.proofs.Acceptance.Rows.{input-below, unclocked-below, from-below}

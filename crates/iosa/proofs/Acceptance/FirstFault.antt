@@ -10,8 +10,8 @@ use lib.ListN.{length, take}
 use lib.Dec.{ltb}
 use Rattle.laws.proofs.TestLaws.{apart-cases}
 use Rattle.answer.specs.Told.{Told, tell}
-use Rattle.iosa.specs.Model.{Comp, Model, rowCount}
-use Rattle.iosa.specs.WellFormed.{WellFormed, lower}
+use Rattle.model.specs.Model.{Comp, Model, rowCount}
+use Rattle.model.specs.WellFormed.{WellFormed, lower}
 use Rattle.iosa.specs.Checks.{acceptOf}
 use Rattle.iosa.specs.Faults.{FaultAt, guarded, repeated, lacking, doubled, inactive, Fault, inside, output-shared, clock-shared, urgency-differs}
 use Rattle.iosa.specs.Faults.{Clash, clash, First}

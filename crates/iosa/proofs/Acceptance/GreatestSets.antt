@@ -8,8 +8,8 @@ use lib.Dec.{eqb}
 use borrow.Author.Tests.{eqb-true, eq-eqb}
 use Rattle.laws.specs.Sets.{has, _∪_, _∩_, _∖_, within, _∈_, _⊆_}
 use Rattle.laws.proofs.SetLaws.{in-or, or-in-l, or-in-r, in-and, and-in, in-without, without-in, has-ext}
-use Rattle.iosa.specs.Model.{Comp, rowAt, guardSet}
-use Rattle.iosa.specs.WellFormed.{WellComp}
+use Rattle.model.specs.Model.{Comp, rowAt, guardSet}
+use Rattle.model.specs.WellFormed.{WellComp}
 use Rattle.iosa.specs.Automaton.{autoOf, Active, CondF}
 use Rattle.iosa.specs.Checks.{enablingOf, unstable, allowed}
 use Rattle.iosa.specs.Greatest.{handed, Allows, Above, Greatest}

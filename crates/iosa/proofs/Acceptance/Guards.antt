@@ -6,7 +6,7 @@ use native.Mathlib.Omega.{arith}
 use lib.Pow.{pow-pos}
 use Rattle.laws.specs.Sets.{_∈_, only}
 use Rattle.laws.proofs.SetLaws.{in-one, one-in, none-in}
-use Rattle.iosa.specs.Model.{guardSet}
+use Rattle.model.specs.Model.{guardSet}
 
 pub guard-zero : (g : ℕ) → guardSet g ≡ 0 → g ≡ 0
 guard-zero zero e = refl

@@ -11,7 +11,7 @@ use borrow.Author.Tests.{lt-ltb, le-ltb, ltb-true, not-false}
 use Rattle.laws.specs.Search.{firstFrom, seek, orElse}
 use Rattle.laws.proofs.SearchLaws.{when-none, or-else-none}
 use Rattle.answer.specs.Told.{Told, tell}
-use Rattle.iosa.specs.Model.{Model, compAt, rowCount}
+use Rattle.model.specs.Model.{Model, compAt, rowCount}
 use Rattle.iosa.specs.Checks.{faultAt, faultFrom, indexFault, componentOf, compatibleOf, acceptOf}
 
 -- ---- a component that is there has its own faults, and 25 is told of every other

@@ -9,7 +9,7 @@ use lib.ListN.{length, take}
 use Rattle.laws.specs.Search.{orElse}
 use Rattle.laws.proofs.SearchLaws.{no-some}
 use Rattle.answer.specs.Told.{Told}
-use Rattle.iosa.specs.Model.{Comp, Model, compAt, rowCount}
+use Rattle.model.specs.Model.{Comp, Model, compAt, rowCount}
 use Rattle.iosa.proofs.Acceptance.Ranks.{Decides, decides-as, decides-under, Under}
 use Rattle.iosa.proofs.Acceptance.Places.{headed, decides-next}
 

@@ -8,8 +8,8 @@ use native.Mathlib.Omega.{arith}
 use lib.ListN.{length}
 use lib.Dec.{eqb, ltb}
 use borrow.Author.Tests.{eqb-true, eq-eqb, ne-eqb, ltb-true, lt-ltb, le-ltb}
-use Rattle.iosa.specs.Model.{Row, Comp, rowAt}
-use Rattle.iosa.specs.WellFormed.{lower, order, before, WellComp}
+use Rattle.model.specs.Model.{Row, Comp, rowAt}
+use Rattle.model.specs.WellFormed.{lower, order, before, WellComp}
 
 pub lower-irreflexive : (xs : List ℕ) → lower xs xs ≡ false
 unfolding lower

@@ -13,8 +13,8 @@ use Rattle.laws.proofs.SetLaws.{in-or, or-in-l, or-in-r, or-cases, or-right, in
 use Rattle.laws.proofs.SearchLaws.{seek-none, none-seek, when-none}
 use Rattle.laws.proofs.TestLaws.{and-true, not-so}
 use Rattle.answer.specs.Limits.{maxActions, maxClocks}
-use Rattle.iosa.specs.Model.{Comp, Model, compAt, inputs, outputs, urgents}
-use Rattle.iosa.specs.WellFormed.{WellComp, WellFormed}
+use Rattle.model.specs.Model.{Comp, Model, compAt, inputs, outputs, urgents}
+use Rattle.model.specs.WellFormed.{WellComp, WellFormed}
 use Rattle.iosa.specs.Automaton.{autoOf, alphabet, Joinable}
 use Rattle.iosa.specs.Checks.{clashIn, clashFor, shareOutput, shareClock, calmActs, differUrgent, check15, check16, check17}
 use Rattle.iosa.specs.Faults.{OnlyThere}

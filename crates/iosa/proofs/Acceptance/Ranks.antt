@@ -10,7 +10,7 @@ use lib.Dec.{eqb, ltb}
 use borrow.Author.Tests.{eqb-true, eq-eqb, ne-eqb, ltb-true, lt-ltb}
 use Rattle.laws.specs.Search.{seek, when, orElse, mapSome}
 use Rattle.laws.proofs.SearchLaws.{no-some, seek-some, seek-none, some-seek, when-some, map-none, map-some}
-use Rattle.iosa.specs.WellFormed.{lower}
+use Rattle.model.specs.WellFormed.{lower}
 use Rattle.iosa.specs.Faults.{First}
 use Rattle.iosa.proofs.Acceptance.Order.{lower-irreflexive, lower-transitive}
 

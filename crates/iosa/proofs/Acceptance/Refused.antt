@@ -12,8 +12,8 @@ use Rattle.laws.specs.Sets.{_∈_}
 use Rattle.laws.proofs.SetLaws.{in-below}
 use Rattle.answer.specs.Limits.{maxActions, maxClocks}
 use Rattle.answer.specs.Told.{Told, tell}
-use Rattle.iosa.specs.Model.{Comp, Model, compAt, rowCount}
-use Rattle.iosa.specs.WellFormed.{WellComp, WellFormed}
+use Rattle.model.specs.Model.{Comp, Model, compAt, rowCount}
+use Rattle.model.specs.WellFormed.{WellComp, WellFormed}
 use Rattle.iosa.specs.Automaton.{Automaton, autoOf}
 use Rattle.iosa.specs.Checks.{check15, check16, check17, clashFor, shareOutput, shareClock, differUrgent, componentOf, compatibleOf, acceptOf}
 use Rattle.iosa.specs.Faults.{Broken15, Broken16, Broken17, OnlyThere, Between, InTurnOf, First}

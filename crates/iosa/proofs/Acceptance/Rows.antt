@@ -14,8 +14,8 @@ use Rattle.laws.proofs.SetLaws.{or-in-l, or-in-r, in-or, in-below}
 use Rattle.laws.proofs.SearchLaws.{seek-some, seek-none, when-some, when-none}
 use Rattle.laws.proofs.TestLaws.{and-true}
 use Rattle.answer.specs.Limits.{maxActions}
-use Rattle.iosa.specs.Model.{Row, Comp, rowAt, guardSet, inputs, outputs, urgents, acts}
-use Rattle.iosa.specs.WellFormed.{WellComp}
+use Rattle.model.specs.Model.{Row, Comp, rowAt, guardSet, inputs, outputs, urgents, acts}
+use Rattle.model.specs.WellFormed.{WellComp}
 use Rattle.iosa.specs.Automaton.{Leads, autoOf, CondA, CondE}
 use Rattle.iosa.specs.Checks.{leaves, rowFor, unclocked}
 

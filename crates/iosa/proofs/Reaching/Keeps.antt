@@ -6,8 +6,8 @@ use mathlib.Core.List.{List, [], _∷_}
 use Prim.Native.Nat.{ℕ}
 use lib.IntN.{ℤ}
 use Rattle.laws.specs.Sets.{only, _∈_}
-use Rattle.iosa.specs.Model.{Comp, Model, acts, urgents}
-use Rattle.iosa.specs.WellFormed.{WellComp, WellFormed}
+use Rattle.model.specs.Model.{Comp, Model, acts, urgents}
+use Rattle.model.specs.WellFormed.{WellComp, WellFormed}
 use Rattle.iosa.specs.Automaton.{Automaton, alphabet, autoOf, Stable, Reachable, at-start, by-row, ReachedIn, Conditions, Compatible, Conforming, Joinable}
 use Rattle.iosa.specs.Product.{_⊗_, productFrom, product, embed, stateOf, EachPart, Within, Reached, MadeOf, Series, over, next}
 use Rattle.iosa.specs.TimedExactly.{Ready, Fires}

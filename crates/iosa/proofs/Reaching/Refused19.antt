@@ -11,8 +11,8 @@ use Rattle.laws.specs.Search.{mapSome}
 use Rattle.laws.proofs.SearchLaws.{no-some, map-none, map-some}
 use Rattle.laws.proofs.TestLaws.{apart-cases}
 use Rattle.answer.specs.Told.{Told, tell}
-use Rattle.iosa.specs.Model.{Comp, Model, compAt}
-use Rattle.iosa.specs.WellFormed.{WellComp}
+use Rattle.model.specs.Model.{Comp, Model, compAt}
+use Rattle.model.specs.WellFormed.{WellComp}
 use Rattle.iosa.specs.Automaton.{autoOf, Reachable}
 use Rattle.iosa.specs.Product.{EachPart, Within, Reached}
 use Rattle.iosa.specs.Checks.{reachOf}

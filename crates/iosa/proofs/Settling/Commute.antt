@@ -3,8 +3,8 @@ use mathlib.Core.Path.{_≡_, sym, _∙_}
 use mathlib.Core.Option.{some}
 use mathlib.Core.List.{List, _∷_}
 use Prim.Native.Nat.{ℕ}
-use Rattle.iosa.specs.Model.{Comp}
-use Rattle.iosa.specs.WellFormed.{WellFormed}
+use Rattle.model.specs.Model.{Comp}
+use Rattle.model.specs.WellFormed.{WellFormed}
 use Rattle.iosa.specs.Automaton.{Confluent, Conforming, Joinable}
 use Rattle.iosa.specs.Product.{product, stateOf, Within}
 use Rattle.iosa.specs.Step.{urgentStep, RowStep}

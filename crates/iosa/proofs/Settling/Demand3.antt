@@ -9,8 +9,8 @@ use native.Mathlib.Omega.{arith}
 use native.Mathlib.Decide.{decLt}
 use lib.ListN.{length}
 use Rattle.laws.proofs.SearchLaws.{no-some}
-use Rattle.iosa.specs.Model.{Comp}
-use Rattle.iosa.specs.WellFormed.{WellFormed}
+use Rattle.model.specs.Model.{Comp}
+use Rattle.model.specs.WellFormed.{WellFormed}
 use Rattle.iosa.specs.Automaton.{Conforming, Joinable, Stable, ReachedIn, AllConfluent}
 use Rattle.iosa.specs.Product.{product, stateOf, Within, Reached, MadeOf, Series}
 use Rattle.iosa.specs.Checks.{confluentOf}

@@ -4,7 +4,7 @@ use mathlib.Core.List.{[], _∷_}
 use Prim.Native.Nat.{ℕ, zero, suc, _<_}
 use native.Mathlib.Omega.{arith}
 use lib.ListN.{length}
-use Rattle.iosa.specs.Model.{Comp, Model, compAt}
+use Rattle.model.specs.Model.{Comp, Model, compAt}
 
 -- P holds of every component
 abbrev pub All : (Comp → Type 0) → Model → Type 0

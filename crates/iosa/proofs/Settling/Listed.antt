@@ -10,8 +10,8 @@ use lib.ListN.{length}
 use Rattle.laws.specs.Sets.{_∪_}
 use Rattle.laws.proofs.SearchLaws.{no-some}
 use Rattle.answer.specs.Told.{Told, tell, Answer, answered, refused}
-use Rattle.iosa.specs.Model.{Comp, Model}
-use Rattle.iosa.specs.WellFormed.{WellFormed}
+use Rattle.model.specs.Model.{Comp, Model}
+use Rattle.model.specs.WellFormed.{WellFormed}
 use Rattle.iosa.specs.Automaton.{Conforming, Joinable}
 use Rattle.iosa.specs.Product.{product, stateOf, Within}
 use Rattle.iosa.specs.Step.{urgentStep, isStable}

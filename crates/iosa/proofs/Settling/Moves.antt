@@ -6,8 +6,8 @@ use mathlib.Core.List.{List, [], _∷_}
 use Prim.Native.Nat.{ℕ, _<_}
 use Rattle.laws.specs.Sets.{has, _∪_, _∈_}
 use Rattle.laws.proofs.SearchLaws.{no-some}
-use Rattle.iosa.specs.Model.{Row, Comp, Model, acts}
-use Rattle.iosa.specs.WellFormed.{WellComp}
+use Rattle.model.specs.Model.{Row, Comp, Model, acts}
+use Rattle.model.specs.WellFormed.{WellComp}
 use Rattle.iosa.specs.Automaton.{autoOf}
 use Rattle.iosa.specs.Product.{Within}
 use Rattle.iosa.specs.Checks.{rowFor, unclocked}

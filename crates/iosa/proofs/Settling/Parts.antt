@@ -9,7 +9,7 @@ use lib.ListN.{length}
 use lib.Bits.{or-zero-r}
 use Rattle.laws.specs.Sets.{has, _∪_, _∈_}
 use Rattle.laws.proofs.SetLaws.{or-assoc, has-or, has-without, has-ext, or-in-l, or-in-r, in-or, not-or, or-not}
-use Rattle.iosa.specs.Model.{Comp, Model, acts}
+use Rattle.model.specs.Model.{Comp, Model, acts}
 use Rattle.iosa.specs.Automaton.{Automaton, alphabet, autoOf}
 use Rattle.iosa.specs.Product.{Joint, R1, R2, R3, _⊗_, productFrom, product, embed, stateOf, Within}
 use Rattle.iosa.specs.Parts.{Go, goes, sits-out, GoAll, end, and}

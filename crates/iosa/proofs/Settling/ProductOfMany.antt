@@ -5,8 +5,8 @@ use mathlib.Core.List.{List, [], _∷_}
 use Prim.Native.Nat.{ℕ, suc}
 use native.Mathlib.Omega.{arith}
 use Rattle.laws.proofs.SetLaws.{or-in-l, or-in-r, in-or}
-use Rattle.iosa.specs.Model.{Comp, Model}
-use Rattle.iosa.specs.WellFormed.{WellComp, WellFormed}
+use Rattle.model.specs.Model.{Comp, Model}
+use Rattle.model.specs.WellFormed.{WellComp, WellFormed}
 use Rattle.iosa.specs.Automaton.{Automaton, alphabet, autoOf, Conditions, Compatible, Conforming, Joinable}
 use Rattle.iosa.specs.Product.{_⊗_, productFrom, product, embed, stateOf, Within}
 use Rattle.iosa.proofs.Settling.Each.{All, each-all}

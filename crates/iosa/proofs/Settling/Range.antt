@@ -8,7 +8,7 @@ use lib.ListN.{length}
 use lib.Dec.{ltb}
 use borrow.Author.Tests.{ltb-true, lt-ltb}
 use Rattle.laws.proofs.TestLaws.{and-true, not-so}
-use Rattle.iosa.specs.Model.{Model}
+use Rattle.model.specs.Model.{Model}
 use Rattle.iosa.specs.Product.{Within}
 use Rattle.iosa.specs.Step.{inRange}
 use Rattle.iosa.proofs.Settling.Parts.{within-length}

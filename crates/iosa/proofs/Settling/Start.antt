@@ -7,8 +7,8 @@ use lib.ListN.{length, getD}
 use lib.Bits.{or-zero-r}
 use Rattle.laws.specs.Sets.{_∪_}
 use Rattle.laws.proofs.SetLaws.{or-assoc}
-use Rattle.iosa.specs.Model.{Comp, Model, compAt}
-use Rattle.iosa.specs.WellFormed.{WellComp, WellFormed}
+use Rattle.model.specs.Model.{Comp, Model, compAt}
+use Rattle.model.specs.WellFormed.{WellComp, WellFormed}
 use Rattle.iosa.specs.Automaton.{Automaton, autoOf}
 use Rattle.iosa.specs.Product.{_⊗_, productFrom, product, embed, stateOf, Within}
 use Rattle.iosa.specs.Start.{startAll, startedAll, Beginning, startOf, StartOf}

@@ -9,8 +9,8 @@ use Rattle.laws.specs.Search.{orElse}
 use Rattle.laws.proofs.SearchLaws.{no-some, some-seek, none-seek, or-else-none}
 use Rattle.answer.specs.Limits.{maxActions}
 use Rattle.answer.specs.Told.{Told, tell, answered, refused}
-use Rattle.iosa.specs.Model.{Comp, Model}
-use Rattle.iosa.specs.WellFormed.{WellFormed}
+use Rattle.model.specs.Model.{Comp, Model}
+use Rattle.model.specs.WellFormed.{WellFormed}
 use Rattle.iosa.specs.Automaton.{Conforming, Joinable, UrgentRow}
 use Rattle.iosa.specs.Product.{product, stateOf, Within}
 use Rattle.iosa.specs.Checks.{acceptOf}

@@ -12,8 +12,8 @@ use Rattle.laws.specs.Sets.{_∈_}
 use Rattle.laws.specs.Search.{isSome}
 use Rattle.laws.proofs.SetLaws.{or-in-r}
 use Rattle.laws.proofs.SearchLaws.{no-some}
-use Rattle.iosa.specs.Model.{Comp, Model, inputs, outputs}
-use Rattle.iosa.specs.WellFormed.{WellComp, WellFormed}
+use Rattle.model.specs.Model.{Comp, Model, inputs, outputs}
+use Rattle.model.specs.WellFormed.{WellComp, WellFormed}
 use Rattle.iosa.specs.Automaton.{Automaton, alphabet, autoOf, UrgentRow, Stable, Conforming, Joinable, Conditions}
 use Rattle.iosa.specs.Product.{_⊗_, product, embed, stateOf, Within, OneList}
 use Rattle.iosa.specs.Step.{RowStep, Went, moveAll, isUout, urgentStep, lowest, isStable}

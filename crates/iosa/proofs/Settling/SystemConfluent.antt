@@ -3,8 +3,8 @@ use mathlib.Core.Path.{refl}
 use mathlib.Core.List.{List, [], _∷_}
 use Prim.Native.Nat.{ℕ, _<_}
 use Rattle.laws.specs.Sets.{_∈_}
-use Rattle.iosa.specs.Model.{Comp, Model, acts, urgents}
-use Rattle.iosa.specs.WellFormed.{WellComp, WellFormed}
+use Rattle.model.specs.Model.{Comp, Model, acts, urgents}
+use Rattle.model.specs.WellFormed.{WellComp, WellFormed}
 use Rattle.iosa.specs.Automaton.{Automaton, autoOf, ReachedIn, MeetsAt, ConfluentFor, Confluent, Joinable, AllConfluent, Meets}
 use Rattle.iosa.specs.Product.{_⊗_, productFrom, product, embed, stateOf, EachPart, MadeOf}
 use Rattle.iosa.proofs.Settling.Each.{All, each-all, all-map, all-zip}

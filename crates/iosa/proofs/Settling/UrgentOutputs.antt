@@ -8,8 +8,8 @@ use Rattle.laws.specs.Sets.{has, _∈_}
 use Rattle.laws.proofs.SetLaws.{or-in-r, in-or, or-cases, in-below}
 use Rattle.laws.proofs.TestLaws.{or-true}
 use Rattle.answer.specs.Limits.{maxActions}
-use Rattle.iosa.specs.Model.{Comp, Model, inputs, outputs, urgents, acts}
-use Rattle.iosa.specs.WellFormed.{WellComp}
+use Rattle.model.specs.Model.{Comp, Model, inputs, outputs, urgents, acts}
+use Rattle.model.specs.WellFormed.{WellComp}
 use Rattle.iosa.specs.Automaton.{autoOf}
 use Rattle.iosa.specs.Product.{product}
 use Rattle.iosa.specs.Step.{isUout}

@@ -14,9 +14,9 @@ use Rattle.laws.proofs.SetLaws.{within-true, and-in, none-in}
 use Rattle.laws.proofs.FoldLaws.{all-true}
 use Rattle.laws.proofs.TestLaws.{test-at}
 use Rattle.answer.specs.Limits.{maxComponents, maxRows, maxStates, maxActions, maxClocks, maxBytes}
-use Rattle.iosa.specs.Model.{Row, Comp, Model, rowAt, compAt, acts, guardSet, rowCount}
-use Rattle.iosa.specs.Text.{textOf}
-use Rattle.iosa.specs.WellFormed.{WellRow, WellComp, WellFormed, before}
+use Rattle.model.specs.Model.{Row, Comp, Model, rowAt, compAt, acts, guardSet, rowCount}
+use Rattle.model.specs.Text.{textOf}
+use Rattle.model.specs.WellFormed.{WellRow, WellComp, WellFormed, before}
 
 unfoldable pub wellRow : Comp → Row → Bool
 wellRow c r = allOf (

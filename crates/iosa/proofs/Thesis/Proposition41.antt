@@ -8,8 +8,8 @@ use Prim.Native.Nat.{ℕ, _<_}
 use lib.ListN.{length}
 use Rattle.laws.specs.Sets.{_∪_, _⊆_, Apart}
 use Rattle.laws.proofs.SetLaws.{in-or, or-in-l, or-in-r, in-without}
-use Rattle.iosa.specs.Model.{Comp, Model, compAt, inputs, outputs}
-use Rattle.iosa.specs.WellFormed.{WellComp, WellFormed}
+use Rattle.model.specs.Model.{Comp, Model, compAt, inputs, outputs}
+use Rattle.model.specs.WellFormed.{WellComp, WellFormed}
 use Rattle.iosa.specs.Automaton.{Automaton, alphabet, autoOf, Conditions, Compatible, Conforming, Joinable}
 use Rattle.iosa.specs.Product.{_⊗_, productFrom, product}
 use Rattle.iosa.specs.Thesis.{Structure, Definition41, HouseRule, AllDefinition41, OwnNames}

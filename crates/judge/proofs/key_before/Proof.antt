@@ -1,6 +1,6 @@
 -- `judge::key_before` meets its contract: the first number that differs decides.
 use mathlib.Core.Path.{_≡_, sym, _∙_}
-use Rattle.iosa.specs.WellFormed.{before}
+use Rattle.model.specs.WellFormed.{before}
 use Rattle.judge.specs.Judged.{keyBefore}
 use Rattle.iosa.proofs.Acceptance.Order.{lower-same, lower-here, lower-last}
 use Rattle.judge.proofs.key_before.Statement.{statement}

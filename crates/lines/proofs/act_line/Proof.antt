@@ -2,7 +2,7 @@
 use mathlib.Core.Path.{sym, _∙_, ap}
 use lib.ListN.{drop}
 use denote.Ref.{now}
-use Rattle.iosa.specs.Reading.{kind, act-entry, actEntry}
+use Rattle.model.specs.Reading.{kind, act-entry, actEntry}
 use Rattle.fields.specs.Fields.{gotNumber, gotKind}
 use Rattle.lines.specs.declared.Line.the-variants.{Act}
 use Rattle.lines.proofs.LineLaws.{two-no-1, two-no-2, two-are, kind-back}

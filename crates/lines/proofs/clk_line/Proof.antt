@@ -2,7 +2,7 @@
 use mathlib.Core.Path.{refl, sym, _∙_, ap}
 use lib.ListN.{drop}
 use denote.Ref.{now}
-use Rattle.iosa.specs.Reading.{number, clk-entry, clkEntry}
+use Rattle.model.specs.Reading.{number, clk-entry, clkEntry}
 use Rattle.fields.specs.Fields.{gotNumber}
 use Rattle.lines.proofs.LineLaws.{two-no-1, two-no-2, two-are}
 use borrow.Author.Needs.{needs}

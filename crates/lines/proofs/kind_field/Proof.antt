@@ -2,8 +2,8 @@
 use mathlib.Core.Path.{sym, _∙_, ap}
 use lib.ListN.{drop}
 use denote.Ref.{now}
-use Rattle.iosa.specs.Text.{tab}
-use Rattle.iosa.specs.Reading.{kind}
+use Rattle.model.specs.Text.{tab}
+use Rattle.model.specs.Reading.{kind}
 use Rattle.fields.specs.Fields.{past}
 use Rattle.fields.proofs.ScanLaws.{then-stops, then-is}
 use Rattle.lines.proofs.LineLaws.{byte-stops}

@@ -4,8 +4,8 @@ use mathlib.Core.List.{List}
 use Prim.Native.Nat.{ℕ}
 use lib.ListN.{drop}
 use denote.Ref.{now}
-use Rattle.iosa.specs.Text.{compWord, actWord, clkWord, rowWord}
-use Rattle.iosa.specs.Reading.{stops, exactly}
+use Rattle.model.specs.Text.{compWord, actWord, clkWord, rowWord}
+use Rattle.model.specs.Reading.{stops, exactly}
 use Rattle.fields.specs.Fields.{past}
 use Rattle.fields.specs.Resets.{valued}
 use Rattle.lines.specs.Lines.{lineOf}

@@ -2,8 +2,8 @@
 use mathlib.Core.Path.{sym, _∙_, ap}
 use lib.ListN.{drop}
 use denote.Ref.{now}
-use Rattle.iosa.specs.Text.{lf}
-use Rattle.iosa.specs.Reading.{got}
+use Rattle.model.specs.Text.{lf}
+use Rattle.model.specs.Reading.{got}
 use Rattle.fields.specs.Fields.{past}
 use Rattle.fields.proofs.ScanLaws.{then-stops, then-is}
 use Rattle.lines.proofs.LineLaws.{byte-stops}

@@ -2,7 +2,7 @@
 use mathlib.Core.Path.{_∙_, ap}
 use lib.ListN.{drop}
 use denote.Ref.{now}
-use Rattle.iosa.specs.Reading.{shorter}
+use Rattle.model.specs.Reading.{shorter}
 use Rattle.lines.proofs.LineLaws.{no-word}
 use borrow.Author.Needs.{needs}
 use Rattle.lines.proofs.no_word.Statement.{statement}

@@ -2,8 +2,8 @@
 use mathlib.Core.Path.{sym, _∙_, ap}
 use lib.ListN.{drop}
 use denote.Ref.{now}
-use Rattle.iosa.specs.Text.{tab}
-use Rattle.iosa.specs.Reading.{numbersOrDash}
+use Rattle.model.specs.Text.{tab}
+use Rattle.model.specs.Reading.{numbersOrDash}
 use Rattle.fields.specs.Fields.{past}
 use Rattle.fields.specs.Resets.{valued, summary}
 use Rattle.fields.proofs.ScanLaws.{then-stops, then-is}

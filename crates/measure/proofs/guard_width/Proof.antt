@@ -1,6 +1,6 @@
 use mathlib.Core.Path.{sym, ap, _∙_}
 use lib.ListN.{length}
-use Rattle.iosa.specs.Text.{guardField}
+use Rattle.model.specs.Text.{guardField}
 use Rattle.measure.proofs.Fields.{guard-clock}
 -- `measure::guard_width`: `-`, or the clock.
 use native.Mathlib.Omega.{arith}

@@ -5,7 +5,7 @@ use native.Mathlib.Omega.{arith}
 use borrow.Author.Needs.{needs}
 use lib.ListN.{length}
 use Rattle.laws.specs.Fold.{tab}
-use Rattle.iosa.specs.Text.{rowLines}
+use Rattle.model.specs.Text.{rowLines}
 use Rattle.layout.specs.Image.{rowIn}
 use Rattle.measure.proofs.Lines.{rows-next, rows-done, range-most}
 use Rattle.measure.proofs.rows_width.Statement.{statement}

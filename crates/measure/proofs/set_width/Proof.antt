@@ -1,6 +1,6 @@
 use mathlib.Core.Path.{sym, ap}
 use lib.ListN.{length}
-use Rattle.iosa.specs.Text.{setField}
+use Rattle.model.specs.Text.{setField}
 -- `measure::set_width`: the members with a comma each, but the first.
 use native.Mathlib.Omega.{arith}
 use Rattle.measure.proofs.Fields.{set-width}

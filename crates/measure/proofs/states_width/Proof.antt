@@ -5,7 +5,7 @@ use Prim.Native.Nat.{ℕ, _+_, _-_, _<_}
 use native.Mathlib.Omega.{arith}
 use lib.ListN.{length}
 use Rattle.laws.specs.Fold.{tab, spread}
-use Rattle.iosa.specs.Text.{rowLines}
+use Rattle.model.specs.Text.{rowLines}
 use Rattle.layout.specs.Layout.{firstOf}
 use Rattle.layout.specs.Image.{rowsLeaving, rowIn, compOf}
 use Rattle.measure.proofs.Lines.{rows-most, ranges-next, ranges-done}

@@ -4,7 +4,7 @@ use Prim.Native.Nat.{_+_, _-_}
 use native.Mathlib.Omega.{arith}
 use lib.ListN.{length}
 use Rattle.laws.specs.Fold.{tab}
-use Rattle.iosa.specs.Text.{textOf}
+use Rattle.model.specs.Text.{textOf}
 use Rattle.layout.specs.Image.{compOf, modelOf}
 use Rattle.measure.proofs.Lines.{comps-next, comps-done}
 use Rattle.measure.proofs.Bounds.{text-most, all-comps}

@@ -1,6 +1,6 @@
 -- `mend::filled`: what is printed stands at the front.
 use native.Mathlib.Omega.{arith}
-use Rattle.mend.proofs.Printing.{is-filled}
+use Rattle.printout.proofs.Printing.{is-filled}
 use borrow.Author.Needs.{needs}
 use Rattle.mend.proofs.filled.Statement.{statement}
 use Rattle.mend.proofs.filled.Tie as tie

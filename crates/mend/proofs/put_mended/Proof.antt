@@ -4,10 +4,10 @@ use Prim.Native.Nat.{ℕ}
 use native.Mathlib.Omega.{arith}
 use lib.ListN.{length-replicate}
 use Rattle.layout.specs.Layout.{imageWords}
-use Rattle.steplines.proofs.Most.{refused-most}
 use Rattle.report.proofs.AfterRead.{fine-read, refused-read}
-use Rattle.mend.specs.Printed.{repairedText}
-use Rattle.mend.proofs.Printing.{printed-line, as-printed, read-refused, read-fine}
+use Rattle.printout.proofs.Printing.{printed-line, as-printed}
+use Rattle.mend.specs.Mended.{repairedText}
+use Rattle.mend.proofs.Mending.{read-refused, read-fine}
 use borrow.Author.Needs.{needs}
 use Rattle.mend.proofs.put_mended.Statement.{statement}
 use Rattle.mend.proofs.put_mended.Tie as tie
@@ -21,12 +21,8 @@ read-requires c κs = search needs
 enum-known-checked : tie.Need-enum-known-checked
 enum-known-checked c = search needs
 
-put-refused-requires : tie.Need-put-refused-requires
-put-refused-requires c κs = omega (
-  arith,
-  refused-most (c .before .before .checked .given .0 .0),
-  c .before .before .before .before .before .before .before .before .before .pre,
-)
+put-refusal-requires : tie.Need-put-refusal-requires
+put-refusal-requires c κs = let r = c .before .before .before .before .before in r .before .before .before .before .pre
 
 enum-told : tie.Need-enum-told
 enum-told c = search needs
@@ -50,7 +46,7 @@ returns c =
     let r = w .before .before .before in
     let f = w .checked .given .0 .0 in
     let p = refused-read _ _ _ _ (r .read .ensures) (omega (arith, length-replicate {A = ℕ} imageWords 0)) f (w .checked .given .1) in
-    printed-line f (p .0) _ (p .2) (read-refused _ (p .0) (p .1)) (r .before .before .before .before .pre) (c .before .before .put-refused .ensures)
+    printed-line f (p .0) _ (p .2) (read-refused _ (p .0) (p .1)) (c .before .before .put-refusal .ensures)
 
 same-length-2 : tie.Need-same-length-2
 same-length-2 c = search needs
@@ -64,5 +60,5 @@ returns-2 c =
 
 pub put-mended-spec : {M : Type 1} → statement M
 put-mended-spec = tie.close
-    (tie.spec slice-aggregate-read read-requires enum-known-checked put-refused-requires enum-told slice-aggregate-put-repaired
+    (tie.spec slice-aggregate-read read-requires enum-known-checked put-refusal-requires enum-told slice-aggregate-put-repaired
     put-repaired-requires same-length returns same-length-2 returns-2)

@@ -1,9 +1,7 @@
 -- `mend::put_repaired`: the text of the table after the call, or its refusal.
-use native.Mathlib.Omega.{arith}
-use denote.Ref.{now}
-use Rattle.layout.proofs.ImageIsSane.{image-is-sane}
-use Rattle.steplines.proofs.Most.{refused-most}
-use Rattle.mend.proofs.Printing.{repair-fine, repair-refused, printed-line, printed-text, text-room}
+use mathlib.Core.Path.{sym}
+use Rattle.printout.proofs.Printing.{printed-line, as-printed}
+use Rattle.mend.proofs.Mending.{repair-fine, repair-refused}
 use borrow.Author.Needs.{needs}
 use Rattle.mend.proofs.put_repaired.Statement.{statement}
 use Rattle.mend.proofs.put_repaired.Tie as tie
@@ -20,23 +18,21 @@ repair-requires c κs = search needs
 enum-known-written : tie.Need-enum-known-written
 enum-known-written c = search needs
 
-put-refused-requires : tie.Need-put-refused-requires
-put-refused-requires c κs = omega (
-  arith,
-  refused-most (c .before .before .written .given .0 .0),
-  c .before .before .before .before .before .before .before .before .before .before .before .before .before .pre .1,
-)
+put-refusal-requires : tie.Need-put-refusal-requires
+put-refusal-requires c κs =
+    let r = c .before .before .before .before .before .before .before in
+    r .before .before .before .before .before .before .pre .1
 
 enum-told : tie.Need-enum-told
 enum-told c = search needs
 
-write-text-requires : tie.Need-write-text-requires
-write-text-requires c κs =
+put-model-requires : tie.Need-put-model-requires
+put-model-requires c κs =
     let r = c .before .before .before .before .before .before .before in
     let l = r .before .before .before in
     let s = l .before .before .before in
     let p = repair-fine _ _ _ _ (s .pre .0) (l .empty-list .ensures) _ _ (c .before .before .enum-told .given .1) (r .repair .ensures) in
-    (image-is-sane _ (p .0), text-room (now (s .args .out)) _ (p .0) (s .pre .1))
+    (p .0, s .pre .1)
 
 same-length : tie.Need-same-length
 same-length c = search needs
@@ -52,7 +48,7 @@ returns c =
     let s = l .before .before .before in
     let f = w .written .given .0 .0 in
     let p = repair-refused _ _ _ _ (s .pre .0) (l .empty-list .ensures) _ f (w .written .given .1) (r .repair .ensures) in
-    printed-line f (p .0) _ (p .1) (p .2) (s .pre .1) (c .before .before .put-refused .ensures)
+    printed-line f (p .0) _ (p .1) (p .2) (c .before .before .put-refusal .ensures)
 
 same-length-3 : tie.Need-same-length-3
 same-length-3 c = search needs
@@ -67,9 +63,9 @@ returns-2 c =
     let l = r .before .before .before in
     let s = l .before .before .before in
     let p = repair-fine _ _ _ _ (s .pre .0) (l .empty-list .ensures) _ _ (w .enum-told .given .1) (r .repair .ensures) in
-    printed-text _ _ (p .0) (p .1) (s .pre .1) (c .before .before .write-text .ensures)
+    as-printed (sym (p .1)) (c .before .before .put-model .ensures)
 
 pub put-repaired-spec : {M : Type 1} → statement M
 put-repaired-spec = tie.close
-    (tie.spec empty-list-requires slice-aggregate-repair repair-requires enum-known-written put-refused-requires enum-told
-    write-text-requires same-length same-length-2 returns same-length-3 same-length-4 returns-2)
+    (tie.spec empty-list-requires slice-aggregate-repair repair-requires enum-known-written put-refusal-requires enum-told
+    put-model-requires same-length same-length-2 returns same-length-3 same-length-4 returns-2)

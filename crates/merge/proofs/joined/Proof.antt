@@ -6,7 +6,7 @@ use lib.ListN.{length}
 use lib.Seq.{sets}
 use borrow.Author.Tests.{not-true, not-false}
 use denote.Ref.{now}
-use Rattle.iosa.specs.Merge.{mergedAt}
+use Rattle.merged.specs.Merge.{mergedAt}
 use Rattle.layout.specs.Layout.{countOf, imageWords}
 use Rattle.layout.specs.Image.{imageOf, modelOf}
 use Rattle.layout.proofs.ImageIsSane.{image-is-sane}

@@ -10,7 +10,7 @@ use mathlib.Core.Option.{Option, some}
 use Rattle.laws.specs.Sets.{_∪_, _∖_}
 use Rattle.answer.specs.Told.{Told, tell, told}
 use Rattle.sets.specs.Members.{lowestOf}
-use Rattle.iosa.specs.Model.{inputs}
+use Rattle.model.specs.Model.{inputs}
 use Rattle.layout.specs.Image.{compOf}
 use Rattle.rows.proofs.Ready.{word-ready}
 use Rattle.parts.specs.Faults.{actionsIn}

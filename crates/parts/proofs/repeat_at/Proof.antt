@@ -13,7 +13,7 @@ use Rattle.laws.proofs.SearchLaws.{seek-here, seek-next, seek-end}
 use Rattle.laws.proofs.UnionLaws.{joinAll, over-last}
 use Rattle.laws.proofs.FoldLaws.{over-end}
 use Rattle.answer.specs.Told.{Told, tell, told}
-use Rattle.iosa.specs.Model.{guardSet}
+use Rattle.model.specs.Model.{guardSet}
 use Rattle.iosa.specs.Checks.{repeats}
 use Rattle.layout.specs.Layout.{firstOf, guardAt}
 use Rattle.layout.specs.Image.{compOf}

@@ -2,7 +2,7 @@
 use mathlib.Core.Path.{refl}
 use mathlib.Core.List.{[], _∷_}
 use denote.Ref.{now}
-use Rattle.iosa.specs.Text.{decimal}
+use Rattle.model.specs.Text.{decimal}
 use Rattle.print.proofs.LaidLaws.{left-all, left-as, left-next, left-last}
 use borrow.Author.Needs.{needs}
 use Rattle.print.proofs.put_behind.Statement.{statement}

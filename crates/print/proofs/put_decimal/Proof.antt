@@ -4,7 +4,7 @@ use mathlib.Core.List.{List, [], _∷_, _++_}
 use Prim.Native.Nat.{ℕ, _+_, _%_}
 use native.Mathlib.Omega.{arith}
 use denote.Ref.{now}
-use Rattle.iosa.specs.Text.{byte0, decimal}
+use Rattle.model.specs.Text.{byte0, decimal}
 use Rattle.print.specs.Put.{Room, Put, leading}
 use Rattle.print.proofs.LaidLaws.{Left, Next, left-all, left-as, left-room, left-next, left-last, last-room}
 use Rattle.print.proofs.PrintLaws.{decimal-parts}

@@ -7,7 +7,7 @@ use lib.ListN.{length}
 use denote.Ref.{now}
 use Rattle.laws.specs.Sets.{only, _∖_}
 use Rattle.sets.specs.Members.{wordBits, lowestOf}
-use Rattle.iosa.specs.Text.{comma, decimal, setField}
+use Rattle.model.specs.Text.{comma, decimal, setField}
 use Rattle.print.specs.Put.{Room, Put}
 use Rattle.print.proofs.LaidLaws.{Left, Next, left-all, left-as, left-room, left-next, left-none, left-last, last-room, put-as}
 use Rattle.print.proofs.PrintLaws.{no-set, clocksIn, each, lowest-below, set-parts, each-parts, fewer, none-left}

@@ -7,7 +7,7 @@ use lib.ListN.{length, getD}
 use denote.Ref.{now}
 use Rattle.answer.specs.declared.State.{State}
 use Rattle.answer.specs.State.{numbersFrom, partsOf}
-use Rattle.iosa.specs.Text.{comma, decimal, joined}
+use Rattle.model.specs.Text.{comma, decimal, joined}
 use Rattle.print.specs.Put.{Room}
 use Rattle.print.proofs.LaidLaws.{Left, Next, left-all, left-as, left-room, left-next, left-none, left-last, last-room, put-as, nothing-put}
 use Rattle.print.proofs.PrintLaws.{each, no-parts, joined-parts, numbers-next, numbers-done}

@@ -8,9 +8,9 @@ use borrow.Author.Needs.{needs}
 use borrow.Author.Tests.{not-true, not-false}
 use denote.Ref.{now}
 use Rattle.answer.specs.State.{partsOf}
-use Rattle.iosa.specs.Reading.{readOf}
+use Rattle.model.specs.Reading.{readOf}
 use Rattle.iosa.specs.Settle.{settleOf}
-use Rattle.iosa.specs.Report.{requestOf, answerLines}
+use Rattle.answering.specs.Report.{requestOf, answerLines}
 use Rattle.request.specs.Kept.{keep}
 use Rattle.request.proofs.LineLaws.{missing-asked, found-asked, kept-none, kept-some}
 use Rattle.tell.proofs.TellLaws.{put-as, told-text}

@@ -2,8 +2,8 @@
 use mathlib.Core.Path.{_≡_, sym, _∙_, ap}
 use lib.ListN.{drop, length}
 use denote.Ref.{now}
-use Rattle.iosa.specs.Text.{tab}
-use Rattle.iosa.specs.Reading.{theByte, moreNumbers}
+use Rattle.model.specs.Text.{tab}
+use Rattle.model.specs.Reading.{theByte, moreNumbers}
 use Rattle.fields.specs.Fields.{gotNumber}
 use Rattle.fields.specs.Resets.{valued}
 use Rattle.request.specs.Kept.{with, withAll, heard}

@@ -3,7 +3,7 @@ use mathlib.Core.Path.{_≡_, sym, _∙_, ap}
 use lib.ListN.{drop, length}
 use denote.Ref.{now}
 use borrow.Author.Tests.{not-true, not-false}
-use Rattle.iosa.specs.Reading.{field, numbers}
+use Rattle.model.specs.Reading.{field, numbers}
 use Rattle.fields.specs.Fields.{past, gotNumber}
 use Rattle.fields.specs.Resets.{valued}
 use Rattle.lines.proofs.LineLaws.{valued-stops, valued-is}

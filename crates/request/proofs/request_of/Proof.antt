@@ -4,7 +4,7 @@ use lib.ListN.{drop, length}
 use denote.Ref.{now}
 use native.Mathlib.Omega.{arith}
 use borrow.Author.Tests.{not-true, not-false}
-use Rattle.iosa.specs.Report.{requestLine}
+use Rattle.answering.specs.Report.{requestLine}
 use Rattle.fields.specs.Resets.{valued}
 use Rattle.lines.proofs.LineLaws.{valued-stops, valued-is}
 use Rattle.request.specs.Kept.{Kept, keep, there, kept, asked, lessOf}

@@ -7,7 +7,7 @@ use borrow.Author.Needs.{needs}
 use borrow.Author.Tests.{not-true, not-false}
 use lib.ListN.{getD, drop}
 use denote.Ref.{now}
-use Rattle.iosa.specs.Reading.{isDigit}
+use Rattle.model.specs.Reading.{isDigit}
 use Rattle.fields.proofs.ScanLaws.{is-digit}
 use Rattle.samples.specs.Lines.{gotTicks}
 use Rattle.samples.proofs.SampleLaws.{sample-end, sample-not, sample-nought, sample-on}

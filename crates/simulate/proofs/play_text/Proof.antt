@@ -2,7 +2,7 @@
 use mathlib.Core.Path.{refl, subst}
 use borrow.Author.Needs.{needs}
 use denote.Ref.{now}
-use Rattle.iosa.specs.Model.{declared}
+use Rattle.model.specs.Model.{declared}
 use Rattle.layout.specs.Image.{modelOf}
 use Rattle.samples.specs.Text.{Scans}
 use Rattle.simulation.specs.Samples.{samplesOf}

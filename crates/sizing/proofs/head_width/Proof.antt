@@ -1,7 +1,7 @@
 -- `sizing::head_width`: the product's numbers and sets.
 use mathlib.Core.Path.{_≡_, _∙_, ap}
 use lib.ListN.{length}
-use Rattle.iosa.specs.Text.{compText}
+use Rattle.model.specs.Text.{compText}
 use Rattle.measure.specs.Measure.{bare}
 use Rattle.merging.specs.declared.Head.{Head}
 use Rattle.merging.specs.Heads.{asHead}

@@ -8,7 +8,7 @@ use lib.ListN.{length, drop, length-drop}
 use denote.Ref.{now}
 use Rattle.answer.specs.declared.Checked.the-variants.{Refused}
 use Rattle.answer.specs.Told.{tell, refused, saysChecked}
-use Rattle.iosa.specs.Reading.{got, Progress, current, entry, linesFrom, atStart}
+use Rattle.model.specs.Reading.{got, Progress, current, entry, linesFrom, atStart}
 use Rattle.fields.specs.Resets.{valued}
 use Rattle.lines.specs.Lines.{lineOf, gotLine}
 use Rattle.lines.specs.declared.Line.{Line}

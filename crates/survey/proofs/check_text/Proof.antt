@@ -3,8 +3,8 @@ use mathlib.Core.Path.{sym, _∙_, ap}
 use mathlib.Core.Option.{some}
 use denote.Ref.{now}
 use Rattle.answer.specs.Told.{doneOf}
-use Rattle.iosa.specs.Reading.{readOf}
-use Rattle.iosa.proofs.Reading.Faults.{too-long-exactly, read-short}
+use Rattle.model.specs.Reading.{readOf}
+use Rattle.model.proofs.Reading.Faults.{too-long-exactly, read-short}
 use Rattle.survey.proofs.Turns.{says-long}
 use borrow.Author.Needs.{needs}
 use Rattle.survey.proofs.check_text.Statement.{statement}

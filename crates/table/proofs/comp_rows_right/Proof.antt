@@ -5,7 +5,7 @@ use Prim.Native.Nat.{ℕ}
 use native.Mathlib.Omega.{arith}
 use Rattle.laws.specs.Fold.{all}
 use Rattle.laws.proofs.TestLaws.{both-no, both-go}
-use Rattle.iosa.specs.Model.{acts}
+use Rattle.model.specs.Model.{acts}
 use Rattle.layout.specs.Layout.{blockWord, firstOf}
 use Rattle.layout.specs.Image.{compOf}
 use Rattle.table.specs.Rows.{rowRight, compRowsRight}

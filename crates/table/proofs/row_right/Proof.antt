@@ -4,7 +4,7 @@ use native.Mathlib.Omega.{arith}
 use lib.Dec.{ltb}
 use Rattle.laws.specs.Sets.{has, within}
 use Rattle.laws.proofs.TestLaws.{both-no}
-use Rattle.iosa.specs.Model.{guardSet}
+use Rattle.model.specs.Model.{guardSet}
 use Rattle.layout.specs.Layout.{actionAt}
 use Rattle.table.specs.Rows.{rowRight}
 use Rattle.table.proofs.RowTests.{has-beyond}

@@ -2,7 +2,7 @@
 use mathlib.Core.List.{_∷_, _++_}
 use denote.Ref.{now}
 use Rattle.answer.specs.State.{partsOf}
-use Rattle.iosa.specs.Text.{tab, decimal}
+use Rattle.model.specs.Text.{tab, decimal}
 use Rattle.tell.specs.Tell.{tailOf, verdictWord, endsWith}
 use Rattle.print.proofs.LaidLaws.{left-last, last-room}
 use Rattle.tell.proofs.TellLaws.{last-parts, left-parts, part-room, part-put}

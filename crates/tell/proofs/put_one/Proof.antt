@@ -2,7 +2,7 @@
 use mathlib.Core.Path.{refl}
 use mathlib.Core.List.{[], _++_}
 use denote.Ref.{now}
-use Rattle.iosa.specs.Text.{decimal}
+use Rattle.model.specs.Text.{decimal}
 use Rattle.print.proofs.LaidLaws.{left-none}
 use Rattle.tell.proofs.TellLaws.{one-part, left-parts, part-room, part-put}
 use borrow.Author.Needs.{needs}

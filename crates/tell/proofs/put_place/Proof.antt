@@ -4,7 +4,7 @@ use mathlib.Core.List.{List}
 use Prim.Native.Nat.{ℕ}
 use denote.Ref.{now}
 use Rattle.answer.specs.Told.{valuesAt}
-use Rattle.iosa.specs.Text.{joined}
+use Rattle.model.specs.Text.{joined}
 use Rattle.tell.proofs.TellLaws.{room-as, put-as}
 use Rattle.answer.specs.declared.Place.{Place}
 use borrow.Author.Needs.{needs}

@@ -3,8 +3,8 @@ use mathlib.Core.List.{[], _∷_, _++_}
 use native.Mathlib.Omega.{arith}
 use denote.Ref.{now}
 use Rattle.answer.specs.Told.{valuesAt}
-use Rattle.iosa.specs.Text.{tab, lf, decimal, joined}
-use Rattle.iosa.specs.Report.{refusedWord}
+use Rattle.model.specs.Text.{tab, lf, decimal, joined}
+use Rattle.answering.specs.Report.{refusedWord}
 use Rattle.print.proofs.LaidLaws.{left-last, last-room}
 use Rattle.tell.proofs.TellLaws.{refused-parts, left-parts, part-room, part-put}
 use borrow.Author.Needs.{needs}

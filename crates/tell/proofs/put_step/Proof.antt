@@ -2,8 +2,8 @@
 use mathlib.Core.List.{_∷_, _++_}
 use denote.Ref.{now}
 use Rattle.answer.specs.State.{partsOf}
-use Rattle.iosa.specs.Text.{tab, decimal}
-use Rattle.iosa.specs.Report.{stepWord}
+use Rattle.model.specs.Text.{tab, decimal}
+use Rattle.answering.specs.Report.{stepWord}
 use Rattle.tell.specs.Tell.{tailOf, goneWith}
 use Rattle.print.proofs.LaidLaws.{left-last, last-room}
 use Rattle.tell.proofs.TellLaws.{step-parts, left-parts, part-room, part-put}

@@ -3,7 +3,7 @@ use mathlib.Core.List.{[], _∷_, _++_}
 use native.Mathlib.Omega.{arith}
 use denote.Ref.{now}
 use Rattle.answer.specs.State.{partsOf}
-use Rattle.iosa.specs.Text.{tab, lf, joined, setField}
+use Rattle.model.specs.Text.{tab, lf, joined, setField}
 use Rattle.print.proofs.LaidLaws.{left-last, last-room}
 use Rattle.tell.proofs.TellLaws.{tail-parts, left-parts, part-room, part-put}
 use borrow.Author.Needs.{needs}

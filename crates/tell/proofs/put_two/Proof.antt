@@ -3,7 +3,7 @@ use mathlib.Core.Path.{refl}
 use mathlib.Core.List.{List, [], _∷_, _++_}
 use Prim.Native.Nat.{ℕ}
 use denote.Ref.{now}
-use Rattle.iosa.specs.Text.{comma, decimal}
+use Rattle.model.specs.Text.{comma, decimal}
 use Rattle.print.proofs.LaidLaws.{left-none}
 use Rattle.tell.proofs.TellLaws.{two-parts, left-parts, part-room, part-put}
 use borrow.Author.Needs.{needs}

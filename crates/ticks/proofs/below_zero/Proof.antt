@@ -7,7 +7,7 @@ use denote.Ref.{now}
 use Rattle.answer.specs.Limits.{maxClocks}
 use Rattle.laws.specs.Search.{seek, when, isSome, least}
 use Rattle.laws.proofs.SearchLaws.{seek-end}
-use Rattle.iosa.specs.Timed.{belowZero, check29}
+use Rattle.timing.specs.Timed.{belowZero, check29}
 use Rattle.ticks.specs.Ticks.{negative, byValue, orNone}
 use Rattle.ticks.proofs.ByValue.{value-here, value-next}
 use Rattle.ticks.proofs.below_zero.Statement.{statement}

@@ -8,9 +8,9 @@ use Rattle.laws.specs.Sets.{_∪_}
 use Rattle.laws.specs.Fold.{spread}
 use Rattle.laws.proofs.TabLaws.{spread-next, spread-done}
 use Rattle.answer.specs.Limits.{maxActions}
-use Rattle.iosa.specs.Text.{actPart}
+use Rattle.model.specs.Text.{actPart}
 use Rattle.layout.specs.Image.{compOf}
-use Rattle.iosa.specs.Model.{acts as actsOf}
+use Rattle.model.specs.Model.{acts as actsOf}
 use Rattle.measure.specs.Measure.{actLines}
 use borrow.Author.Needs.{needs}
 use Rattle.writing.proofs.put_acts.Statement.{statement}

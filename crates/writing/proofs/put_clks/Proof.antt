@@ -6,7 +6,7 @@ use Rattle.print.proofs.LaidLaws.{Left, left-all, left-as, left-room, left-next
 use Rattle.laws.specs.Fold.{spread}
 use Rattle.laws.proofs.TabLaws.{spread-next, spread-done}
 use Rattle.answer.specs.Limits.{maxClocks}
-use Rattle.iosa.specs.Text.{clkPart}
+use Rattle.model.specs.Text.{clkPart}
 use Rattle.layout.specs.Image.{compOf}
 use Rattle.measure.specs.Measure.{clkLines}
 use borrow.Author.Needs.{needs}

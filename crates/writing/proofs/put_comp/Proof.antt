@@ -5,8 +5,8 @@ use Prim.Native.Nat.{ℕ}
 use denote.Ref.{now}
 use Rattle.print.specs.Put.{Room, Put}
 use Rattle.print.proofs.LaidLaws.{Left, Next, left-all, left-as, left-room, left-next, left-last, last-room}
-use Rattle.iosa.specs.Model.{Comp}
-use Rattle.iosa.specs.Text.{compLine, rowLines, compText}
+use Rattle.model.specs.Model.{Comp}
+use Rattle.model.specs.Text.{compLine, rowLines, compText}
 use Rattle.layout.specs.Image.{compOf}
 use Rattle.measure.specs.Measure.{actLines, clkLines}
 use Rattle.writing.proofs.Parts.{comp-parts, put-length}

@@ -6,7 +6,7 @@ use native.Mathlib.Omega.{arith}
 use denote.Ref.{now}
 use Rattle.print.specs.Put.{Room, Put}
 use Rattle.print.proofs.LaidLaws.{Left, Next, left-all, left-as, left-room, left-next, left-last, last-room}
-use Rattle.iosa.specs.Text.{tab as tabByte, lf, rowWord, decimal, guardField, setField, rowLine}
+use Rattle.model.specs.Text.{tab as tabByte, lf, rowWord, decimal, guardField, setField, rowLine}
 use Rattle.layout.specs.Layout.{guardAt, actionAt, resetsAt, targetAt}
 use Rattle.layout.specs.Image.{rowIn}
 use Rattle.writing.proofs.Parts.{row-parts, put-length}

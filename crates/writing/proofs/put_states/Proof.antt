@@ -4,7 +4,7 @@ use native.Mathlib.Omega.{arith}
 use denote.Ref.{now}
 use Rattle.print.proofs.LaidLaws.{Left, left-all, left-as, left-room, left-next, left-none}
 use Rattle.laws.specs.Fold.{tab, spread}
-use Rattle.iosa.specs.Text.{rowLines}
+use Rattle.model.specs.Text.{rowLines}
 use Rattle.layout.specs.Image.{rowIn, rowsLeaving, compOf}
 use Rattle.writing.proofs.Parts.{left-is, states-all, states-next, states-done}
 use borrow.Author.Needs.{needs}

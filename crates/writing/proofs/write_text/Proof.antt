@@ -4,7 +4,7 @@ use native.Mathlib.Omega.{arith}
 use denote.Ref.{now}
 use Rattle.print.proofs.LaidLaws.{Left, left-all, left-as, left-room, left-next, left-none}
 use Rattle.laws.specs.Fold.{tab}
-use Rattle.iosa.specs.Text.{compText, textOf}
+use Rattle.model.specs.Text.{compText, textOf}
 use Rattle.layout.specs.Image.{compOf, modelOf}
 use Rattle.writing.proofs.Parts.{left-is, comps-all, comps-next, comps-done}
 use borrow.Author.Needs.{needs}

@@ -1,0 +1,5 @@
+pub mod Report
+pub mod Examples
+pub mod LooksRight
+pub mod Answers
+pub mod Printed

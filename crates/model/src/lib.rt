@@ -1,0 +1,1 @@
+// A model, its text and the reading of texts (paper 01, "The model text"): definitions in specs/, theorems in proofs/.

@@ -1,0 +1,2 @@
+pub mod ReadTreeCall
+pub mod TreeExactly

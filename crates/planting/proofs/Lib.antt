@@ -1,0 +1,3 @@
+pub mod PlantLaws
+pub mod FirstWords
+pub mod LineWalks

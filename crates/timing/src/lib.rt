@@ -1,0 +1,1 @@
+// The timed step as a value that computes (paper 01, "The timed step"): definitions in specs/, theorems in proofs/.

@@ -1,0 +1,3 @@
+pub mod SortLaws
+pub mod InputLaws
+pub mod ElementLaws

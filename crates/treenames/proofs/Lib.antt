@@ -1,0 +1,3 @@
+pub mod Passing
+pub mod NameLaws
+pub mod TreeLaws

@@ -1,0 +1,3 @@
+pub mod RowLaws
+pub mod ModuleLaws
+pub mod KindLaws

@@ -1,0 +1,9 @@
+pub mod Module
+pub mod Tree
+pub mod Modules
+pub mod TreeText
+pub mod Conditions
+pub mod ReadTree
+pub mod TreeFaults
+pub mod WorkedTrees
+pub mod TreeExamples

@@ -1,0 +1,5 @@
+pub mod InputLaws
+pub mod GatherLaws
+pub mod ConditionLaws
+pub mod CycleLaws
+pub mod PassLaws
