@@ -24,6 +24,8 @@ bool within(unsigned number, unsigned low, unsigned high) { return low <= number
 bool settles_either(const Call* call) { return call == &calls::settle_after || call == &calls::settle_list_after || call == &calls::simulate; }
 bool walks(const Call* call) { return call == &calls::settle_after || call == &calls::settle_list_after; }
 
+bool explains(const Call* call) { return call == &calls::explain || call == &calls::explain_table; }
+
 Model model_for(Random& random, const Aim& aim) {
   const unsigned number = number_of(aim);
   const auto size = drawing::size(random);
@@ -32,6 +34,8 @@ Model model_for(Random& random, const Aim& aim) {
     return number == 45 ? drawing::opened(random, closed) : drawing::turned(random, closed);
   }
   if (within(number, 10, 18)) return second::generate_failing(random, number, size);
+  if (explains(aim.call) && aim.outcome.compare(0, 5, "clash") == 0)
+    return random.chance(50) ? second::generate(random, Family::clashing, size) : second::generate_failing(random, 18, size);
   if (aim.call == &calls::repair && aim.outcome != "nothing")
     return number == 26 || random.chance(20) ? drawing::deaf_at_a_limit(random) : drawing::deaf(random, drawing::model(random));
   if (number == 26) return second::generate(random, second::families[random.below(9)], second::Size::large);
@@ -151,6 +155,12 @@ Loan loan_for(Random& random, const Aim& aim, const Drawn& drawn) {
   if (aim.call == &calls::report) {
     loan.bytes = input_for(random, aim, drawn);
     loan.out = Bytes(number == 24 ? FLOODNEEDLE_REPORT - 1 - random.below(9) : FLOODNEEDLE_REPORT + random.below(9), 0x77);
+    return loan;
+  }
+  if (explains(aim.call)) {
+    loan.bytes = drawing::bytes_of(within(number, 1, 8) ? text_for(random, number) : drawn.text);
+    loan.table = drawing::lengthened(random, number == 20 ? second::damaged_table(random, drawn.table) : drawn.table);
+    loan.out = drawing::noise_bytes(random, number == 24 ? FLOODNEEDLE_EXPLANATION - 1 - random.below(9) : FLOODNEEDLE_EXPLANATION + random.below(9));
     return loan;
   }
   loan.into = number == 24 ? drawing::noise(random, second::image_words - 1 - random.below(9)) : drawing::room(random);

@@ -170,6 +170,20 @@ Pair report(const Subject& s) {
           [whole] { second::report(lent(*whole)); }};
 }
 
+Pair explain_table(const Subject& s) {
+  static Bytes out(FLOODNEEDLE_EXPLANATION);
+  return {"explain_table", [&] { floodneedle_explain_table(words(s), s.table.size(), out.data(), out.size(), &lent_out.answer); },
+          [&] {
+            Bytes text(second::max_text);
+            text.resize(second::write(lent(s.table), {text.data(), text.size()}).length);
+            second::explain(lent(text));
+          }};
+}
+Pair explain(const Subject& s) {
+  static Bytes out(FLOODNEEDLE_EXPLANATION);
+  return {"explain", [&] { floodneedle_explain(s.text.data(), s.text.size(), out.data(), out.size(), &lent_out.answer); }, [&] { second::explain(lent(s.text)); }};
+}
+
 // ---- the tables
 
 void head(const char* title) {
@@ -351,6 +365,11 @@ int main(int count, char** arguments) {
   lines(walking, [](const Subject& s) { return settle_after("settle_after, no step", s, 0); });
   lines(walking, [](const Subject& s) { return settle_after("settle_after, 64 steps", s, 64); });
   lines(walking, [](const Subject& s) { return settle_after("settle_after, 4,096 steps", s, second::max_path); });
+
+  const std::vector<Subject> clashing = {paper_model(), in_turn(4), far_clash(8), far_clash(32), far_clash(128), many_components(32)};
+  head("Why a system isn't confluent: M, which is; listeners that clash at their start; a clash at the end of a path of 7, 31 and 127 rows; a confluent model of 1,024 rows");
+  lines(clashing, explain);
+  lines(clashing, explain_table);
 
   const std::vector<Subject> timing = {waiting(1), waiting(4), waiting(16), waiting(32)};
   head("The timed step");

@@ -58,6 +58,15 @@ std::string printed_kind(const Said& said, const Lent& lent) {
   return last.substr(from, last.find('\t', from) - from);
 }
 
+// Of an explanation: the number that is printed, or what its first lines are.
+std::string explained_kind(const Said& said, const Lent& lent) {
+  if (said.answer.kind == FLOODNEEDLE_REFUSED) return answered_kind(said, lent);
+  const std::string lines(lent.out.front, lent.out.front + said.answer.count);
+  if (lines.compare(0, 8, "refused\t") == 0) return lines.substr(8, lines.find('\t', 8) - 8);
+  if (lines.compare(0, 6, "clash\t") != 0) return lines.substr(0, lines.find('\n'));
+  return lines.find("\npath\t") == std::string::npos ? "clash at the start" : "clash";
+}
+
 Said engine_recognise(const Lent& l) {
   const bool is_image = floodneedle_recognise(l.table.front, l.table.length);
   return said(second::Answer{is_image ? second::Refusal{} : second::refuse(20, {0})});
@@ -198,11 +207,34 @@ Said engine_report(const Lent& l) {
   return answered(l);
 }
 // The second program answers with a string, so its part in the loan is played here.
-Said second_report(const Lent& l) {
-  if (l.out.length < FLOODNEEDLE_REPORT) return said(second::WriteAnswer{second::refuse(24, {FLOODNEEDLE_REPORT}), 0});
-  const std::string report = second::report(l.bytes);
-  std::copy(report.begin(), report.end(), l.out.front);
-  return said(second::WriteAnswer{{}, report.size()});
+Said put(const Lent& l, const std::string& text) {
+  std::copy(text.begin(), text.end(), l.out.front);
+  return said(second::WriteAnswer{{}, text.size()});
+}
+Said too_short(std::uint64_t needed) { return said(second::WriteAnswer{second::refuse(24, {needed}), 0}); }
+
+Said second_report(const Lent& l) { return l.out.length < FLOODNEEDLE_REPORT ? too_short(FLOODNEEDLE_REPORT) : put(l, second::report(l.bytes)); }
+
+Said engine_explain(const Lent& l) {
+  floodneedle_explain(l.bytes.front, l.bytes.length, l.out.front, l.out.length, l.answer);
+  return answered(l);
+}
+Said second_explain(const Lent& l) {
+  return l.out.length < FLOODNEEDLE_EXPLANATION ? too_short(FLOODNEEDLE_EXPLANATION) : put(l, second::explain(l.bytes));
+}
+
+Said engine_explain_table(const Lent& l) {
+  floodneedle_explain_table(l.table.front, l.table.length, l.out.front, l.out.length, l.answer);
+  return answered(l);
+}
+// As `accept`, then 24, then the text of the table's model.
+Said second_explain_table(const Lent& l) {
+  const second::Answer accepted = second::accept(l.table);
+  if (accepted.refusal) return said(second::WriteAnswer{accepted.refusal, 0});
+  if (l.out.length < FLOODNEEDLE_EXPLANATION) return too_short(FLOODNEEDLE_EXPLANATION);
+  Bytes text(second::max_text);
+  text.resize(second::write(l.table, {text.data(), text.size()}).length);
+  return put(l, second::explain(lent(text)));
 }
 
 Said engine_advance(const Lent& l) {
@@ -251,9 +283,14 @@ const Call repair = {"repair", engine_repair, second_repair, numbers({{20, 20}, 
 const Call merge = {"merge", engine_merge, second_merge, numbers({{10, 17}, {20, 20}, {24, 26}}, {"done"}), answered_kind};
 const Call report = {"report", engine_report, second_report, numbers({{1, 19}, {21, 22}, {24, 24}}, {"stable", "unsettled"}), printed_kind};
 const Call advance = {"advance", engine_advance, second_advance, numbers({{10, 17}, {20, 21}}, {"moved", "stable"}), answered_kind};
+const Call explain = {"explain", engine_explain, second_explain,
+                      numbers({{1, 8}, {10, 17}, {24, 24}}, {"confluent", "clash", "clash at the start"}), explained_kind};
+const Call explain_table = {"explain_table", engine_explain_table, second_explain_table,
+                            numbers({{10, 17}, {20, 20}, {24, 24}}, {"confluent", "clash", "clash at the start"}), explained_kind};
 
-const Call* const all[23] = {&recognise, &check_text, &read,   &read_tree, &write,       &start,   &component,    &compatible,
+const Call* const all[25] = {&recognise, &check_text, &read,   &read_tree, &write,       &start,   &component,    &compatible,
                              &accept,    &confluent,  &step,   &step_by,   &settle,      &settle_list, &orderly,  &settle_after,
-                             &settle_list_after, &timed_step, &simulate, &merge, &repair, &report,  &advance};
+                             &settle_list_after, &timed_step, &simulate, &merge, &repair, &report,  &advance, &explain,
+                             &explain_table};
 
 }  // namespace calls

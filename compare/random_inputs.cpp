@@ -72,6 +72,19 @@ void try_walk(Random& random, const Table& table, const Drawn& drawn) {
   hold("any order after a path ends alike", try_call(calls::settle_after, loan).engine == listed, where);
 }
 
+// A table's model explained, and a text that may be damaged: where both are good, the same is printed of them. At times the buffer is too short.
+void try_explanations(Random& random, const Table& table, const Drawn& drawn) {
+  Loan loan;
+  loan.table = table;
+  const bool whole = random.chance(80);
+  loan.bytes = drawing::bytes_of(whole ? drawn.text : second::damaged_text(random, drawn.text));
+  const std::size_t room = random.chance(95) ? FLOODNEEDLE_EXPLANATION : FLOODNEEDLE_EXPLANATION - 1;
+  loan.out = drawing::noise_bytes(random, room);
+  const Comparison read = try_call(calls::explain, loan), held = try_call(calls::explain_table, loan);
+  if (!whole || held.engine.answer.kind == FLOODNEEDLE_REFUSED) return;
+  hold("explained alike, as text and as table", read.engine == held.engine && read.left.out.content() == held.left.out.content(), where);
+}
+
 // Every call that takes a table, on one that need not be the model's.
 void try_calls(Random& random, const Table& table, const Drawn& drawn) {
   Loan loan;
@@ -139,6 +152,7 @@ void try_not_alone(Random& random) {
   for (const Call* call : {&calls::confluent, &calls::orderly, &calls::settle}) try_call(*call, loan);
   for (unsigned turn = 0; turn < 3; ++turn) try_walk(random, table, drawn);
   try_simulation(random, table, drawn);
+  try_explanations(random, table, drawn);
 }
 
 // A tree, the same damaged, and one that breaks a condition; then the model of the first: its tests, its text, settling after paths and a simulation.
@@ -289,6 +303,7 @@ void try_input(std::uint64_t seed, std::uint64_t index) {
   const Table damaged = second::damaged_table(random, drawn.table);
   try_calls(random, drawing::lengthened(random, damaged), drawn);
   try_sequence(random, drawn.text);
+  try_explanations(random, drawing::lengthened(random, drawn.table), drawn);
   try_repairs(random, drawn);
   try_plant(random);
   try_not_alone(random);

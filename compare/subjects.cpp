@@ -216,6 +216,15 @@ Subject triggering(unsigned states) {
   return subject(counted(states, "that trigger one another"), {{component}});
 }
 
+Subject far_clash(unsigned states) {
+  Component component;
+  component.states = states;
+  component.kind[1] = component.kind[2] = Kind::uout;
+  for (unsigned s = 0; s < states; ++s) add_row(component, s, 1, 0, (s + 1) % states);
+  add_row(component, states - 1, 2, 0, 1);
+  return subject(counted(states, "in a row, two actions part in the last"), {{component}});
+}
+
 Subject chained_tree(unsigned basic, unsigned boxed, unsigned gates, unsigned pands) {
   std::string text, box;
   unsigned top = 0;

@@ -51,6 +51,9 @@ Subject triggering(unsigned states);
 // A fault tree of so many basic elements, the first of them in one box, below a chain of gates, of which the last are PAND. Its text is the tree's.
 Subject chained_tree(unsigned basic, unsigned boxed, unsigned gates, unsigned pands);
 
+// One component of so many states, in a row by an urgent output: in the last one two of them part.
+Subject far_clash(unsigned states);
+
 // A path of so many steps from the model's start, or as many as there are.
 Bytes path_of(const Subject& of, unsigned steps);
 

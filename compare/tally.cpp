@@ -28,7 +28,7 @@ struct Held {
 
 // Merging must not matter (compare/alike.cpp), nor the order of urgent steps after a path, and every tree's model is one to settle and to simulate
 // (compare/random_inputs.cpp).
-std::map<std::string, Held> held = {{"any order after a path ends alike", {}}, {"10 to 17 passed again", {}},      {"18 passed again", {}},
+std::map<std::string, Held> held = {{"any order after a path ends alike", {}}, {"explained alike, as text and as table", {}}, {"10 to 17 passed again", {}},      {"18 passed again", {}},
                                     {"settle alike, merged or not", {}},       {"settle_list alike, merged or not", {}}, {"23 at the same index", {}},
                                     {"three merged either way", {}},           {"a tree's model is accepted", {}}, {"a tree's model passes the test", {}}};
 std::uint64_t compared = 0;

@@ -4,6 +4,7 @@
  *   accept | confluent | orderly | start       no words; of the start its state and the clocks set there are told
  *   component I | merge I                      a component's number
  *   compatible                                 no words
+ *   explain                                    why the model is not confluent, as the program `why` prints it
  *   step STATE | by STATE ACTION               a state is numbers joined by commas
  *   settle STATE BUDGET | list STATE ACTIONS   actions are numbers joined by commas, or - for none
  *   after PATH BUDGET | list-after PATH ACTIONS
@@ -127,6 +128,14 @@ static void print_answer(size_t n) {
   printf("\n");
 }
 
+/* Its text is the answer, of several lines. */
+static int explain(void) {
+  static uint8_t out[FLOODNEEDLE_EXPLANATION];
+  floodneedle_explain_table(table, FLOODNEEDLE_TABLE, out, sizeof out, &answer);
+  fwrite(out, 1, (size_t)answer.count, stdout);
+  return answer.kind == FLOODNEEDLE_DONE;
+}
+
 static int print_text(const uint64_t *of) {
   floodneedle_write(of, FLOODNEEDLE_TABLE, text, sizeof text, &answer);
   fwrite(text, 1, (size_t)answer.count, stdout);
@@ -198,6 +207,7 @@ static int call(int words, char **word, size_t *n) {
   if (words == 4 && strcmp(verb, "list-after") == 0) return settle_after(word[2], 0, word[3], n), 0;
   if (words == 2 && strcmp(verb, "text") == 0) return print_text(table);
   if (words == 2 && strcmp(verb, "compatible") == 0) return floodneedle_compatible(table, FLOODNEEDLE_TABLE, &answer), 0;
+  if (words == 2 && strcmp(verb, "explain") == 0) return explain();
   if (words == 3 && strcmp(verb, "component") == 0)
     return floodneedle_component(table, FLOODNEEDLE_TABLE, strtoull(word[2], 0, 10), &answer), 0;
   if (words == 3 && strcmp(verb, "merge") == 0) return merge(strtoull(word[2], 0, 10));

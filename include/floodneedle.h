@@ -24,7 +24,7 @@
  *   recognise 240, check_text 832, read 1376, write 400, start 496, component 1568, compatible 656, accept 1872, confluent 2128, merge 2048,
  *   repair 368, step 2224, advance 2288, step_by 2016, settle 2736, settle_list 2688, timed_step 2048, simulate 12096,
  *   orderly 7264, settle_after 8224, settle_list_after 8224, read_tree 5104,
- *   report 70384 (it keeps a table of its own).
+ *   explain_table 1904, report 70384 and explain 69872 (which keep a table of their own).
  *
  * A model is a text (docs/MODEL.md), without the request line that the program `settle` reads in front of it. A table is what
  * floodneedle_read makes of it, 64-bit words at the front of a buffer; what lies behind the image is neither read nor changed. No caller
@@ -50,13 +50,15 @@ extern "C" {
 #define FLOODNEEDLE_TEXT 32768
 
 /* Sizes: words of a component's block (137) and of a table (8,481), bytes of a state, the largest budget, which is also the longest list or
- * trace, the most rounds of a simulation and the most steps of a path, the number of clock values, and bytes of the longest report there can be. */
+ * trace, the most rounds of a simulation and the most steps of a path, the number of clock values, bytes of the longest report there can be, and
+ * bytes that no explanation exceeds. */
 #define FLOODNEEDLE_BLOCK (8 + FLOODNEEDLE_STATES + 1)
 #define FLOODNEEDLE_TABLE (1 + FLOODNEEDLE_BLOCK * FLOODNEEDLE_COMPONENTS + 4 * FLOODNEEDLE_ROWS)
 #define FLOODNEEDLE_STATE FLOODNEEDLE_COMPONENTS
 #define FLOODNEEDLE_BUDGET 4096
 #define FLOODNEEDLE_CLOCKS 64
 #define FLOODNEEDLE_REPORT 1322226
+#define FLOODNEEDLE_EXPLANATION 26314
 
 enum floodneedle_kind {
   FLOODNEEDLE_REFUSED = 0,
@@ -115,7 +117,7 @@ struct floodneedle_answer {
   uint64_t number;   /* of the refusal, else 0 */
   uint64_t places;   /* how many values the refusal's place has, 1 to 4; 0 where nothing is refused */
   uint64_t place[4];
-  uint64_t count;    /* bytes written (write, report), rows added (repair), steps taken (all that settle), components (start),
+  uint64_t count;    /* bytes written (write, report, explain, explain_table), rows added (repair), steps taken (all that settle), components (start),
                       * later rounds done (simulate); else 0 */
   uint64_t action;   /* where moved or fired, else 0 */
   uint64_t resets;   /* a set of clocks: where moved or fired, of a settling, and those set at the start (start); else 0 */
@@ -293,6 +295,21 @@ void floodneedle_simulate(const uint64_t *table, size_t table_words, const uint8
  * refuses is a line that it prints, and no refusal here.
  * Refuses: 24 (bytes needed: FLOODNEEDLE_REPORT, whatever the input). */
 void floodneedle_report(const uint8_t *input, size_t input_bytes, uint8_t *out, size_t out_bytes, struct floodneedle_answer *answer);
+
+/* Writes what the program `why` prints for this model text to the buffer's front; `count` is its length. Lines end with LF, and fields are
+ * parted by tabs. Where every component is confluent in the states that it can reach it is `confluent`. Else, at the place that 18 names:
+ *   clash, component, state, lower and higher action;
+ *   path, and the rest of a row's line in the model text, for each row of a shortest path from the component's start to that state by rows of
+ *   which every non-urgent one leaves a stable state: of all shortest ones the one whose first row comes first in the text, and so on;
+ *   order, first action, its resets, the state after it, second action, and its resets and the state after it, or `missing`: twice, the lower
+ *   action first and then the higher.
+ * A text or model that is refused with 1 to 8 or 10 to 17 is a `refused` line, as the program `settle` prints it, and no refusal here.
+ * Refuses: 24 (bytes needed: FLOODNEEDLE_EXPLANATION, whatever the text). */
+void floodneedle_explain(const uint8_t *text, size_t text_bytes, uint8_t *out, size_t out_bytes, struct floodneedle_answer *answer);
+
+/* The same of the table's model, which must be accepted: `confluent`, or the clash that 18 names, the path to it and both orders.
+ * Refuses: as accept, then 24 (bytes needed: FLOODNEEDLE_EXPLANATION, whatever the model). */
+void floodneedle_explain_table(const uint64_t *table, size_t table_words, uint8_t *out, size_t out_bytes, struct floodneedle_answer *answer);
 
 #ifdef __cplusplus
 }

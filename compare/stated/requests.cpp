@@ -6,12 +6,6 @@
 
 namespace {
 
-std::string printed(const second::Refusal& refusal) {
-  std::string line = "refused\t" + std::to_string(refusal.number);
-  for (std::uint64_t p = 0; p < refusal.places; ++p) line += (p == 0 ? "\t" : ",") + std::to_string(refusal.place[p]);
-  return line + "\n";
-}
-
 // The numbers from..to, joined by commas.
 std::string range(unsigned from, unsigned to) {
   std::string line = std::to_string(from);

@@ -176,6 +176,22 @@ void REPORT() {
   expect("room for a report", calls::report, loan, done(report.size()), left);
 }
 
+// An upper bound: stated/explanations.cpp has one that comes near.
+void EXPLANATION() {
+  const std::uint64_t bytes = FLOODNEEDLE_EXPLANATION;
+  const std::string confluent = "confluent\n";
+  Loan loan = lent_table(image(m));
+  loan.bytes = bytes_of(m);
+  for (const Call* call : {&calls::explain, &calls::explain_table}) {
+    loan.out = Bytes(bytes - 1, 0x77);
+    expect("room for an explanation, less a byte", *call, loan, refused(24, {bytes}));
+    loan.out = Bytes(bytes, 0x77);
+    Loan left = loan;
+    std::copy(confluent.begin(), confluent.end(), left.out.begin());
+    expect("room for an explanation", *call, loan, done(confluent.size()), left);
+  }
+}
+
 // No number with a #define: 18 fills every place that an answer has.
 void places() {
   const Table clash = image(with(m, "row 1 - 2 - 2", "row 1 - 2 - 0"));

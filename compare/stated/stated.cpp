@@ -31,6 +31,7 @@ void try_stated() {
   stated_merges();
   stated_repairs();
   stated_requests();
+  stated_explanations();
   stated_sizes();
 }
 
@@ -105,6 +106,12 @@ Loan lent_state(const Table& table, const Bytes& state) {
   return loan;
 }
 
+std::string printed(const second::Refusal& refusal) {
+  std::string line = "refused\t" + std::to_string(refusal.number);
+  for (std::uint64_t p = 0; p < refusal.places; ++p) line += (p == 0 ? "\t" : ",") + std::to_string(refusal.place[p]);
+  return line + "\n";
+}
+
 void expect_report(const std::string& input, const std::string& report) {
   const std::string why = "the input " + input.substr(0, 100);
   Loan loan;
@@ -124,7 +131,7 @@ void expect_checks(const std::string& why, const Table& table, const Said& accep
   if (accepted.answer.number == 20)
     for (const Call* call : {&calls::component, &calls::compatible}) expect(why, *call, loan, accepted);
   if (accepted.answer.kind == FLOODNEEDLE_REFUSED)
-    for (const Call* call : {&calls::step, &calls::step_by, &calls::timed_step, &calls::merge, &calls::advance})
+    for (const Call* call : {&calls::step, &calls::step_by, &calls::timed_step, &calls::merge, &calls::advance, &calls::explain_table})
       expect(why, *call, loan, accepted);
   if (confluent.answer.kind == FLOODNEEDLE_REFUSED)
     for (const Call* call : {&calls::settle, &calls::settle_list}) expect(why, *call, loan, confluent);

@@ -23,6 +23,7 @@ void stated_simulations();
 void stated_merges();
 void stated_repairs();
 void stated_requests();
+void stated_explanations();
 void stated_sizes();
 
 // ---- what may be stated
@@ -39,9 +40,10 @@ Said quiet(const Bytes& after);
 // ---- the limits, and what docs/TABLE.md and the longest report make of them: stated here, and neither program's own
 
 constexpr unsigned max_components = 32, max_states = 128;
-constexpr std::uint64_t block_words = 137, rows_at = 4385, table_words = 8481, table_bytes = 67848, report_bytes = 1322226;
+constexpr std::uint64_t block_words = 137, rows_at = 4385, table_words = 8481, table_bytes = 67848, report_bytes = 1322226, explanation_bytes = 26314;
 static_assert(FLOODNEEDLE_COMPONENTS == max_components && FLOODNEEDLE_STATES == max_states && FLOODNEEDLE_BLOCK == block_words);
 static_assert(FLOODNEEDLE_TABLE == table_words && FLOODNEEDLE_STATE == max_components && FLOODNEEDLE_REPORT == report_bytes);
+static_assert(FLOODNEEDLE_EXPLANATION == explanation_bytes);
 
 // ---- what is lent
 
@@ -56,6 +58,9 @@ Text repeated(const Text& piece, unsigned times);
 
 Loan lent_table(const Table& table);
 Loan lent_state(const Table& table, const Bytes& state);
+
+// A refusal as the programs print it.
+std::string printed(const second::Refusal& refusal);
 
 // A report with bytes to spare: just this is printed.
 void expect_report(const std::string& input, const std::string& report);

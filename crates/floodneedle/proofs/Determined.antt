@@ -17,6 +17,7 @@ use Rattle.text.specs.Write.{writeOn, textAfter}
 use Rattle.merge.specs.Merging.{mergeOn}
 use Rattle.repair.specs.Repairing.{repairOn, numberIn, tableWith, listWith}
 use Rattle.report.specs.Reported.{lengthTold, reportIn}
+use Rattle.explain.specs.Explain.{textExplained, tableExplained, lengthIn, bufferWith}
 use Rattle.run.specs.Calls.{stepOn, stepByOn, settleOn, settleListOn, traceAfter}
 use Rattle.words.specs.Words.{checkedWords, writtenWords}
 use Rattle.words.specs.Bytes.{stateOf}
@@ -77,6 +78,14 @@ module _ (t : List ℕ) (p q b d : List ℕ) where
     pub floodneedle_report-determined : (p ≡ writtenWords (lengthTold t old)) × (b ≡ reportIn t old)
         → (q ≡ writtenWords (lengthTold t old)) × (d ≡ reportIn t old) → (p ≡ q) × (b ≡ d)
     floodneedle_report-determined e f = (one (e .0) (f .0), one (e .1) (f .1))
+
+    pub floodneedle_explain-determined : (p ≡ writtenWords (lengthIn (textExplained t old))) × (b ≡ bufferWith (textExplained t old) old)
+        → (q ≡ writtenWords (lengthIn (textExplained t old))) × (d ≡ bufferWith (textExplained t old) old) → (p ≡ q) × (b ≡ d)
+    floodneedle_explain-determined e f = (one (e .0) (f .0), one (e .1) (f .1))
+
+    pub floodneedle_explain_table-determined : (p ≡ writtenWords (lengthIn (tableExplained t old))) × (b ≡ bufferWith (tableExplained t old) old)
+        → (q ≡ writtenWords (lengthIn (tableExplained t old))) × (d ≡ bufferWith (tableExplained t old) old) → (p ≡ q) × (b ≡ d)
+    floodneedle_explain_table-determined e f = (one (e .0) (f .0), one (e .1) (f .1))
 
     pub floodneedle_merge-determined : (i : ℕ) → (p ≡ checkedWords (doneOf (mergeOn t i old))) × (b ≡ tableAfter (mergeOn t i old) old)
         → (q ≡ checkedWords (doneOf (mergeOn t i old))) × (d ≡ tableAfter (mergeOn t i old) old) → (p ≡ q) × (b ≡ d)

@@ -18,6 +18,7 @@ ghost use Rattle.text.specs.Write.{writeOn, textAfter};
 ghost use Rattle.merge.specs.Merging.{mergeOn};
 ghost use Rattle.repair.specs.Repairing.{repairOn, numberIn, tableWith, listWith};
 ghost use Rattle.report.specs.Reported.{lengthTold, reportIn};
+ghost use Rattle.explain.specs.Explain.{textExplained, tableExplained, lengthIn, bufferWith};
 ghost use Rattle.model.specs.Reading.{readOf};
 ghost use Rattle.table.specs.IsImage.{isImage};
 ghost use Rattle.words.specs.Bytes.{stateOf};
@@ -386,5 +387,29 @@ pub extern "C" fn floodneedle_report(input: &[u8], out: &mut [u8], answer: &mut 
     ensures buffer { λ _. ⌜ now (out .exit) ≡ reportIn (now (input .entry)) (now (out .entry)) ⌝ }
 {
     let written = report::report(input, out);
+    *answer = words::written_words(written);
+}
+
+// What the program `why` prints for the text.
+#[no_mangle]
+pub extern "C" fn floodneedle_explain(text: &[u8], out: &mut [u8], answer: &mut [u64; Words::COUNT])
+    ensures answer { λ _. ⌜ now (answer .exit) ≡ writtenWords (lengthIn (textExplained (now (text .entry)) (now (out .entry)))) ⌝ }
+    ensures buffer { λ _. ⌜ now (out .exit) ≡ bufferWith (textExplained (now (text .entry)) (now (out .entry))) (now (out .entry)) ⌝ }
+{
+    let written = explain::explain(text, out);
+    *answer = words::written_words(written);
+}
+
+// The same of the table's model, once it is accepted.
+#[no_mangle]
+pub extern "C" fn floodneedle_explain_table(
+    table: &[u64],
+    out: &mut [u8],
+    answer: &mut [u64; Words::COUNT],
+)
+    ensures answer { λ _. ⌜ now (answer .exit) ≡ writtenWords (lengthIn (tableExplained (now (table .entry)) (now (out .entry)))) ⌝ }
+    ensures buffer { λ _. ⌜ now (out .exit) ≡ bufferWith (tableExplained (now (table .entry)) (now (out .entry))) (now (out .entry)) ⌝ }
+{
+    let written = explain::explain_table(table, out);
     *answer = words::written_words(written);
 }

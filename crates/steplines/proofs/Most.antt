@@ -100,9 +100,10 @@ joined-most (n ∷ m ∷ ns) = rw (joined-more n m ns) (omega (arith, length-app
 abbrev pub Brief : Told → Type 0
 Brief t = length (t .place) ≤ 4
 
-pub refusal-most : (t : Told) → Brief t → length (refusedLine t) ≤ mostBytes
+-- `refused`, a number, and four more with their commas
+pub refusal-short : (t : Told) → Brief t → length (refusedLine t) ≤ 40
 unfolding refusedLine fieldsAfter
-refusal-most t h =
+refusal-short t h =
     omega (
       arith,
       length-append (decimal (t .number)) (tab ∷ (joined (t .place) ++ (lf ∷ []))),
@@ -110,6 +111,9 @@ refusal-most t h =
       width-most (t .number),
       joined-most (t .place),
     )
+
+pub refusal-most : (t : Told) → Brief t → length (refusedLine t) ≤ mostBytes
+refusal-most t h = omega (arith, refusal-short t h)
 
 values-few : (p : Place) → length (valuesAt p) ≤ 4
 values-few Whole = omega arith
@@ -127,9 +131,12 @@ values-few (Spot n k) = omega arith
 values-few (Condition n) = omega arith
 values-few (Action a) = omega arith
 
-pub refused-most : (r : Refusal) → length (refusedText r) ≤ mostBytes
+pub refused-short : (r : Refusal) → length (refusedText r) ≤ 40
 unfolding refusedText
-refused-most r = refusal-most (tell (r .number) (valuesAt (r .place))) (values-few (r .place))
+refused-short r = refusal-short (tell (r .number) (valuesAt (r .place))) (values-few (r .place))
+
+pub refused-most : (r : Refusal) → length (refusedText r) ≤ mostBytes
+refused-most r = omega (arith, refused-short r)
 
 -- ---- the digits of the counts
 -- of the numbers below n, those below b

@@ -1,0 +1,4 @@
+pub mod Called
+pub mod Exactly
+pub mod Determined
+pub mod Front

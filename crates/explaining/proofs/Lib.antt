@@ -1,0 +1,4 @@
+pub mod PartLaws
+pub mod Walks
+pub mod Orders
+pub mod Most

@@ -1,0 +1,4 @@
+pub mod Walking
+pub mod Reaching
+pub mod Orders
+pub mod Explained
