@@ -22,8 +22,8 @@
  *
  * Stack, in bytes, the deepest seen of each call (`make -C compare stack` measures it, and holds these numbers to it):
  *   recognise 240, check_text 832, read 1376, write 400, start 496, component 1568, compatible 656, accept 1872, confluent 2128, merge 2048,
- *   repair 368, step 2224, advance 2288, step_by 2016, settle 2736, settle_list 2688, timed_step 2048, simulate 12096,
- *   orderly 7264, settle_after 8224, settle_list_after 8224, read_tree 5104,
+ *   repair 368, step 2224, advance 2288, step_by 2016, settle 2736, settle_list 2688, timed_step 2048, simulate 8000,
+ *   orderly 5728, settle_after 6688, settle_list_after 6688, read_tree 5104,
  *   explain_table 1904, report 70384 and explain 69872 (which keep a table of their own).
  *
  * A model is a text (docs/MODEL.md), without the request line that the program `settle` reads in front of it. A table is what

@@ -1,4 +1,3 @@
-pub mod InPlace
-pub mod FeedLaws
-pub mod Filling
+pub mod Takes
+pub mod Feeding
 pub mod Supplied

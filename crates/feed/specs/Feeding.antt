@@ -1,50 +1,31 @@
--- The samples at cursors into a text: what each clock of a set takes as a round ends, and where its cursor stands then.
+-- What a round's end gives: every clock of a set has taken its next sample, or the lowest that has none left.
 use mathlib.Core.Path.{_≡_}
-use mathlib.Core.Bool.{Bool, true, false, _&&_, not, cond}
 use mathlib.Core.Option.{Option, none, some}
-use mathlib.Core.List.{List, []}
-use Prim.Native.Nat.{ℕ, _<_}
-use lib.ListN.{length, getD, drop}
+use mathlib.Core.List.{List}
+use Prim.Native.Nat.{ℕ}
+use lib.ListN.{length}
 use lib.IntN.{ℤ}
-use Rattle.laws.specs.Sets.{has}
-use Rattle.laws.specs.Search.{isSome}
+use Rattle.laws.specs.Search.{least}
 use Rattle.answer.specs.Limits.{maxClocks}
-use Rattle.model.specs.Reading.{Scan, is, stops, got, field}
-use Rattle.simulation.specs.Simulate.{Supply, sampled, takenBy}
-use Rattle.simulation.specs.Samples.{sampleAt}
-use Rattle.samples.specs.declared.Feed.{Feed}
-use Rattle.samples.specs.Lines.{Left}
-use Rattle.feed.specs.declared.Taken.{Taken}
+use Rattle.ticks.specs.Ticks.{Ticking}
+use Rattle.simulation.specs.Simulate.{Supply, eachFrom, lacks, fedAt, countedAt}
+use Rattle.feed.specs.Supply.{Lent, Supplies}
 
-abbrev pub valueIn : Scan ℕ → Option ℕ
-valueIn (is g) = some (g .value)
-valueIn (stops cs) = none
+-- all of w are fed
+pub record AllFed (l : Lent) (p : Supply) (w : ℕ) (ts : List ℕ) (was : List ℤ) (r : ℕ) (at used : List ℕ) (vs : List ℤ) : Type 0 where
+  pub limit : r ≡ maxClocks
+  pub values : vs ≡ eachFrom (fedAt p w ts) 0 was
+  pub supplies : Supplies l p (eachFrom (countedAt w) 0 ts) at used
 
--- the sample at a cursor
-unfoldable pub sampleIn : List ℕ → ℕ → Option ℕ
-sampleIn t at = valueIn (field sampleAt (drop at t))
+-- by the lowest clock that has none left
+abbrev pub Fed : Option ℕ → Lent → Supply → ℕ → List ℕ → List ℤ → ℕ → List ℕ → List ℕ → List ℤ → Type 0
+Fed none l p w ts was r at used vs = AllFed l p w ts was r at used vs
+Fed (some x) l p w ts was r at used vs = r ≡ x
 
-unfoldable pub lacksAt : List ℕ → ℕ → ℕ → ℕ → Bool
-lacksAt t w x at = has w x && not (isSome (sampleIn t at))
-
--- the supply that the cursors are: of each clock the sample at its cursor, and no other
-abbrev pub held : List ℕ → Feed → Supply
-held t f = record { sample = λ x j. sampleIn t (getD (f .at) x 0); ranOut = 41 }
-
--- clock x's cursor moves from at to b: past the sample there where the clock is in w, and else not
-pub record MovedOne (t : List ℕ) (w x at b : ℕ) : Type 0 where
-  pub taken : has w x ≡ true → (n : ℕ) (cs : List ℕ) → field sampleAt (drop at t) ≡ got n cs → drop b t ≡ cs
-  pub left : has w x ≡ false → b ≡ at
-
-pub record FedOne (t : List ℕ) (w x at : ℕ) (z : ℤ) (r : Taken) : Type 0 where
-  pub value : r .value ≡ cond (has w x) (sampled (sampleIn t at) z) z
-  pub moved : MovedOne t w x at (r .at)
-
-pub record Moved (t : List ℕ) (w : ℕ) (f g : Feed) : Type 0 where
-  pub count : length (g .at) ≡ maxClocks
-  pub each : (x : ℕ) → x < maxClocks → MovedOne t w x (getD (f .at) x 0) (getD (g .at) x 0)
-
--- the cursors stand at what is left of the lists, after the samples taken
-pub record Supplies (t : List ℕ) (ls : List (List ℕ)) (ts : List ℕ) (f : Feed) : Type 0 where
-  pub counted : length ts ≡ maxClocks
-  pub each : (x : ℕ) → x < maxClocks → Left (drop (getD (f .at) x 0) t) (drop (takenBy ts x) (getD ls x []))
+-- of `fed`: at, used and was are the places and values before, at′, used′ and vs those after
+pub record FedCall (l : Lent) (w : ℕ) (at used : List ℕ) (was : List ℤ) (r : ℕ) (at′ used′ : List ℕ) (vs : List ℤ) : Type 0 where
+  pub at-count : length at′ ≡ maxClocks
+  pub used-count : length used′ ≡ maxClocks
+  pub count : length vs ≡ maxClocks
+  pub ticking : (d : ℕ) → Ticking d was → Ticking d vs
+  pub fed : (p : Supply) (ts : List ℕ) → Supplies l p ts at used → Fed (least (lacks p w ts) maxClocks) l p w ts was r at′ used′ vs

@@ -1,81 +1,85 @@
-// A round's end: the lowest clock of a set that has no sample left, and every clock of the set fed.
+// A round's end: every clock of a set takes its next sample, from wherever the samples come.
 use answer::Model;
 use fields::Cursor;
 use fields::NumberScan;
-use samples::Feed;
 ghost use mathlib.Core.Path.{_≡_};
-ghost use mathlib.Core.List.{[]};
 ghost use Prim.Native.Nat.{ℕ, _<_};
 ghost use lib.ListN.{length};
 ghost use Rattle.answer.specs.Limits.{maxClocks};
-ghost use Rattle.laws.specs.Search.{least};
-ghost use Rattle.simulation.specs.Simulate.{eachFrom, lacks, fedAt};
-ghost use Rattle.ticks.specs.Ticks.{orNone};
-ghost use Rattle.feed.specs.Feeding.{lacksAt, FedOne, held, Moved};
+ghost use Rattle.feed.specs.Supply.{lent, ListTakes, TakeCall, ranOutOf};
+ghost use Rattle.feed.specs.Feeding.{FedCall};
 
-// Whether clock x is in w and has no sample left at its cursor.
-fn lacks_one(text: &[u8], w: u64, x: u64, at: usize) -> bool
-    requires { ⌜ x < maxClocks ⌝ }
-    ensures { λ r. ⌜ r ≡ lacksAt (now (text .entry)) w x at ⌝ }
+// Where samples come from: the lists of a text.
+pub enum Source {
+    Lists,
+}
+
+// What a clock takes, where its next sample stands then, and how many numbers it has used; or it has none left.
+pub enum Taking {
+    Takes(u64, usize, usize),
+    Lacks(u64, usize, usize),
+}
+
+// The number that says that samples ran out.
+pub fn ran_out(from: Source) -> u8
+    ensures { λ r. ⌜ r ≡ ranOutOf from ⌝ }
 {
-    if sets::has(w, x) {
-        match samples::next(text, Cursor { at }) {
-            NumberScan::Is(_, _) => false,
-            NumberScan::Missing(_, _) => true,
-        }
-    } else {
-        false
+    match from {
+        Source::Lists => 41,
     }
 }
 
-// The lowest clock of w that has none left, or the limit.
-pub fn lacking(text: &[u8], f: Feed, w: u64) -> u64
-    ensures { λ r. ⌜ r ≡ orNone (least (lacks (held (now (text .entry)) f) w []) maxClocks) ⌝ }
+// The next sample of a list.
+fn listed(text: &[u8], at: usize, used: usize) -> Taking
+    ensures { λ r. ⌜ ListTakes (now (text .entry)) at r ⌝ }
 {
-    for x in 0..Model::CLOCKS {
-        if lacks_one(text, w, x as u64, f.at[x]) {
-            return x as u64;
+    match samples::next(text, Cursor { at }) {
+        NumberScan::Is(d, n) => Taking::Takes(n, d.at, used),
+        NumberScan::Missing(d, n) => Taking::Lacks(n, d.at, used),
+    }
+}
+
+// The next sample of clock x.
+fn take(from: Source, text: &[u8], numbers: &[u64], x: u64, at: usize, used: usize) -> Taking
+    requires { ⌜ x < maxClocks ⌝ }
+    ensures { λ r. ⌜ TakeCall (lent from (now (text .entry)) (now (numbers .entry))) x at used r ⌝ }
+{
+    match from {
+        Source::Lists => listed(text, at, used),
+    }
+}
+
+// Each clock of w, from the lowest on, takes its next sample; the first that has none left, or the limit.
+pub fn fed(
+    from: Source,
+    text: &[u8],
+    numbers: &[u64],
+    at: &mut [usize; Model::CLOCKS],
+    used: &mut [usize; Model::CLOCKS],
+    w: u64,
+    values: &mut [i64],
+) -> u64
+    requires { ⌜ (length (now at) ≡ maxClocks) × (length (now used) ≡ maxClocks) × (length (now values) ≡ maxClocks) ⌝ }
+    ensures { λ r.
+        ⌜ FedCall (lent from (now (text .entry)) (now (numbers .entry))) w (now (at .entry)) (now (used .entry)) (now (values .entry)) r
+        (now (at .exit)) (now (used .exit)) (now (values .exit)) ⌝ }
+{
+    let mut left = w;
+    while left != 0 {
+        let x = sets::lowest(left);
+        let i = x as usize;
+        match take(from, text, numbers, x, at[i], used[i]) {
+            Taking::Takes(n, a, u) => {
+                let v = n as i64;
+                values[i] = v;
+                at[i] = a;
+                used[i] = u;
+            }
+            Taking::Lacks(_, _, _) => {
+                return x;
+            }
         }
+        left = sets::minus(left, sets::single(x));
     }
     Model::CLOCKS as u64
-}
-
-// One clock's value, and where its next sample is.
-pub struct Taken {
-    pub value: i64,
-    pub at: usize,
-}
-
-// Clock x, where it is in w, takes the sample at its cursor.
-fn fed_one(text: &[u8], w: u64, x: u64, at: usize, z: i64) -> Taken
-    requires { ⌜ x < maxClocks ⌝ }
-    ensures { λ r. ⌜ FedOne (now (text .entry)) w x at z r ⌝ }
-{
-    if sets::has(w, x) {
-        match samples::next(text, Cursor { at }) {
-            NumberScan::Is(d, n) => Taken {
-                value: n as i64,
-                at: d.at,
-            },
-            NumberScan::Missing(_, _) => Taken { value: z, at },
-        }
-    } else {
-        Taken { value: z, at }
-    }
-}
-
-// Every clock of w takes the sample at its cursor.
-pub fn fed(text: &[u8], f: Feed, w: u64, values: &mut [i64]) -> Feed
-    requires { ⌜ length (now values) ≡ maxClocks ⌝ }
-    ensures { λ r. ⌜ (now (values .exit) ≡ eachFrom (fedAt (held (now (text .entry)) f) w []) 0 (now (values .entry))) × Moved (now (text .entry)) w f r ⌝ }
-{
-    let mut next = f;
-    for x in 0..Model::CLOCKS {
-        let z = values[x];
-        let one = fed_one(text, w, x as u64, f.at[x], z);
-        let v = one.value;
-        values[x] = v;
-        next.at[x] = one.at;
-    }
-    next
 }

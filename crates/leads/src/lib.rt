@@ -43,8 +43,12 @@ pub fn cross(table: &mut [u64; Model::ACTIONS], to: u64, new: u64)
     requires { ⌜ length (now table) ≡ maxActions ⌝ }
     ensures { λ _. ⌜ now (table .exit) ≡ crossed to new (now (table .entry)) ⌝ }
 {
-    for a in 0..Model::ACTIONS {
-        table[a] = sets::union(table[a], pick(sets::has(to, a as u64), new));
+    let mut left = to;
+    while left != 0 {
+        let x = sets::lowest(left);
+        let a = x as usize;
+        table[a] = sets::union(table[a], new);
+        left = sets::minus(left, sets::single(x));
     }
 }
 
@@ -108,10 +112,10 @@ fn pair_of(t: &[u64], at: Spot, r: usize, kind: Kind) -> Pair
             to: own,
             new: stirred(t, at, r),
         },
-        Kind::Sets => Pair {
-            to: woken(t, at, r),
-            new: woken(t, at, r),
-        },
+        Kind::Sets => {
+            let set = woken(t, at, r);
+            Pair { to: set, new: set }
+        }
         Kind::Wakers => Pair {
             to: woken(t, at, r),
             new: own,

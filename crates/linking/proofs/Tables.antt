@@ -1,11 +1,9 @@
--- The tables that are learnt are those of the definitions, and keep their length; what leads on and what is led to, exactly.
-use mathlib.Core.Path.{_≡_, refl, _∙_, ap}
-use mathlib.Core.Logic.{_↔_}
-use mathlib.Core.Option.{none}
+-- The tables that are learnt are those of the definitions, and keep their length; what leads on, exactly.
+use mathlib.Core.Path.{_≡_, refl}
 use mathlib.Core.List.{List}
-use Prim.Native.Nat.{ℕ, _≤_, _<_}
+use Prim.Native.Nat.{ℕ}
 use native.Mathlib.Omega.{arith}
-use lib.ListN.{length, getD}
+use lib.ListN.{length}
 use Rattle.laws.specs.Sets.{only, _∖_}
 use Rattle.laws.specs.Fold.{over, tab}
 use Rattle.laws.proofs.FoldLaws.{tab-length}
@@ -13,18 +11,14 @@ use Rattle.laws.proofs.UnionLaws.{over-keeps}
 use Rattle.answer.specs.Limits.{maxActions}
 use Rattle.model.specs.Model.{Model, compAt}
 use Rattle.model.specs.WellFormed.{WellFormed}
-use Rattle.iosa.specs.Automaton.{Joinable}
-use Rattle.iosa.specs.Checks.{acceptOf}
-use Rattle.iosa.proofs.Acceptance.Accepted.{accepted-exactly}
 use Rattle.marks.specs.Marks.{ClosedSets}
-use Rattle.triggering.specs.Test.{crossed, nothing, stirred, woken, triggersIn, setsIn, wakersIn, triggersOf, goOn, leadsOf, startsOf, setsOf, wakersOf, ownOf, sharing, elsewhere, togetherOf, spreadBy, ledBy}
+use Rattle.triggering.specs.Test.{crossed, nothing, triggersIn, setsIn, wakersIn, triggersOf, leadsOf, startsOf, setsOf, wakersOf, ownOf, sharing, elsewhere, togetherOf}
 use Rattle.triggering.proofs.Leading.{ways-exactly, leads-exactly}
-use Rattle.triggering.proofs.Together.{led-by-exactly}
 use Rattle.leads.specs.declared.Kind.{Kind}
 use Rattle.leads.specs.declared.Kind.the-variants.{Triggers, Sets, Wakers}
 use Rattle.leads.specs.Learning.{toOf, newOf, learnIn, learnOf}
 use Rattle.leads.proofs.Standing.{crossed-length}
-use Rattle.linking.specs.Linking.{LeadTable, LedTable, ledFrom}
+use Rattle.linking.specs.Linking.{LeadTable}
 use Rattle.linking.proofs.Walking.{comp-length}
 
 -- ---- lengths
@@ -75,11 +69,3 @@ module _ (m : Model) where
           let y = leads-exactly m w a b h k in
           (λ e. y .0 (x .1 (c .ways a b h k .0 e)), λ l. c .ways a b h k .1 (x .0 (y .1 l)));
     }
-
-    pub led-table-is : acceptOf m ≡ none → (L T : List ℕ) → LeadTable m L → T ≡ ledFrom L (togetherOf m) nothing → LedTable m T
-    unfolding ledFrom ledBy
-    led-table-is ok L T l e = rw e (record {
-      places = over-keeps (λ a. crossed (getD L a 0) (spreadBy L (getD (togetherOf m) a 0))) (λ T. length T ≡ maxActions) 0 maxActions nothing
-          (λ a U p q n. crossed-length (getD L a 0) (spreadBy L (getD (togetherOf m) a 0)) U) none-length;
-      led = led-by-exactly m w (accepted-exactly m w .0 ok .1) L (l .leads);
-    })

@@ -1,17 +1,19 @@
 -- The rows of a component are walked state by state, and those of a system component by component.
 use mathlib.Core.Path.{_≡_, refl, sym, _∙_, ap}
-use mathlib.Core.Bool.{Bool, true, false, not}
+use mathlib.Core.Bool.{Bool, true, false, not, cond}
 use mathlib.Core.List.{List}
 use Prim.Native.Nat.{ℕ, suc, _+_, _≤_, _<_}
 use native.Mathlib.Omega.{arith}
 use lib.ListN.{length, getD, replicate}
 use lib.Seq.{ext-getD}
+use lib.Bits.{and-zero-l, or-zero-r}
 use lib.Dec.{eqb}
-use Rattle.laws.specs.Sets.{only}
+use Rattle.laws.specs.Sets.{has, only, _∪_, _∩_}
 use Rattle.laws.specs.Fold.{over, tab}
-use Rattle.laws.proofs.RangeLaws.{over-ext}
+use Rattle.laws.proofs.RangeLaws.{over-ext, over-still}
 use Rattle.laws.proofs.FoldLaws.{over-next, over-end, tab-length}
 use Rattle.laws.proofs.UnionLaws.{over-keeps}
+use Rattle.members.proofs.Walk.{none-left}
 use Rattle.answer.specs.Limits.{maxActions}
 use Rattle.model.specs.Model.{Comp, Model, compAt}
 use Rattle.iosa.specs.Checks.{reachOf}
@@ -21,7 +23,7 @@ use Rattle.layout.proofs.ModelOf.{comp-at}
 use Rattle.layout.proofs.WalkByStates.{over-rows}
 use Rattle.reach.specs.Marks.{Marked}
 use Rattle.reach.proofs.Marking.{mark-zero}
-use Rattle.triggering.specs.Test.{nothing}
+use Rattle.triggering.specs.Test.{nothing, sharing, spreadBy}
 use Rattle.triggering.proofs.Tables.{tab-here}
 use Rattle.leads.specs.declared.Kind.{Kind}
 use Rattle.leads.specs.Learning.{toOf, newOf, learnRow, learnState, learnIn}
@@ -71,6 +73,17 @@ no-sets = refl
 pub own-sets : (T : List ℕ) → length T ≡ maxActions → ((j : ℕ) → j < maxActions → getD T j 0 ≡ only j) → T ≡ tab only 0 maxActions
 own-sets T l h = ext-getD 0 T (tab only 0 maxActions) (l ∙ sym (tab-length only 0 maxActions)) (λ j k.
     h j (omega (arith, l)) ∙ sym (tab-here only maxActions j (omega (arith, l))))
+
+-- ---- nothing shared, and nothing to lead on
+pub none-shared : (K : List ℕ) (a : ℕ) → getD K a 0 ≡ 0 → 0 ≡ sharing K a
+unfolding sharing
+none-shared K a e = sym (over-still (λ d x. x ∪ cond (not (eqb (getD K a 0 ∩ getD K d 0) 0)) (only d) 0) 0 maxActions 0 (λ j y p q.
+    ap (λ z. y ∪ cond (not (eqb z 0)) (only j) 0) (ap (λ z. z ∩ getD K j 0) e ∙ and-zero-l (getD K j 0)) ∙ or-zero-r y))
+
+pub none-spread : (L : List ℕ) (x : ℕ) → x ≡ 0 → 0 ≡ spreadBy L x
+unfolding spreadBy
+none-spread L x e = sym (over-still (λ d y. y ∪ cond (has x d) (getD L d 0) 0) 0 maxActions 0 (λ j y p q.
+    ap (λ b. y ∪ cond b (getD L j 0) 0) (none-left x j e) ∙ or-zero-r y))
 
 -- ---- a loop, where what is left comes to x
 module _ {A : Type 0} (f : ℕ → A → A) {x : A} (k hi : ℕ) (cur : A) (inv : over f k hi cur ≡ x) where

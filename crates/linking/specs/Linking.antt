@@ -5,9 +5,10 @@ use mathlib.Core.List.{List}
 use Prim.Native.Nat.{ℕ, _<_}
 use lib.ListN.{length, getD}
 use Rattle.laws.specs.Sets.{_∈_}
+use Rattle.laws.specs.Fold.{over}
 use Rattle.answer.specs.Limits.{maxActions}
 use Rattle.model.specs.Model.{Model}
-use Rattle.triggering.specs.Test.{crossAll, spreadBy}
+use Rattle.triggering.specs.Test.{crossed, spreadBy}
 use Rattle.triggering.specs.Triggering.{LeadsOn, Led}
 
 -- for each action those that it leads on to
@@ -20,6 +21,6 @@ pub record LedTable (m : Model) (T : List ℕ) : Type 0 where
   pub places : length T ≡ maxActions
   pub led : (a b : ℕ) → a < maxActions → b < maxActions → (b ∈ getD T a 0) ↔ Led m a b
 
--- to each set of a table those that the pair is led to
-unfoldable pub ledFrom : List ℕ → List ℕ → List ℕ → List ℕ
-ledFrom L W T = crossAll (λ a. getD L a 0) (λ a. spreadBy L (getD W a 0)) maxActions T
+-- in place, from what each action is together with: the sets of those that a leads on to take in what those lead on to that are in its own
+unfoldable pub ledFrom : List ℕ → List ℕ → List ℕ
+ledFrom L W = over (λ a T. crossed (getD L a 0) (spreadBy L (getD T a 0)) T) 0 maxActions W

@@ -12,7 +12,7 @@ ghost use Rattle.answer.specs.Limits.{maxActions};
 ghost use Rattle.iosa.specs.Checks.{acceptOf};
 ghost use Rattle.layout.specs.Layout.{countOf};
 ghost use Rattle.layout.specs.Image.{Image, compOf, modelOf};
-ghost use Rattle.triggering.specs.Test.{startsOf, wakersOf, ownOf, sharing, elsewhere, togetherOf, spreadBy};
+ghost use Rattle.triggering.specs.Test.{nothing, startsOf, ownOf, sharing, elsewhere, togetherOf, spreadBy};
 ghost use Rattle.linking.specs.Linking.{LeadTable, LedTable, ledFrom};
 ghost use Rattle.reach.specs.Marks.{Marked};
 ghost use Rattle.leads.specs.Learning.{InState, learnState, learnIn, learnOf};
@@ -105,6 +105,9 @@ fn sharing(table: &[u64; Model::ACTIONS], a: usize) -> u64
     ensures { λ r. ⌜ r ≡ sharing (now (table .entry)) a ⌝ }
 {
     let mine = table[a];
+    if mine == 0 {
+        return 0;
+    }
     let mut all = 0u64;
     for d in 0..Model::ACTIONS {
         all = sets::union(
@@ -120,6 +123,9 @@ fn spread(lead: &[u64; Model::ACTIONS], x: u64) -> u64
     requires { ⌜ length (now lead) ≡ maxActions ⌝ }
     ensures { λ r. ⌜ r ≡ spreadBy (now (lead .entry)) x ⌝ }
 {
+    if x == 0 {
+        return 0;
+    }
     let mut all = 0u64;
     for d in 0..Model::ACTIONS {
         all = sets::union(all, leads::pick(sets::has(x, d as u64), lead[d]));
@@ -138,76 +144,66 @@ fn add_elsewhere(t: &[u64], wakers: &[u64; Model::ACTIONS], table: &mut [u64; Mo
     }
 }
 
-// What each action leads on to, with what those lead on to that it is together with.
-fn add_led(
-    lead: &[u64; Model::ACTIONS],
-    with: &[u64; Model::ACTIONS],
-    table: &mut [u64; Model::ACTIONS],
-)
-    requires { ⌜ (length (now lead) ≡ maxActions) × (length (now with) ≡ maxActions) × (length (now table) ≡ maxActions) ⌝ }
-    ensures { λ _. ⌜ now (table .exit) ≡ ledFrom (now (lead .entry)) (now (with .entry)) (now (table .entry)) ⌝ }
+// In place, from what each action is together with: the set of each action that a leads on to takes in what those lead on to that a is with.
+fn add_led(lead: &[u64; Model::ACTIONS], table: &mut [u64; Model::ACTIONS])
+    requires { ⌜ (length (now lead) ≡ maxActions) × (length (now table) ≡ maxActions) ⌝ }
+    ensures { λ _. ⌜ now (table .exit) ≡ ledFrom (now (lead .entry)) (now (table .entry)) ⌝ }
 {
     for a in 0..Model::ACTIONS {
         let to = lead[a];
-        let new = spread(lead, with[a]);
+        let new = spread(lead, table[a]);
         leads::cross(table, to, new);
     }
 }
 
-// Each action by itself.
-fn singles() -> [u64; Model::ACTIONS]
-    ensures { λ r. ⌜ r ≡ tab only 0 maxActions ⌝ }
+// Each action leads on to itself.
+fn singles(table: &mut [u64; Model::ACTIONS])
+    requires { ⌜ length (now table) ≡ maxActions ⌝ }
+    ensures { λ _. ⌜ now (table .exit) ≡ tab only 0 maxActions ⌝ }
 {
-    let mut table = [0u64; Model::ACTIONS];
     for a in 0..Model::ACTIONS {
         table[a] = sets::single(a as u64);
     }
-    table
 }
 
 // What each action leads on to: the table of marks is closed.
-fn lead_table(t: &[u64]) -> [u64; Model::ACTIONS]
-    requires { ⌜ Image (now t) ⌝ }
-    ensures { λ r. ⌜ LeadTable (modelOf (now (t .entry))) r ⌝ }
+fn lead_table(t: &[u64], table: &mut [u64; Model::ACTIONS])
+    requires { ⌜ Image (now t) × (length (now table) ≡ maxActions) ⌝ }
+    ensures { λ _. ⌜ LeadTable (modelOf (now (t .entry))) (now (table .exit)) ⌝ }
 {
-    let mut table = singles();
-    learn(t, Kind::Triggers, &mut table);
-    marks::close_sets(&mut table);
-    table
-}
-
-// For each action the actions that enable it.
-fn waker_table(t: &[u64]) -> [u64; Model::ACTIONS]
-    requires { ⌜ Image (now t) ⌝ }
-    ensures { λ r. ⌜ r ≡ wakersOf (modelOf (now (t .entry))) ⌝ }
-{
-    let mut table = [0u64; Model::ACTIONS];
-    learn(t, Kind::Wakers, &mut table);
-    table
+    singles(table);
+    learn(t, Kind::Triggers, table);
+    marks::close_sets(table);
 }
 
 // For each urgent output those that it is together with.
-fn with_table(t: &[u64]) -> [u64; Model::ACTIONS]
-    requires { ⌜ Image (now t) ⌝ }
-    ensures { λ r. ⌜ r ≡ togetherOf (modelOf (now (t .entry))) ⌝ }
+fn with_table(t: &[u64], table: &mut [u64; Model::ACTIONS])
+    requires { ⌜ Image (now t) × (now table ≡ nothing) ⌝ }
+    ensures { λ _. ⌜ now (table .exit) ≡ togetherOf (modelOf (now (t .entry))) ⌝ }
 {
+    let mut wakers = [0u64; Model::ACTIONS];
+    learn(t, Kind::Wakers, &mut wakers);
     let s = starts(t);
-    let mut table = [0u64; Model::ACTIONS];
-    leads::cross(&mut table, s, s);
-    learn(t, Kind::Sets, &mut table);
-    let wakers = waker_table(t);
-    add_elsewhere(t, &wakers, &mut table);
-    table
+    leads::cross(table, s, s);
+    learn(t, Kind::Sets, table);
+    add_elsewhere(t, &wakers, table);
 }
 
-// The pairs of actions that are led to.
-pub fn led_table(t: &[u64]) -> [u64; Model::ACTIONS]
-    requires { ⌜ Image (now t) × (acceptOf (modelOf (now t)) ≡ none) ⌝ }
-    ensures { λ r. ⌜ LedTable (modelOf (now (t .entry))) r ⌝ }
+// The pairs that are led to, once it is known which outputs are together.
+fn led_from(t: &[u64], table: &mut [u64; Model::ACTIONS])
+    requires { ⌜ Image (now t) × (acceptOf (modelOf (now t)) ≡ none) × (now table ≡ togetherOf (modelOf (now t))) ⌝ }
+    ensures { λ _. ⌜ LedTable (modelOf (now (t .entry))) (now (table .exit)) ⌝ }
 {
-    let lead = lead_table(t);
-    let with = with_table(t);
-    let mut table = [0u64; Model::ACTIONS];
-    add_led(&lead, &with, &mut table);
-    table
+    let mut lead = [0u64; Model::ACTIONS];
+    lead_table(t, &mut lead);
+    add_led(&lead, table);
+}
+
+// The pairs of actions that are led to, in an empty table. Beside it one more lies on the stack at a time: 512 bytes each.
+pub fn led_table(t: &[u64], table: &mut [u64; Model::ACTIONS])
+    requires { ⌜ Image (now t) × (acceptOf (modelOf (now t)) ≡ none) × (now table ≡ nothing) ⌝ }
+    ensures { λ _. ⌜ LedTable (modelOf (now (t .entry))) (now (table .exit)) ⌝ }
+{
+    with_table(t, table);
+    led_from(t, table);
 }

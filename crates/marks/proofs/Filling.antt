@@ -20,21 +20,21 @@ place-more P d l j v h g p i k = elim (ℕ-discrete i j) [
   | no e ↦ rw (getD-set-other l j i v d e) (g i (omega arith))
 ]
 
--- ---- the marks of a row below j as a set
-pub record Members (row : List Bool) (j s : ℕ) : Type 0 where
-  pub below : (b : ℕ) → b < j → getD row b false ≡ has s b
+-- ---- the numbers below j with the test f as a set
+pub record Members (f : ℕ → Bool) (j s : ℕ) : Type 0 where
+  pub below : (b : ℕ) → b < j → f b ≡ has s b
   pub above : (b : ℕ) → j ≤ b → has s b ≡ false
 
-pub no-members : (row : List Bool) → Members row 0 0
-no-members row = record { below = λ b h. absurd (omega arith); above = λ b h. not-so (has 0 b) (none-in b) }
+pub no-members : (f : ℕ → Bool) → Members f 0 0
+no-members f = record { below = λ b h. absurd (omega arith); above = λ b h. not-so (has 0 b) (none-in b) }
 
-pub one-member : (row : List Bool) (j s : ℕ) → Members row j s → Members row (j + 1) (s ∪ cond (getD row j false) (only j) 0)
-one-member row j s m = record {
+pub one-member : (f : ℕ → Bool) (j s : ℕ) → Members f j s → Members f (j + 1) (s ∪ cond (f j) (only j) 0)
+one-member f j s m = record {
   below = λ b h. elim (ℕ-discrete b j) [
-    | yes p ↦ rw p (sym (here (getD row j false)))
-    | no p ↦ m .below b (omega arith) ∙ sym (there (getD row j false) b p)
+    | yes p ↦ rw p (sym (here (f j)))
+    | no p ↦ m .below b (omega arith) ∙ sym (there (f j) b p)
   ];
-  above = λ b h. there (getD row j false) b (λ e. omega (arith, e)) ∙ m .above b (omega arith);
+  above = λ b h. there (f j) b (λ e. omega (arith, e)) ∙ m .above b (omega arith);
 }
   where
     new : (x : Bool) → has (cond x (only j) 0) j ≡ x

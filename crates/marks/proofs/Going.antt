@@ -1,16 +1,20 @@
 -- A way by numbers up to n goes by n once, or not at all.
-use mathlib.Core.Path.{_≡_, sym, _∙_}
-use mathlib.Core.Logic.{_↔_, _⊎_, inl, inr, ⊎-elim}
-use mathlib.Core.Bool.{Bool, true, _||_, _&&_}
+use mathlib.Core.Path.{_≡_, refl, sym, _∙_, ap, ap₂, subst}
+use mathlib.Core.Logic.{_↔_, _⊎_, inl, inr, ⊎-elim, by-cases}
+use mathlib.Core.Bool.{Bool, true, false, _||_, _&&_, not, true≢false}
 use mathlib.Core.List.{List}
 use Prim.Native.Nat.{ℕ, _+_, _<_}
 use native.Mathlib.Omega.{arith}
 use native.Mathlib.Decide.{ℕ-discrete}
-use lib.ListN.{length}
-use Rattle.laws.proofs.SetLaws.{or-cases, or-left, or-right}
-use Rattle.laws.proofs.TestLaws.{and-true}
+use lib.ListN.{length, getD}
+use lib.Dec.{eqb}
+use borrow.Author.Tests.{eqb-true, not-false}
+use Rattle.laws.specs.Sets.{has, only, _∈_, _∖_}
+use Rattle.laws.proofs.SetLaws.{or-cases, or-left, or-right, none-in, one-in, without-in}
+use Rattle.laws.proofs.TestLaws.{and-true, not-so}
 use Rattle.marks.specs.Ways.{Way, edge, join}
-use Rattle.marks.specs.Marks.{rowsOfMarks, TableOf, Closed, ClosedSets}
+use Rattle.marks.specs.Marks.{rowsOfMarks, markAt, Idle, Passed, Closed, ClosedSets}
+use Rattle.marks.specs.Busy.{Busy, RowsOf, SetsOf}
 
 -- the same links between numbers below n, the same ways
 pub way-map : {E F : ℕ → ℕ → Type 0} (n : ℕ) → ((a b : ℕ) → a < n → b < n → E a b → F a b) → {a b : ℕ} → a < n → b < n → Way E n a b → Way F n a b
@@ -73,12 +77,76 @@ links {E} {a} {b} = (edge, back)
     back (edge e) = e
     back (join h p q) = absurd (omega arith)
 
--- a table of sets, its closure, and the sets of that
-pub closed-sets : {s r : List ℕ} {m n : List (List Bool)} → TableOf s m → Closed m n → TableOf r n → length r ≡ rowsOfMarks → ClosedSets s r
-closed-sets t c u l = record {
-  places = l;
-  ways = λ a b h k. (
-    λ e. way-map rowsOfMarks (λ x y p q w. sym (t .marks x y p q) ∙ w) h k (c .ways a b h k .0 (u .marks a b h k ∙ e)),
-    λ w. sym (u .marks a b h k) ∙ c .ways a b h k .1 (way-map rowsOfMarks (λ x y p q v. t .marks x y p q ∙ v) h k w),
-  );
+-- ---- a number that leads to itself at most, and the others
+pub busy-all : (s : List ℕ) (w : ℕ) → ((k : ℕ) → k < rowsOfMarks → not (eqb (getD s k 0 ∖ only k) 0) ≡ has w k) → Busy s w
+busy-all s w h = record {
+  itself = λ k l o b e. by-cases (ℕ-discrete b k) (λ q. q) (λ q.
+      let z : getD s k 0 ∖ only k ≡ 0 = eqb-true (getD s k 0 ∖ only k) 0 (not-false (eqb (getD s k 0 ∖ only k) 0) (h k l ∙ o)) in
+      absurd (none-in b (rw z at (without-in (getD s k 0) (only k) b e (not-so (has (only k) b) (λ i. q (one-in k b i)))))));
 }
+
+module _ (s : List ℕ) (w : ℕ) (busy : Busy s w) where
+  E : ℕ → ℕ → Type 0
+  E x y = y ∈ getD s x 0
+
+  -- from an idle number there is no way but its own link
+  idle-way : {a b : ℕ} → a < rowsOfMarks → has w a ≡ false → Way E rowsOfMarks a b → b ∈ getD s a 0
+  unfolding E
+  idle-way h i (edge e) = e
+  idle-way {a} {b} h i (join {k = k} l p q) =
+      let e : k ≡ a = busy .itself a h i k (idle-way h i p) in
+      subst (λ n. b ∈ getD s n 0) e (idle-way l (ap (has w) e ∙ i) q)
+
+  module _ (m : List (List Bool)) (t : RowsOf w s m) where
+    to : (a b : ℕ) → a < rowsOfMarks → b < rowsOfMarks → markAt m a b ≡ true → E a b
+    unfolding E
+    to a b h l e = go (has w a) refl
+      where
+        go : (x : Bool) → has w a ≡ x → b ∈ getD s a 0
+        go true i = sym (t .rows a h i .marks b l) ∙ e
+        go false i = absurd (true≢false (sym e ∙ t .idle .none a b h l i))
+
+    back : {a b : ℕ} → a < rowsOfMarks → b < rowsOfMarks → a ∈ w → Way E rowsOfMarks a b → Way (λ x y. markAt m x y ≡ true) rowsOfMarks a b
+    unfolding E
+    back {a} {b} h l i (edge e) = edge (t .rows a h i .marks b l ∙ e)
+    back {a} {b} h l i (join {k = k} g p q) = by (has w k) refl (back h g i p) (λ j. back g l j q)
+      where
+        by : (x : Bool) → has w k ≡ x → Way (λ x y. markAt m x y ≡ true) rowsOfMarks a k → (k ∈ w → Way (λ x y. markAt m x y ≡ true) rowsOfMarks k b)
+            → Way (λ x y. markAt m x y ≡ true) rowsOfMarks a b
+        by true j u v = join {k = k} g u (v j)
+        by false j u v = subst (Way (λ x y. markAt m x y ≡ true) rowsOfMarks a) (sym (busy .itself k g j b (idle-way g j q))) u
+
+    -- the table of these sets, its closure, and the sets of that
+    pub closed-sets : (n : List (List Bool)) → Closed m n → (r : List ℕ) → SetsOf w n s r → ClosedSets s r
+    unfolding E
+    closed-sets n c r u = record { places = u .places; ways = λ a b h l. by a b h l (has w a) refl }
+      where
+        by : (a b : ℕ) → a < rowsOfMarks → b < rowsOfMarks → (x : Bool) → has w a ≡ x → (b ∈ getD r a 0) ↔ Way (λ x y. y ∈ getD s x 0) rowsOfMarks a b
+        by a b h l true i = (
+          λ e. way-map rowsOfMarks to h l (c .ways a b h l .0 (u .sets a h i .marks b l ∙ e)),
+          λ v. sym (u .sets a h i .marks b l) ∙ c .ways a b h l .1 (back h l i v),
+        )
+        by a b h l false i = (
+          λ e. edge (rw (u .others a i) at e),
+          λ v. rw (u .others a i) (idle-way h i v),
+        )
+
+-- ---- rows without marks stay so, and where k has none nothing is passed
+pub idle-passed : (w k : ℕ) (m n : List (List Bool)) → k < rowsOfMarks → Passed k m n → Idle w m → Idle w n
+idle-passed w k m n l p i = record {
+  none = λ a b h g o.
+      p .marks a b h g ∙ ap₂ (λ x y. x || (y && markAt m k b)) (i .none a b h g o) (i .none a k h l o);
+}
+
+pub passed-idle : (w k : ℕ) (m : List (List Bool)) → length m ≡ rowsOfMarks → k < rowsOfMarks → Idle w m → has w k ≡ false → Passed k m m
+passed-idle w k m c l i o = record {
+  rows = c;
+  marks = λ a b h g.
+      sym (ap (λ x. markAt m a b || (markAt m a k && x)) (i .none k b l g o) ∙ plain (markAt m a b) (markAt m a k));
+}
+  where
+    plain : (x y : Bool) → (x || (y && false)) ≡ x
+    plain true true = refl
+    plain true false = refl
+    plain false true = refl
+    plain false false = refl

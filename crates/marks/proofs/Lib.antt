@@ -1,2 +1,4 @@
 pub mod Going
 pub mod Filling
+pub mod Passing
+pub mod Rows

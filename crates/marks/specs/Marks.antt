@@ -20,9 +20,15 @@ markAt m a b = getD (getD m a []) b false
 pub record RowOf (s : ℕ) (r : List Bool) : Type 0 where
   pub marks : (b : ℕ) → b < rowsOfMarks → getD r b false ≡ has s b
 
--- the table of 64 sets
-pub record TableOf (s : List ℕ) (m : List (List Bool)) : Type 0 where
-  pub marks : (a b : ℕ) → a < rowsOfMarks → b < rowsOfMarks → markAt m a b ≡ has (getD s a 0) b
+-- row a has the marks of another where it has one at k, and the other rows are as they were
+pub record Joined (a k : ℕ) (via : List Bool) (m n : List (List Bool)) : Type 0 where
+  pub rows : length n ≡ rowsOfMarks
+  pub here : (b : ℕ) → b < rowsOfMarks → markAt n a b ≡ (markAt m a b || (markAt m a k && getD via b false))
+  pub others : (i : ℕ) → (i ≡ a → ⊥) → getD n i [] ≡ getD m i []
+
+-- no row but those of w has a mark
+pub record Idle (w : ℕ) (m : List (List Bool)) : Type 0 where
+  pub none : (a b : ℕ) → a < rowsOfMarks → b < rowsOfMarks → has w a ≡ false → markAt m a b ≡ false
 
 -- every way by k becomes a mark
 pub record Passed (k : ℕ) (m n : List (List Bool)) : Type 0 where

@@ -4,7 +4,8 @@ ghost use mathlib.Core.Bool.{true, false, _||_, _&&_, cond};
 ghost use Prim.Native.Nat.{ℕ, _<_};
 ghost use lib.ListN.{length, getD};
 ghost use Rattle.laws.specs.Sets.{only};
-ghost use Rattle.marks.specs.Marks.{rowsOfMarks, RowOf, TableOf, Passed, Closed, ClosedSets};
+ghost use Rattle.marks.specs.Marks.{rowsOfMarks, RowOf, Joined, Idle, Passed, Closed, ClosedSets};
+ghost use Rattle.marks.specs.Busy.{Busy, RowsOf, SetsOf};
 
 // A row, with the marks of another where `on`.
 fn joined(x: [bool; 64], y: [bool; 64], on: bool) -> [bool; 64]
@@ -17,6 +18,18 @@ fn joined(x: [bool; 64], y: [bool; 64], on: bool) -> [bool; 64]
     next
 }
 
+// Row a, with the marks of another where it has a mark at k.
+fn join_row(m: &mut [[bool; 64]; 64], a: usize, k: usize, via: [bool; 64])
+    requires { ⌜ (length (now m) ≡ rowsOfMarks) × (a < rowsOfMarks) × (k < rowsOfMarks) ⌝ }
+    ensures { λ _. ⌜ Joined a k via (now (m .entry)) (now (m .exit)) ⌝ }
+{
+    let row = m[a];
+    let on = row[k];
+    if on {
+        m[a] = joined(row, via, on);
+    }
+}
+
 // Every way by k becomes a mark.
 fn pass(m: &mut [[bool; 64]; 64], k: usize)
     requires { ⌜ (length (now m) ≡ rowsOfMarks) × (k < rowsOfMarks) ⌝ }
@@ -24,19 +37,27 @@ fn pass(m: &mut [[bool; 64]; 64], k: usize)
 {
     let via = m[k];
     for a in 0..64 {
-        let row = m[a];
-        let on = row[k];
-        m[a] = joined(row, via, on);
+        join_row(m, a, k, via);
+    }
+}
+
+// The same, where only the rows of w have marks.
+fn turn(m: &mut [[bool; 64]; 64], k: usize, w: u64)
+    requires { ⌜ (length (now m) ≡ rowsOfMarks) × (k < rowsOfMarks) × Idle w (now m) ⌝ }
+    ensures { λ _. ⌜ Passed k (now (m .entry)) (now (m .exit)) ⌝ }
+{
+    if sets::has(w, k as u64) {
+        pass(m, k);
     }
 }
 
 // Every way becomes a mark.
-fn close(m: &mut [[bool; 64]; 64])
-    requires { ⌜ length (now m) ≡ rowsOfMarks ⌝ }
+fn close(m: &mut [[bool; 64]; 64], w: u64)
+    requires { ⌜ (length (now m) ≡ rowsOfMarks) × Idle w (now m) ⌝ }
     ensures { λ _. ⌜ Closed (now (m .entry)) (now (m .exit)) ⌝ }
 {
     for k in 0..64 {
-        pass(m, k);
+        turn(m, k, w);
     }
 }
 
@@ -51,14 +72,18 @@ fn row_of(s: u64) -> [bool; 64]
     next
 }
 
-// The table of 64 sets.
-fn table_of(s: &[u64; 64]) -> [[bool; 64]; 64]
+// The table of 64 sets: a row for each of w, and none for the others.
+fn table_of(s: &[u64; 64], w: u64) -> [[bool; 64]; 64]
     requires { ⌜ length (now s) ≡ rowsOfMarks ⌝ }
-    ensures { λ r. ⌜ TableOf (now (s .entry)) r ⌝ }
+    ensures { λ r. ⌜ RowsOf w (now (s .entry)) r ⌝ }
 {
     let mut next = [[false; 64]; 64];
-    for a in 0..64 {
+    let mut left = w;
+    while left != 0 {
+        let x = sets::lowest(left);
+        let a = x as usize;
         next[a] = row_of(s[a]);
+        left = sets::minus(left, sets::single(x));
     }
     next
 }
@@ -82,14 +107,31 @@ fn set_of(row: [bool; 64]) -> u64
     all
 }
 
-// The 64 sets of a table, into the places that the caller lends.
-fn sets_of(m: &[[bool; 64]; 64], s: &mut [u64; 64])
-    requires { ⌜ (length (now m) ≡ rowsOfMarks) × (length (now s) ≡ rowsOfMarks) ⌝ }
-    ensures { λ _. ⌜ (length (now (s .exit)) ≡ rowsOfMarks) × TableOf (now (s .exit)) (now (m .entry)) ⌝ }
+// The numbers that lead elsewhere; the others lead to themselves at most.
+fn busy(s: &[u64; 64]) -> u64
+    requires { ⌜ length (now s) ≡ rowsOfMarks ⌝ }
+    ensures { λ r. ⌜ Busy (now (s .entry)) r ⌝ }
 {
-    for a in 0..64 {
+    let mut all = 0u64;
+    for k in 0..64 {
+        let others = sets::minus(s[k], sets::single(k as u64));
+        all = sets::union(all, member(others != 0, k as u64));
+    }
+    all
+}
+
+// The sets of the rows of w, into the places that the caller lends.
+fn sets_of(m: &[[bool; 64]; 64], w: u64, s: &mut [u64; 64])
+    requires { ⌜ (length (now m) ≡ rowsOfMarks) × (length (now s) ≡ rowsOfMarks) ⌝ }
+    ensures { λ _. ⌜ SetsOf w (now (m .entry)) (now (s .entry)) (now (s .exit)) ⌝ }
+{
+    let mut left = w;
+    while left != 0 {
+        let x = sets::lowest(left);
+        let a = x as usize;
         let row = m[a];
         s[a] = set_of(row);
+        left = sets::minus(left, sets::single(x));
     }
 }
 
@@ -98,7 +140,8 @@ pub fn close_sets(s: &mut [u64; 64])
     requires { ⌜ length (now s) ≡ rowsOfMarks ⌝ }
     ensures { λ _. ⌜ ClosedSets (now (s .entry)) (now (s .exit)) ⌝ }
 {
-    let mut table = table_of(s);
-    close(&mut table);
-    sets_of(&table, s);
+    let w = busy(s);
+    let mut table = table_of(s, w);
+    close(&mut table, w);
+    sets_of(&table, w, s);
 }

@@ -5,7 +5,6 @@ use mathlib.Core.Option.{Option, none, some}
 use mathlib.Core.List.{List, [], _∷_}
 use Prim.Native.Nat.{ℕ, _≤_, _<_}
 use native.Mathlib.Omega.{arith}
-use lib.ListN.{length}
 use lib.IntN.{ℤ}
 use Rattle.laws.specs.Sets.{_∪_}
 use Rattle.laws.specs.Search.{least}
@@ -24,17 +23,16 @@ use Rattle.iosa.specs.Settle.{settle}
 use Rattle.iosa.specs.Orders.{Settling}
 use Rattle.layout.specs.Image.{modelOf}
 use Rattle.layout.proofs.RowsOfRange.{well-formed}
-use Rattle.ticks.specs.Ticks.{orNone}
+use Rattle.words.specs.Bytes.{stateOf}
 use Rattle.settling.specs.Gives.{SettleGives}
-use Rattle.simulation.specs.Simulate.{Supply, eachFrom, lacks, fedAt, fed, endOf, closeOf}
-use Rattle.simulation.specs.Samples.{recorded}
-use Rattle.samples.specs.declared.Feed.{Feed}
-use Rattle.feed.specs.Feeding.{held, Moved}
-use Rattle.feed.proofs.Supplied.{same-least, same-fed, supplied-next, fed-ticking}
+use Rattle.simulation.specs.Simulate.{Supply, lacks, fed, endOf, closeOf}
+use Rattle.feed.specs.Supply.{Lent, ranOutOf, Supplies}
+use Rattle.feed.specs.Feeding.{Fed, FedCall}
+use Rattle.feed.proofs.Supplied.{ran-out-told}
 use Rattle.rounds.specs.declared.Stand.{Stand}
 use Rattle.rounds.specs.declared.Closed.{Closed}
 use Rattle.rounds.specs.declared.Closing.the-variants.{Done, Refused}
-use Rattle.rounds.specs.Rounds.{saysClosing, Posed, Closes, EndCall, CloseCall}
+use Rattle.rounds.specs.Rounds.{saysClosing, Posed, Placed, Closes, EndCall, CloseCall}
 use Rattle.rounds.proofs.Keeps.{settle-keeps}
 use Rattle.rounds.proofs.Poses.{posed-parts, posed-with, posed-again}
 
@@ -48,55 +46,60 @@ module _ (p : Supply) (w : ℕ) (s : List ℕ) (vs : List ℤ) (ts : List ℕ) w
   unfolding endOf
   end-fed e = rw (e, endOf)
 
-module _ (text : List ℕ) (s : Stand) (was : List ℤ) (x : ℕ) (found : x ≡ orNone (least (lacks (held text (s .feed)) (s .resets) []) maxClocks)) where
-  -- x is the lowest that has none left, or the limit
-  lowest-so : (o : Option ℕ) → least (lacks (held text (s .feed)) (s .resets) []) maxClocks ≡ o → x < maxClocks → o ≡ some x
-  lowest-so none e h = absurd (omega (arith, found ∙ ap orNone e))
-  lowest-so (some y) e h = ap some (sym (found ∙ ap orNone e))
-
-  none-so : (o : Option ℕ) → least (lacks (held text (s .feed)) (s .resets) []) maxClocks ≡ o → maxClocks ≤ x → o ≡ none
-  none-so none e h = refl
-  none-so (some y) e h = absurd (omega (arith, found ∙ ap orNone e, least-some (lacks (held text (s .feed)) (s .resets) []) maxClocks y e .below))
-
-  pub ends-41 : x < maxClocks → (r : Closed) → r ≡ record { closing = Refused (record { number = 41; place = OfPlace.Clock x }); state = s .state; feed = s .feed }
-      → EndCall text s was r was
-  unfolding saysClosing told
-  ends-41 h r e = record {
-    ends = λ ls ts k z.
-        let l = sym (same-least text ls ts (s .feed) k (s .resets)) ∙ lowest-so (least (lacks (held text (s .feed)) (s .resets) []) maxClocks) refl h in
-        subst (λ a. Closes a text ls r was) (sym (end-lacks (recorded ls) (s .resets) (partsOf (s .state)) was ts x l))
-        (ap (λ (q : Closed). saysClosing (q .closing)) e);
-    state = ap (λ (q : Closed). q .state) e;
-    ticking = λ d k. k;
+module _ (l : Lent) (s : Stand) (at used : List ℕ) (was : List ℤ) (x : ℕ) (at′ used′ : List ℕ) (vs : List ℤ)
+    (call : FedCall l (s .resets) at used was x at′ used′ vs) where
+  ends-so : (r : Closed) → r .state ≡ s .state
+      → ((p : Supply) (ts : List ℕ) → Supplies l p ts at used → s .state ≡ stateOf (partsOf (s .state)) → (o : Option ℕ) → least (lacks p (s .resets) ts) maxClocks ≡ o
+      → Fed o l p (s .resets) ts was x at′ used′ vs → Closes (endOf p (s .resets) (partsOf (s .state)) was ts) l p r at′ used′ vs)
+      → EndCall l s at used was r at′ used′ vs
+  ends-so r e by = record {
+    ends = λ p ts k z. by p ts k z (least (lacks p (s .resets) ts) maxClocks) refl (call .fed p ts k);
+    placed = record { at-count = call .at-count; used-count = call .used-count };
+    state = e;
+    ticking = call .ticking;
   }
 
-  pub ends-fed : maxClocks ≤ x → length was ≡ maxClocks → (g : Feed) (vs : List ℤ) → vs ≡ eachFrom (fedAt (held text (s .feed)) (s .resets) []) 0 was
-      → Moved text (s .resets) (s .feed) g → (r : Closed) → r ≡ record { closing = Done; state = s .state; feed = g } → EndCall text s was r vs
-  ends-fed h c g vs ev m r e = record {
-    ends = λ ls ts k z.
-        let l = sym (same-least text ls ts (s .feed) k (s .resets)) ∙ none-so (least (lacks (held text (s .feed)) (s .resets) []) maxClocks) refl h in
-        subst (λ a. Closes a text ls r vs) (sym (end-fed (recorded ls) (s .resets) (partsOf (s .state)) was ts l)) (record {
-          closing = ap (λ (q : Closed). q .closing) e;
-          state = ap (λ (q : Closed). q .state) e ∙ z;
-          values = ev ∙ same-fed text ls ts (s .feed) k (s .resets) was c;
-          feed = rw e (supplied-next text ls ts (s .feed) k (s .resets) l g m);
-        });
-    state = ap (λ (q : Closed). q .state) e;
-    ticking = λ d k. rw ev (fed-ticking text (s .feed) (s .resets) d was k);
-  }
+  pub ends-lacking : x < maxClocks → (n : ℕ) → n ≡ ranOutOf (l .source) → (r : Closed)
+      → r ≡ record { closing = Refused (record { number = n; place = OfPlace.Clock x }); state = s .state } → EndCall l s at used was r at′ used′ vs
+  unfolding saysClosing
+  ends-lacking h n en r e = ends-so r (ap (λ (q : Closed). q .state) e) by
+    where
+      tells : (p : Supply) → p .ranOut ≡ ranOutOf (l .source) → (y : ℕ) → x ≡ y
+          → asRefused {A = Bool} (told (record { number = n; place = OfPlace.Clock x })) ≡ some (refused (tell (p .ranOut) (y ∷ [])))
+      tells p ep y ey = rw (en, ep, ey) (ap asRefused (ran-out-told (l .source) y))
+
+      by : (p : Supply) (ts : List ℕ) → Supplies l p ts at used → s .state ≡ stateOf (partsOf (s .state)) → (o : Option ℕ) → least (lacks p (s .resets) ts) maxClocks ≡ o
+          → Fed o l p (s .resets) ts was x at′ used′ vs → Closes (endOf p (s .resets) (partsOf (s .state)) was ts) l p r at′ used′ vs
+      by p ts k z none q f = absurd (omega (arith, f .limit))
+      by p ts k z (some y) q f =
+          subst (λ a. Closes a l p r at′ used′ vs) (sym (end-lacks p (s .resets) (partsOf (s .state)) was ts y q))
+          (ap (λ (c : Closed). saysClosing (c .closing)) e ∙ tells p (k .number) y f)
+
+  pub ends-fed : maxClocks ≤ x → (r : Closed) → r ≡ record { closing = Done; state = s .state } → EndCall l s at used was r at′ used′ vs
+  ends-fed h r e = ends-so r (ap (λ (q : Closed). q .state) e) by
+    where
+      by : (p : Supply) (ts : List ℕ) → Supplies l p ts at used → s .state ≡ stateOf (partsOf (s .state)) → (o : Option ℕ) → least (lacks p (s .resets) ts) maxClocks ≡ o
+          → Fed o l p (s .resets) ts was x at′ used′ vs → Closes (endOf p (s .resets) (partsOf (s .state)) was ts) l p r at′ used′ vs
+      by p ts k z none q f = subst (λ a. Closes a l p r at′ used′ vs) (sym (end-fed p (s .resets) (partsOf (s .state)) was ts q)) (record {
+        closing = ap (λ (c : Closed). c .closing) e;
+        state = ap (λ (c : Closed). c .state) e ∙ z;
+        values = f .values;
+        supplies = f .supplies;
+      })
+      by p ts k z (some y) q f = absurd (omega (arith, f, least-some (lacks p (s .resets) ts) maxClocks y q .below))
 
 -- ---- settling, then the end
-module _ (t text : List ℕ) (k : ℕ) (s : Stand) (was : List ℤ) (posed : Posed t (s .state) was) (d : Settled)
+module _ (t : List ℕ) (s : Stand) (was : List ℤ) (posed : Posed t (s .state) was) (d : Settled)
     (given : SettleGives (modelOf t) maxBudget (s .state) d) where
   abbrev ours : Settling (List ℕ)
   ours = settle (urgentStep (modelOf t)) maxBudget (partsOf (s .state))
 
   close-stable : (p : Supply) (ts : List ℕ) → ours .stable ≡ true
-      → closeOf (modelOf t) p k (s .resets) (partsOf (s .state)) was ts ≡ endOf p (s .resets ∪ ours .resets) (ours .state) was ts
+      → closeOf (modelOf t) p (s .round) (s .resets) (partsOf (s .state)) was ts ≡ endOf p (s .resets ∪ ours .resets) (ours .state) was ts
   unfolding closeOf
   close-stable p ts e = rw (e, closeOf)
 
-  close-42 : (p : Supply) (ts : List ℕ) → ours .stable ≡ false → closeOf (modelOf t) p k (s .resets) (partsOf (s .state)) was ts ≡ refused (tell 42 (k ∷ []))
+  close-42 : (p : Supply) (ts : List ℕ) → ours .stable ≡ false → closeOf (modelOf t) p (s .round) (s .resets) (partsOf (s .state)) was ts ≡ refused (tell 42 (s .round ∷ []))
   unfolding closeOf
   close-42 p ts e = rw (e, closeOf)
 
@@ -110,28 +113,30 @@ module _ (t text : List ℕ) (k : ℕ) (s : Stand) (was : List ℤ) (posed : Pos
   settled-parts : partsOf (d .state) ≡ ours .state
   settled-parts = posed-parts t (s .state) was posed (d .state) (ours .state) (given .state) kept
 
-  pub closes-stable : d .verdict ≡ OfVerdict.Stable → (R : ℕ) → R ≡ s .resets ∪ d .resets → (r : Closed) (vs : List ℤ)
-      → EndCall text (record { state = d .state; feed = s .feed; resets = R }) was r vs → CloseCall t text k s was r vs
+  pub closes-stable : (l : Lent) (at used : List ℕ) → d .verdict ≡ OfVerdict.Stable → (R : ℕ) → R ≡ s .resets ∪ d .resets → (r : Closed) (at′ used′ : List ℕ) (vs : List ℤ)
+      → EndCall l (record { from = s .from; round = s .round; state = d .state; resets = R }) at used was r at′ used′ vs → CloseCall t l s at used was r at′ used′ vs
   unfolding saysVerdict
-  closes-stable v R er r vs e =
+  closes-stable l at used v R er r at′ used′ vs e =
       let st : ours .stable ≡ true = let q : some (answered true) ≡ some (answered (ours .stable)) = ap saysVerdict (sym v) ∙ given .verdict in cc in
       let rs : R ≡ s .resets ∪ ours .resets = er ∙ ap (λ n. s .resets ∪ n) (given .resets) in
       record {
-        closes = λ ls ts m.
-            subst (λ a. Closes a text ls r vs)
-            (ap₂ (λ n l. endOf (recorded ls) n l was ts) rs settled-parts ∙ sym (close-stable (recorded ls) ts st))
-            (e .ends ls ts m (settled-posed .zeros));
+        closes = λ p ts m.
+            subst (λ a. Closes a l p r at′ used′ vs)
+            (ap₂ (λ n u. endOf p n u was ts) rs settled-parts ∙ sym (close-stable p ts st))
+            (e .ends p ts m (settled-posed .zeros));
+        placed = e .placed;
         posed = posed-again t (d .state) (r .state) was vs settled-posed (e .state) (e .ticking (declared (modelOf t)) (posed .ticking));
       }
 
-  pub closes-42 : d .verdict ≡ OfVerdict.Unsettled → (r : Closed)
-      → r ≡ record { closing = Refused (record { number = 42; place = OfPlace.Index k }); state = d .state; feed = s .feed } → CloseCall t text k s was r was
+  pub closes-42 : (l : Lent) (at used : List ℕ) → d .verdict ≡ OfVerdict.Unsettled → (r : Closed)
+      → r ≡ record { closing = Refused (record { number = 42; place = OfPlace.Index (s .round) }); state = d .state } → Placed at used → CloseCall t l s at used was r at used was
   unfolding saysVerdict saysClosing told
-  closes-42 v r e =
+  closes-42 l at used v r e c =
       let st : ours .stable ≡ false = let q : some (answered false) ≡ some (answered (ours .stable)) = ap saysVerdict (sym v) ∙ given .verdict in cc in
       record {
-        closes = λ ls ts m.
-            subst (λ a. Closes a text ls r was) (sym (close-42 (recorded ls) ts st)) (ap (λ (q : Closed). saysClosing (q .closing)) e);
+        closes = λ p ts m.
+            subst (λ a. Closes a l p r at used was) (sym (close-42 p ts st)) (ap (λ (q : Closed). saysClosing (q .closing)) e);
+        placed = c;
         posed = posed-again t (d .state) (r .state) was was settled-posed (ap (λ (q : Closed). q .state) e) (posed .ticking);
       }
 

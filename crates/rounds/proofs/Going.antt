@@ -27,16 +27,13 @@ use Rattle.words.proofs.Laid.{state-numbers}
 use Rattle.ticks.specs.Ticks.{Tick}
 use Rattle.moves.proofs.Ready.{count-few}
 use Rattle.simulation.specs.Simulate.{Supply, Round, closeOf, andThen, Simulation, noValues, noneTaken, roundZero, roundsFrom, simulateOf}
-use Rattle.simulation.specs.Samples.{recorded}
-use Rattle.samples.specs.declared.Feed.{Feed}
-use Rattle.samples.specs.Text.{Feeds}
-use Rattle.feed.specs.Feeding.{Supplies}
-use Rattle.feed.proofs.Supplied.{supplied-first, count-tick}
-use Rattle.rounds.specs.declared.Stand.{Stand}
+use Rattle.feed.specs.Supply.{Lent, Supplies}
+use Rattle.feed.proofs.Feeding.{count-tick}
+use Rattle.feed.specs.declared.Source.{Source}
 use Rattle.rounds.specs.declared.Closed.{Closed}
 use Rattle.rounds.specs.declared.Closing.{Closing}
 use Rattle.rounds.specs.declared.Closing.the-variants.{Done, Quiet, Refused}
-use Rattle.rounds.specs.Rounds.{saysClosing, Posed, RoundIs, Closes, laterOf, Later, CloseCall, LaterCall, Runnable, Runs, refusedWith, RoundsCall, FirstCall, RunCall}
+use Rattle.rounds.specs.Rounds.{saysClosing, Posed, Placed, RoundIs, Closes, laterOf, Later, CloseCall, LaterCall, Runnable, Runs, refusedWith, RoundsCall, FirstCall, RunCall}
 
 -- ---- one later round of those that are left
 module _ (m : Model) (p : Supply) (n r : ℕ) (q : Round) where
@@ -80,13 +77,13 @@ unfolding roundsFrom
 no-round m p n r q e = rw (e, roundsFrom)
 
 -- ---- what a round ended with
-abbrev at : Stand → List ℤ → List ℕ → Round
-at s vs ts = record { state = partsOf (s .state); values = vs; taken = ts }
+abbrev ended : State → List ℤ → List ℕ → Round
+ended x vs ts = record { state = partsOf x; values = vs; taken = ts }
 
-round-is : (t text : List ℕ) (ls : List (List ℕ)) (q : Round) (r : Closed) (vs : List ℤ) (R : ℕ) → Posed t (r .state) vs → RoundIs text ls q r vs
-    → at (record { state = r .state; feed = r .feed; resets = R }) vs (q .taken) ≡ q
+round-is : (t : List ℕ) (l : Lent) (p : Supply) (q : Round) (r : Closed) (at used : List ℕ) (vs : List ℤ) → Posed t (r .state) vs → RoundIs l p q r at used vs
+    → ended (r .state) vs (q .taken) ≡ q
 unfolding stateOf
-round-is t text ls q r vs R k i =
+round-is t l p q r at used vs k i =
     let c : r .state .count ≡ length (q .state) = ap (λ (x : State). x .count) (i .state) in
     let few : length (q .state) ≤ maxComponents = omega (arith, c, count-few t (r .state) (k .ready .standing)) in
     ap₂ (λ a b. record { state = a; values = b; taken = q .taken }) (ap partsOf (i .state) ∙ state-numbers (q .state) few) (i .values)
@@ -122,99 +119,110 @@ refusal-is c q f r vs h e i = record {
     go (some g) k h = let z : g ≡ f = cc in k ∙ ap some z
 
 -- ---- the loop
-pub record Going (t text : List ℕ) (n : ℕ) (s₀ : Stand) (was : List ℤ) (s : Stand) (vs : List ℤ) (k : ℕ) : Type 0 where
+-- x₀, at₀, used₀ and was are the state, places and values after round 0, and the others those after round k
+pub record Going (t : List ℕ) (l : Lent) (n : ℕ) (x₀ : State) (at₀ used₀ : List ℕ) (was : List ℤ) (x : State) (at used : List ℕ) (vs : List ℤ) (k : ℕ) : Type 0 where
   pub below : k ≤ n
-  pub posed : Posed t (s .state) vs
-  pub along : (ls : List (List ℕ)) (ts : List ℕ) → Supplies text ls ts (s₀ .feed)
-      → (us : List ℕ) × Supplies text ls us (s .feed)
-      × (roundsFrom (modelOf t) (recorded ls) (n - k) k (at s vs us) ≡ roundsFrom (modelOf t) (recorded ls) n 0 (at s₀ was ts))
+  pub placed : Placed at used
+  pub posed : Posed t x vs
+  pub along : (p : Supply) (ts : List ℕ) → Supplies l p ts at₀ used₀
+      → (us : List ℕ) × Supplies l p us at used × (roundsFrom (modelOf t) p (n - k) k (ended x vs us) ≡ roundsFrom (modelOf t) p n 0 (ended x₀ was ts))
 
-pub going-none : (t text : List ℕ) (n : ℕ) (s : Stand) (vs : List ℤ) → Posed t (s .state) vs → Going t text n s vs s vs 0
-going-none t text n s vs k = record {
+pub going-none : (t : List ℕ) (l : Lent) (n : ℕ) (x : State) (at used : List ℕ) (vs : List ℤ) → Placed at used → Posed t x vs → Going t l n x at used vs x at used vs 0
+going-none t l n x at used vs c k = record {
   below = omega arith;
+  placed = c;
   posed = k;
-  along = λ ls ts m. let e : n - 0 ≡ n = omega arith in (ts, m, ap (λ j. roundsFrom (modelOf t) (recorded ls) j 0 (at s vs ts)) e);
+  along = λ p ts m. let e : n - 0 ≡ n = omega arith in (ts, m, ap (λ j. roundsFrom (modelOf t) p j 0 (ended x vs ts)) e);
 }
 
-module _ (t text : List ℕ) (n : ℕ) (s₀ : Stand) (was : List ℤ) (s : Stand) (vs : List ℤ) (k : ℕ) (w : Going t text n s₀ was s vs k) where
+module _ (t : List ℕ) (l : Lent) (n : ℕ) (x₀ : State) (at₀ used₀ : List ℕ) (was : List ℤ) (x : State) (at used : List ℕ) (vs : List ℤ) (k : ℕ)
+    (w : Going t l n x₀ at₀ used₀ was x at used vs k) where
   -- the rounds are all done
-  pub going-end : n ≤ k → (r : Simulated) → r ≡ record { ended = OfEnded.Rounds k; state = s .state } → RoundsCall t text n s₀ was r vs
+  pub going-end : n ≤ k → (r : Simulated) → r ≡ record { ended = OfEnded.Rounds k; state = x } → RoundsCall t l n x₀ at₀ used₀ was r vs
   unfolding saysEnded
-  going-end h r e ls ts m =
-      let g = w .along ls ts m in
-      let z : n - k ≡ 0 = omega arith in
-      subst (λ a. Runs a r vs) (sym (no-round (modelOf t) (recorded ls) (n - k) k (at s vs (g .0)) z) ∙ g .2) (record {
-        ended = ap (λ (q : Simulated). saysEnded (q .ended)) e;
-        state = ap (λ (q : Simulated). q .state) e ∙ w .posed .zeros;
-        values = refl;
-      })
+  going-end h r e = record {
+    runs = λ p ts m.
+        let g = w .along p ts m in
+        let z : n - k ≡ 0 = omega arith in
+        subst (λ a. Runs a r vs) (sym (no-round (modelOf t) p (n - k) k (ended x vs (g .0)) z) ∙ g .2) (record {
+          ended = ap (λ (q : Simulated). saysEnded (q .ended)) e;
+          state = ap (λ (q : Simulated). q .state) e ∙ w .posed .zeros;
+          values = refl;
+        });
+  }
 
-  module _ (h : k < n) (c : Closed) (us : List ℤ) (call : LaterCall t text (k + 1) s vs c us) where
+  module _ (h : k < n) (from : Source) (c : Closed) (at′ used′ : List ℕ) (us : List ℤ)
+      (call : LaterCall t l (record { from = from; round = k + 1; state = x; resets = 0 }) at used vs c at′ used′ us) where
     -- what is left is one round and the others
-    left : (ls : List (List ℕ)) (ts : List ℕ) (m : Supplies text ls ts (s₀ .feed)) → (ws : List ℕ) × Supplies text ls ws (s .feed)
-        × (onward (modelOf t) (recorded ls) (n - (k + 1)) k (at s vs ws) (laterOf (modelOf t) (recorded ls) (k + 1) (partsOf (s .state)) vs ws)
-        ≡ roundsFrom (modelOf t) (recorded ls) n 0 (at s₀ was ts))
-    left ls ts m =
-        let g = w .along ls ts m in
-        let p = recorded ls in
+    Left : (p : Supply) (ts : List ℕ) → Type 0
+    Left p ts = (ws : List ℕ) × Supplies l p ws at used
+        × (onward (modelOf t) p (n - (k + 1)) k (ended x vs ws) (laterOf (modelOf t) p (k + 1) (partsOf x) vs ws) ≡ roundsFrom (modelOf t) p n 0 (ended x₀ was ts))
+
+    left : (p : Supply) (ts : List ℕ) (m : Supplies l p ts at₀ used₀) → Left p ts
+    unfolding Left
+    left p ts m =
+        let g = w .along p ts m in
         let e : n - k ≡ suc (n - (k + 1)) = omega arith in (
           g .0,
           g .1,
-          ap (λ i. onward (modelOf t) p (n - (k + 1)) k (at s vs (g .0)) (laterOf (modelOf t) p i (partsOf (s .state)) vs (g .0))) (add-one k)
-              ∙ sym (one-round (modelOf t) p (n - (k + 1)) k (at s vs (g .0)))
-              ∙ sym (ap (λ i. roundsFrom (modelOf t) p i k (at s vs (g .0))) e)
+          ap (λ i. onward (modelOf t) p (n - (k + 1)) k (ended x vs (g .0)) (laterOf (modelOf t) p i (partsOf x) vs (g .0))) (add-one k)
+              ∙ sym (one-round (modelOf t) p (n - (k + 1)) k (ended x vs (g .0)))
+              ∙ sym (ap (λ i. roundsFrom (modelOf t) p i k (ended x vs (g .0))) e)
               ∙ g .2,
         )
 
-    pub going-more : c .closing ≡ Done → Going t text n s₀ was (record { state = c .state; feed = c .feed; resets = 0 }) us (k + 1)
-    going-more d = record { below = omega arith; posed = call .posed; along = λ ls ts m. on ls ts (left ls ts m) }
+    pub going-more : c .closing ≡ Done → Going t l n x₀ at₀ used₀ was (c .state) at′ used′ us (k + 1)
+    unfolding Left
+    going-more d = record { below = omega arith; placed = call .placed; posed = call .posed; along = λ p ts m. on p ts (left p ts m) }
       where
-        on : (ls : List (List ℕ)) (ts : List ℕ)
-            → ((ws : List ℕ) × Supplies text ls ws (s .feed)
-            × (onward (modelOf t) (recorded ls) (n - (k + 1)) k (at s vs ws) (laterOf (modelOf t) (recorded ls) (k + 1) (partsOf (s .state)) vs ws)
-            ≡ roundsFrom (modelOf t) (recorded ls) n 0 (at s₀ was ts)))
-            → (xs : List ℕ) × Supplies text ls xs (c .feed)
-            × (roundsFrom (modelOf t) (recorded ls) (n - (k + 1)) (k + 1) (at (record { state = c .state; feed = c .feed; resets = 0 }) us xs)
-            ≡ roundsFrom (modelOf t) (recorded ls) n 0 (at s₀ was ts))
-        on ls ts g = go (laterOf (modelOf t) (recorded ls) (k + 1) (partsOf (s .state)) vs (g .0)) (call .goes ls (g .0) (g .1)) (g .2)
+        on : (p : Supply) (ts : List ℕ) → Left p ts
+            → (xs : List ℕ) × Supplies l p xs at′ used′
+            × (roundsFrom (modelOf t) p (n - (k + 1)) (k + 1) (ended (c .state) us xs) ≡ roundsFrom (modelOf t) p n 0 (ended x₀ was ts))
+        on p ts g = go (laterOf (modelOf t) p (k + 1) (partsOf x) vs (g .0)) (call .goes p (g .0) (g .1)) (g .2)
           where
-            go : (o : Answer (Option Round)) → Later o text ls vs c us
-                → onward (modelOf t) (recorded ls) (n - (k + 1)) k (at s vs (g .0)) o ≡ roundsFrom (modelOf t) (recorded ls) n 0 (at s₀ was ts)
-                → (xs : List ℕ) × Supplies text ls xs (c .feed)
-                × (roundsFrom (modelOf t) (recorded ls) (n - (k + 1)) (k + 1) (at (record { state = c .state; feed = c .feed; resets = 0 }) us xs)
-                ≡ roundsFrom (modelOf t) (recorded ls) n 0 (at s₀ was ts))
+            go : (o : Answer (Option Round)) → Later o l p vs c at′ used′ us
+                → onward (modelOf t) p (n - (k + 1)) k (ended x vs (g .0)) o ≡ roundsFrom (modelOf t) p n 0 (ended x₀ was ts)
+                → (xs : List ℕ) × Supplies l p xs at′ used′
+                × (roundsFrom (modelOf t) p (n - (k + 1)) (k + 1) (ended (c .state) us xs) ≡ roundsFrom (modelOf t) p n 0 (ended x₀ was ts))
             go (answered (some q)) i e = (
               q .taken,
-              i .feed,
-              ap₂ (roundsFrom (modelOf t) (recorded ls) (n - (k + 1))) (add-one k) (round-is t text ls q c us 0 (call .posed) i) ∙ e,
+              i .supplies,
+              ap₂ (roundsFrom (modelOf t) p (n - (k + 1))) (add-one k) (round-is t l p q c at′ used′ us (call .posed) i) ∙ e,
             )
             go (answered none) i e = absurd (not-quiet d (i .0))
             go (refused f) i e = absurd (done-not-told (c .closing) f i d)
 
-    pub going-quiet : c .closing ≡ Quiet → (r : Simulated) → r ≡ record { ended = OfEnded.Rounds k; state = s .state } → RoundsCall t text n s₀ was r us
-    unfolding saysEnded
-    going-quiet d r e ls ts m = let g = left ls ts m in go (laterOf (modelOf t) (recorded ls) (k + 1) (partsOf (s .state)) vs (g .0)) (call .goes ls (g .0) (g .1)) (g .0) (g .2)
+    pub going-quiet : c .closing ≡ Quiet → (r : Simulated) → r ≡ record { ended = OfEnded.Rounds k; state = x } → RoundsCall t l n x₀ at₀ used₀ was r us
+    unfolding saysEnded Left
+    going-quiet d r e = record {
+      runs = λ p ts m.
+          let g = left p ts m in go p ts (laterOf (modelOf t) p (k + 1) (partsOf x) vs (g .0)) (call .goes p (g .0) (g .1)) (g .0) (g .2);
+    }
       where
-        go : (o : Answer (Option Round)) → Later o text ls vs c us → (ws : List ℕ)
-            → onward (modelOf t) (recorded ls) (n - (k + 1)) k (at s vs ws) o ≡ roundsFrom (modelOf t) (recorded ls) n 0 (at s₀ was ts)
-            → Runs (roundsFrom (modelOf t) (recorded ls) n 0 (at s₀ was ts)) r us
-        go (answered (some q)) i ws q′ = absurd (not-quiet (i .closing) d)
-        go (answered none) i ws q′ = subst (λ a. Runs a r us) q′ (record {
+        go : (p : Supply) (ts : List ℕ) (o : Answer (Option Round)) → Later o l p vs c at′ used′ us → (ws : List ℕ)
+            → onward (modelOf t) p (n - (k + 1)) k (ended x vs ws) o ≡ roundsFrom (modelOf t) p n 0 (ended x₀ was ts)
+            → Runs (roundsFrom (modelOf t) p n 0 (ended x₀ was ts)) r us
+        go p ts (answered (some q)) i ws q′ = absurd (not-quiet (i .closing) d)
+        go p ts (answered none) i ws q′ = subst (λ a. Runs a r us) q′ (record {
           ended = ap (λ (q : Simulated). saysEnded (q .ended)) e;
           state = ap (λ (q : Simulated). q .state) e ∙ w .posed .zeros;
           values = i .1;
         })
-        go (refused f) i ws q′ = absurd (quiet-not-told (c .closing) f i d)
+        go p ts (refused f) i ws q′ = absurd (quiet-not-told (c .closing) f i d)
 
-    pub going-refused : (q : Refusal) → c .closing ≡ Refused q → (r : Simulated) → r ≡ refusedWith q → RoundsCall t text n s₀ was r us
-    going-refused q d r e ls ts m = let g = left ls ts m in go (laterOf (modelOf t) (recorded ls) (k + 1) (partsOf (s .state)) vs (g .0)) (call .goes ls (g .0) (g .1)) (g .0) (g .2)
+    pub going-refused : (q : Refusal) → c .closing ≡ Refused q → (r : Simulated) → r ≡ refusedWith q → RoundsCall t l n x₀ at₀ used₀ was r us
+    unfolding Left
+    going-refused q d r e = record {
+      runs = λ p ts m.
+          let g = left p ts m in go p ts (laterOf (modelOf t) p (k + 1) (partsOf x) vs (g .0)) (call .goes p (g .0) (g .1)) (g .0) (g .2);
+    }
       where
-        go : (o : Answer (Option Round)) → Later o text ls vs c us → (ws : List ℕ)
-            → onward (modelOf t) (recorded ls) (n - (k + 1)) k (at s vs ws) o ≡ roundsFrom (modelOf t) (recorded ls) n 0 (at s₀ was ts)
-            → Runs (roundsFrom (modelOf t) (recorded ls) n 0 (at s₀ was ts)) r us
-        go (answered (some o)) i ws q′ = absurd (not-refused (i .closing) d)
-        go (answered none) i ws q′ = absurd (quiet-not-refused (i .0) d)
-        go (refused f) i ws q′ = subst (λ a. Runs a r us) q′ (refusal-is (c .closing) q f r us i d e)
+        go : (p : Supply) (ts : List ℕ) (o : Answer (Option Round)) → Later o l p vs c at′ used′ us → (ws : List ℕ)
+            → onward (modelOf t) p (n - (k + 1)) k (ended x vs ws) o ≡ roundsFrom (modelOf t) p n 0 (ended x₀ was ts)
+            → Runs (roundsFrom (modelOf t) p n 0 (ended x₀ was ts)) r us
+        go p ts (answered (some o)) i ws q′ = absurd (not-refused (i .closing) d)
+        go p ts (answered none) i ws q′ = absurd (quiet-not-refused (i .0) d)
+        go p ts (refused f) i ws q′ = subst (λ a. Runs a r us) q′ (refusal-is (c .closing) q f r us i d e)
 
 -- ---- round 0
 zero-at : (n x : ℕ) → valueOf (replicate n (pos 0)) x ≡ pos 0
@@ -240,42 +248,47 @@ module _ (t : List ℕ) (k : Runnable t) (x : State) (e : x ≡ stateOf (startAl
     ticking = rw v (record { count = length-replicate {A = ℤ} maxClocks (pos 0); each = λ y h. subst Tick (sym (zero-at maxClocks y)) (count-tick 0 (omega arith)) });
   }
 
-  pub first-closes : (text : List ℕ) (f : Feed) (R : ℕ) → R ≡ startedAll (modelOf t) → (vs : List ℤ) → vs ≡ noValues → (r : Closed) (us : List ℤ)
-      → CloseCall t text 0 (record { state = x; feed = f; resets = R }) vs r us → FirstCall t text f r us
+  pub first-closes : (l : Lent) (from : Source) (at used : List ℕ) (R : ℕ) → R ≡ startedAll (modelOf t) → (vs : List ℤ) → vs ≡ noValues → (r : Closed) (at′ used′ : List ℕ) (us : List ℤ)
+      → CloseCall t l (record { from = from; round = 0; state = x; resets = R }) at used vs r at′ used′ us → FirstCall t l at used r at′ used′ us
   unfolding roundZero
-  first-closes text f R er vs v r us c = record {
-    closes = λ ls m.
-        subst (λ a. Closes a text ls r us)
-        (ap₂ (λ a b. closeOf (modelOf t) (recorded ls) 0 a b vs noneTaken) er start-parts
-        ∙ ap (λ l. closeOf (modelOf t) (recorded ls) 0 (startedAll (modelOf t)) (startAll (modelOf t)) l noneTaken) v)
-        (c .closes ls noneTaken (supplied-first text ls f m));
+  first-closes l from at used R er vs v r at′ used′ us c = record {
+    closes = λ p m.
+        subst (λ a. Closes a l p r at′ used′ us)
+        (ap₂ (λ a b. closeOf (modelOf t) p 0 a b vs noneTaken) er start-parts
+        ∙ ap (λ u. closeOf (modelOf t) p 0 (startedAll (modelOf t)) (startAll (modelOf t)) u noneTaken) v)
+        (c .closes p noneTaken m);
+    placed = c .placed;
     posed = c .posed;
   }
 
+pub no-values-count : {vs : List ℤ} → vs ≡ noValues → length vs ≡ maxClocks
+unfolding noValues
+no-values-count e = ap length e ∙ length-replicate {A = ℤ} maxClocks (pos 0)
+
 -- ---- all rounds
-module _ (t text : List ℕ) (n : ℕ) (f : Feed) (b : Closed) (vs : List ℤ) (first : FirstCall t text f b vs) (r : Simulated) (us : List ℤ) where
-  by-first : (ls : List (List ℕ)) → Feeds text ls f
-      → ((o : Answer Round) → Closes o text ls b vs → Runs (andThen o (roundsFrom (modelOf t) (recorded ls) n 0)) r us) → Runs (simulateOf (modelOf t) (recorded ls) n) r us
+module _ (t : List ℕ) (l : Lent) (n : ℕ) (at used : List ℕ) (b : Closed) (at′ used′ : List ℕ) (vs : List ℤ) (first : FirstCall t l at used b at′ used′ vs)
+    (r : Simulated) (us : List ℤ) where
+  by-first : ((p : Supply) (o : Answer Round) → Closes o l p b at′ used′ vs → Runs (andThen o (roundsFrom (modelOf t) p n 0)) r us) → RunCall t l n at used r us
   unfolding simulateOf
-  by-first ls m go = go (roundZero (modelOf t) (recorded ls)) (first .closes ls m)
+  by-first go = record { runs = λ p m. go p (roundZero (modelOf t) p) (first .closes p m) }
 
-  pub run-on : b .closing ≡ Done → RoundsCall t text n (record { state = b .state; feed = b .feed; resets = 0 }) vs r us → RunCall t text n f r us
-  run-on d c ls m = by-first ls m go
+  pub run-on : b .closing ≡ Done → RoundsCall t l n (b .state) at′ used′ vs r us → RunCall t l n at used r us
+  run-on d c = by-first go
     where
-      go : (o : Answer Round) → Closes o text ls b vs → Runs (andThen o (roundsFrom (modelOf t) (recorded ls) n 0)) r us
-      go (answered q) i = subst (λ a. Runs a r us) (ap (roundsFrom (modelOf t) (recorded ls) n 0) (round-is t text ls q b vs 0 (first .posed) i)) (c ls (q .taken) (i .feed))
-      go (refused g) i = absurd (done-not-told (b .closing) g i d)
+      go : (p : Supply) (o : Answer Round) → Closes o l p b at′ used′ vs → Runs (andThen o (roundsFrom (modelOf t) p n 0)) r us
+      go p (answered q) i = subst (λ a. Runs a r us) (ap (roundsFrom (modelOf t) p n 0) (round-is t l p q b at′ used′ vs (first .posed) i)) (c .runs p (q .taken) (i .supplies))
+      go p (refused g) i = absurd (done-not-told (b .closing) g i d)
 
-  pub run-not : b .closing ≡ Quiet → RunCall t text n f r us
-  run-not d ls m = by-first ls m go
+  pub run-not : b .closing ≡ Quiet → RunCall t l n at used r us
+  run-not d = by-first go
     where
-      go : (o : Answer Round) → Closes o text ls b vs → Runs (andThen o (roundsFrom (modelOf t) (recorded ls) n 0)) r us
-      go (answered q) i = absurd (not-quiet (i .closing) d)
-      go (refused g) i = absurd (quiet-not-told (b .closing) g i d)
+      go : (p : Supply) (o : Answer Round) → Closes o l p b at′ used′ vs → Runs (andThen o (roundsFrom (modelOf t) p n 0)) r us
+      go p (answered q) i = absurd (not-quiet (i .closing) d)
+      go p (refused g) i = absurd (quiet-not-told (b .closing) g i d)
 
-  pub run-refused : (q : Refusal) → b .closing ≡ Refused q → r ≡ refusedWith q → RunCall t text n f r us
-  run-refused q d e ls m = by-first ls m go
+  pub run-refused : (q : Refusal) → b .closing ≡ Refused q → r ≡ refusedWith q → RunCall t l n at used r us
+  run-refused q d e = by-first go
     where
-      go : (o : Answer Round) → Closes o text ls b vs → Runs (andThen o (roundsFrom (modelOf t) (recorded ls) n 0)) r us
-      go (answered o) i = absurd (not-refused (i .closing) d)
-      go (refused g) i = refusal-is (b .closing) q g r us i d e
+      go : (p : Supply) (o : Answer Round) → Closes o l p b at′ used′ vs → Runs (andThen o (roundsFrom (modelOf t) p n 0)) r us
+      go p (answered o) i = absurd (not-refused (i .closing) d)
+      go p (refused g) i = refusal-is (b .closing) q g r us i d e

@@ -18,11 +18,11 @@ use Rattle.layout.specs.Image.{modelOf}
 use Rattle.layout.proofs.RowsOfRange.{well-formed}
 use Rattle.firing.specs.Shots.{TimingGives, TimingAnswers, Armed}
 use Rattle.simulation.specs.Simulate.{Supply, Round, closeOf, andThen}
-use Rattle.simulation.specs.Samples.{recorded}
+use Rattle.feed.specs.Supply.{Lent, Supplies}
 use Rattle.rounds.specs.declared.Stand.{Stand}
 use Rattle.rounds.specs.declared.Closed.{Closed}
 use Rattle.rounds.specs.declared.Closing.the-variants.{Quiet, Refused}
-use Rattle.rounds.specs.Rounds.{saysClosing, Posed, Closes, laterOf, Later, CloseCall, LaterCall}
+use Rattle.rounds.specs.Rounds.{saysClosing, Posed, Placed, Closes, laterOf, Later, CloseCall, LaterCall}
 use Rattle.rounds.proofs.Keeps.{Kept, shot-keeps}
 use Rattle.rounds.proofs.Poses.{ticking-in, in-ticking, posed-parts, posed-with, posed-again}
 
@@ -75,12 +75,12 @@ module _ (m : Model) (p : Supply) (k : ℕ) (s : List ℕ) (vs : List ℤ) (ts :
     unfolding laterOf
     later-fired v a R h = rw (e, laterOf) (rw h)
 
-closes-later : (a : Answer Round) (text : List ℕ) (ls : List (List ℕ)) (was : List ℤ) (r : Closed) (vs : List ℤ) → Closes a text ls r vs
-    → Later (andThen a (λ q. answered (some q))) text ls was r vs
-closes-later (answered q) text ls was r vs e = e
-closes-later (refused f) text ls was r vs e = e
+closes-later : (a : Answer Round) (l : Lent) (p : Supply) (was : List ℤ) (r : Closed) (at used : List ℕ) (vs : List ℤ) → Closes a l p r at used vs
+    → Later (andThen a (λ q. answered (some q))) l p was r at used vs
+closes-later (answered q) l p was r at used vs e = e
+closes-later (refused f) l p was r at used vs e = e
 
-module _ (t text : List ℕ) (k : ℕ) (s : Stand) (was : List ℤ) (posed : Posed t (s .state) was) (shot : Timed) (vs : List ℤ)
+module _ (t : List ℕ) (s : Stand) (was : List ℤ) (posed : Posed t (s .state) was) (shot : Timed) (vs : List ℤ)
     (given : TimingAnswers (timedFrom (modelOf t) (partsOf (s .state)) was (enablingAll (modelOf t) (partsOf (s .state)))) (s .state) was shot vs) where
   abbrev step : Answer Timing
   step = timedFrom (modelOf t) (partsOf (s .state)) was (enablingAll (modelOf t) (partsOf (s .state)))
@@ -105,43 +105,49 @@ module _ (t text : List ℕ) (k : ℕ) (s : Stand) (was : List ℤ) (posed : Pos
         posed-with t (s .state) was posed (shot .state) (hit .timing .state) (hit .gives .state) (h .within) vs
         (rw hit-values (ticking-in (modelOf t) (hit .timing .values) (h .ticks)))
 
-    pub later-closes : (r : Closed) (us : List ℤ) → CloseCall t text k (record { state = shot .state; feed = s .feed; resets = R }) vs r us → LaterCall t text k s was r us
-    later-closes r us c =
+    pub later-closes : (l : Lent) (at used : List ℕ) (r : Closed) (at′ used′ : List ℕ) (us : List ℤ)
+        → CloseCall t l (record { from = s .from; round = s .round; state = shot .state; resets = R }) at used vs r at′ used′ us → LaterCall t l s at used was r at′ used′ us
+    later-closes l at used r at′ used′ us c =
         let τ = hit .timing in
         let h = kept τ (hit .answer) in
         let parts = posed-parts t (s .state) was posed (shot .state) (τ .state) (hit .gives .state) (h .within) in
+        let k = s .round in
         record {
-          goes = λ ls ts m.
-              subst (λ a. Later a text ls was r us)
-              (ap (λ l. andThen (closeOf (modelOf t) (recorded ls) k R l vs ts) (λ q. answered (some q))) parts
-              ∙ ap (λ l. andThen (closeOf (modelOf t) (recorded ls) k R (τ .state) l ts) (λ q. answered (some q))) hit-values
-              ∙ sym (later-fired (modelOf t) (recorded ls) k (partsOf (s .state)) was ts τ (hit .answer) v a R (hit .shot)))
-              (closes-later (closeOf (modelOf t) (recorded ls) k R (partsOf (shot .state)) vs ts) text ls was r us (c .closes ls ts m));
+          goes = λ p ts m.
+              subst (λ a. Later a l p was r at′ used′ us)
+              (ap (λ u. andThen (closeOf (modelOf t) p k R u vs ts) (λ q. answered (some q))) parts
+              ∙ ap (λ u. andThen (closeOf (modelOf t) p k R (τ .state) u ts) (λ q. answered (some q))) hit-values
+              ∙ sym (later-fired (modelOf t) p k (partsOf (s .state)) was ts τ (hit .answer) v a R (hit .shot)))
+              (closes-later (closeOf (modelOf t) p k R (partsOf (shot .state)) vs ts) l p was r at′ used′ us (c .closes p ts m));
+          placed = c .placed;
           posed = c .posed;
         }
 
-  -- no clock waits
-  pub later-rests : shot .firing ≡ OfFiring.Quiet → (r : Closed) → r ≡ record { closing = Quiet; state = s .state; feed = s .feed } → LaterCall t text k s was r vs
-  unfolding saysFiring
-  later-rests f r e =
-      let h = shoots-so (s .state) was shot vs step given quiet (ap saysFiring f) in
-      let same : vs ≡ was = h .gives .values ∙ kept (h .timing) (h .answer) .rests (h .shot) in
-      record {
-        goes = λ ls ts m.
-            subst (λ a. Later a text ls was r vs) (sym (later-quiet (modelOf t) (recorded ls) k (partsOf (s .state)) was ts (h .timing) (h .answer) (h .shot)))
-            (ap (λ (q : Closed). q .closing) e, same);
-        posed = posed-again t (s .state) (r .state) was vs posed (ap (λ (q : Closed). q .state) e) (rw same (posed .ticking));
-      }
+  module _ (l : Lent) (at used : List ℕ) (placed : Placed at used) where
+    -- no clock waits
+    pub later-rests : shot .firing ≡ OfFiring.Quiet → (r : Closed) → r ≡ record { closing = Quiet; state = s .state } → LaterCall t l s at used was r at used vs
+    unfolding saysFiring
+    later-rests f r e =
+        let h = shoots-so (s .state) was shot vs step given quiet (ap saysFiring f) in
+        let same : vs ≡ was = h .gives .values ∙ kept (h .timing) (h .answer) .rests (h .shot) in
+        record {
+          goes = λ p ts m.
+              subst (λ a. Later a l p was r at used vs) (sym (later-quiet (modelOf t) p (s .round) (partsOf (s .state)) was ts (h .timing) (h .answer) (h .shot)))
+              (ap (λ (q : Closed). q .closing) e, same);
+          placed = placed;
+          posed = posed-again t (s .state) (r .state) was vs posed (ap (λ (q : Closed). q .state) e) (rw same (posed .ticking));
+        }
 
-  -- 30, or 29, which does not arise
-  pub later-told : (q : Refusal) → shot .firing ≡ OfFiring.Refused q → (r : Closed) → r ≡ record { closing = Refused q; state = s .state; feed = s .feed }
-      → LaterCall t text k s was r vs
-  unfolding saysFiring saysClosing
-  later-told q f r e =
-      let h = refused-so (s .state) was shot vs step given q (ap saysFiring f) in
-      record {
-        goes = λ ls ts m.
-            subst (λ a. Later a text ls was r vs) (sym (later-refused (modelOf t) (recorded ls) k (partsOf (s .state)) was ts (h .0) (h .1)))
-            (ap (λ (c : Closed). saysClosing (c .closing)) e ∙ ap asRefused (h .2));
-        posed = posed-again t (s .state) (r .state) was vs posed (ap (λ (q : Closed). q .state) e) (rw (h .3) (posed .ticking));
-      }
+    -- 30, or 29, which does not arise
+    pub later-told : (q : Refusal) → shot .firing ≡ OfFiring.Refused q → (r : Closed) → r ≡ record { closing = Refused q; state = s .state }
+        → LaterCall t l s at used was r at used vs
+    unfolding saysFiring saysClosing
+    later-told q f r e =
+        let h = refused-so (s .state) was shot vs step given q (ap saysFiring f) in
+        record {
+          goes = λ p ts m.
+              subst (λ a. Later a l p was r at used vs) (sym (later-refused (modelOf t) p (s .round) (partsOf (s .state)) was ts (h .0) (h .1)))
+              (ap (λ (c : Closed). saysClosing (c .closing)) e ∙ ap asRefused (h .2));
+          placed = placed;
+          posed = posed-again t (s .state) (r .state) was vs posed (ap (λ (q : Closed). q .state) e) (rw (h .3) (posed .ticking));
+        }

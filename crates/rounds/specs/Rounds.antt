@@ -1,11 +1,12 @@
--- What a round of a simulation gives: its answer, the values and the cursors then. The lists are whichever the cursors stand at.
+-- What a round of a simulation gives: its answer, and the values and places then. The samples are whichever the places supply.
 use mathlib.Core.Path.{_≡_}
 use mathlib.Core.Bool.{Bool, true, false}
 use mathlib.Core.Option.{Option, none, some}
 use mathlib.Core.List.{List}
 use Prim.Native.Nat.{ℕ}
+use lib.ListN.{length}
 use lib.IntN.{ℤ}
-use Rattle.answer.specs.Limits.{noState}
+use Rattle.answer.specs.Limits.{noState, maxClocks}
 use Rattle.answer.specs.Told.{Told, told, Answer, answered, refused, asRefused, fired, quiet, saysEnded}
 use Rattle.answer.specs.State.{partsOf}
 use Rattle.answer.specs.declared.Refusal.{Refusal}
@@ -19,11 +20,8 @@ use Rattle.layout.specs.Image.{Image, modelOf}
 use Rattle.words.specs.Bytes.{stateOf}
 use Rattle.ticks.specs.Ticks.{Ticking}
 use Rattle.settling.specs.Gives.{Ready}
-use Rattle.simulation.specs.Simulate.{Supply, Round, endOf, closeOf, andThen, Simulation, roundZero, roundsFrom, simulateOf}
-use Rattle.simulation.specs.Samples.{recorded}
-use Rattle.samples.specs.declared.Feed.{Feed}
-use Rattle.samples.specs.Text.{Feeds}
-use Rattle.feed.specs.Feeding.{Supplies}
+use Rattle.simulation.specs.Simulate.{Supply, Round, endOf, closeOf, andThen, Simulation, noneTaken, roundZero, roundsFrom, simulateOf}
+use Rattle.feed.specs.Supply.{Lent, Supplies}
 use Rattle.rounds.specs.declared.Stand.{Stand}
 use Rattle.rounds.specs.declared.Closing.{Closing}
 use Rattle.rounds.specs.declared.Closing.the-variants.{Done, Quiet, Refused}
@@ -41,28 +39,35 @@ pub record Posed (t : List ℕ) (x : State) (vs : List ℤ) : Type 0 where
   pub zeros : x ≡ stateOf (partsOf x)
   pub ticking : Ticking (declared (modelOf t)) vs
 
+-- a place for each clock, and how many numbers it has used
+pub record Placed (at used : List ℕ) : Type 0 where
+  pub at-count : length at ≡ maxClocks
+  pub used-count : length used ≡ maxClocks
+
 -- the round is done and ended with q
-pub record RoundIs (text : List ℕ) (ls : List (List ℕ)) (q : Round) (r : Closed) (vs : List ℤ) : Type 0 where
+pub record RoundIs (l : Lent) (p : Supply) (q : Round) (r : Closed) (at used : List ℕ) (vs : List ℤ) : Type 0 where
   pub closing : r .closing ≡ Done
   pub state : r .state ≡ stateOf (q .state)
   pub values : vs ≡ q .values
-  pub feed : Supplies text ls (q .taken) (r .feed)
+  pub supplies : Supplies l p (q .taken) at used
 
-abbrev pub Closes : Answer Round → List ℕ → List (List ℕ) → Closed → List ℤ → Type 0
-Closes (answered q) text ls r vs = RoundIs text ls q r vs
-Closes (refused f) text ls r vs = saysClosing (r .closing) ≡ some (refused f)
+abbrev pub Closes : Answer Round → Lent → Supply → Closed → List ℕ → List ℕ → List ℤ → Type 0
+Closes (answered q) l p r at used vs = RoundIs l p q r at used vs
+Closes (refused f) l p r at used vs = saysClosing (r .closing) ≡ some (refused f)
 
--- of `end`; was are the values before
-pub record EndCall (text : List ℕ) (s : Stand) (was : List ℤ) (r : Closed) (vs : List ℤ) : Type 0 where
-  pub ends : (ls : List (List ℕ)) (ts : List ℕ) → Supplies text ls ts (s .feed) → s .state ≡ stateOf (partsOf (s .state))
-      → Closes (endOf (recorded ls) (s .resets) (partsOf (s .state)) was ts) text ls r vs
+-- of `end`; at, used and was are the places and values before, at′, used′ and vs those after
+pub record EndCall (l : Lent) (s : Stand) (at used : List ℕ) (was : List ℤ) (r : Closed) (at′ used′ : List ℕ) (vs : List ℤ) : Type 0 where
+  pub ends : (p : Supply) (ts : List ℕ) → Supplies l p ts at used → s .state ≡ stateOf (partsOf (s .state))
+      → Closes (endOf p (s .resets) (partsOf (s .state)) was ts) l p r at′ used′ vs
+  pub placed : Placed at′ used′
   pub state : r .state ≡ s .state
   pub ticking : (d : ℕ) → Ticking d was → Ticking d vs
 
 -- of `close`
-pub record CloseCall (t text : List ℕ) (k : ℕ) (s : Stand) (was : List ℤ) (r : Closed) (vs : List ℤ) : Type 0 where
-  pub closes : (ls : List (List ℕ)) (ts : List ℕ) → Supplies text ls ts (s .feed)
-      → Closes (closeOf (modelOf t) (recorded ls) k (s .resets) (partsOf (s .state)) was ts) text ls r vs
+pub record CloseCall (t : List ℕ) (l : Lent) (s : Stand) (at used : List ℕ) (was : List ℤ) (r : Closed) (at′ used′ : List ℕ) (vs : List ℤ) : Type 0 where
+  pub closes : (p : Supply) (ts : List ℕ) → Supplies l p ts at used
+      → Closes (closeOf (modelOf t) p (s .round) (s .resets) (partsOf (s .state)) was ts) l p r at′ used′ vs
+  pub placed : Placed at′ used′
   pub posed : Posed t (r .state) vs
 
 -- one later round, which is round k, from a state, values and samples taken: quiet, or what it ends with
@@ -72,15 +77,16 @@ laterOf m p k s vs ts = andThen (timedFrom m s vs (enablingAll m s)) (λ τ. eli
   | fired v a R ↦ andThen (closeOf m p k R (τ .state) (τ .values) ts) (λ q. answered (some q))
 ])
 
-abbrev pub Later : Answer (Option Round) → List ℕ → List (List ℕ) → List ℤ → Closed → List ℤ → Type 0
-Later (answered (some q)) text ls was r vs = RoundIs text ls q r vs
-Later (answered none) text ls was r vs = (r .closing ≡ Quiet) × (vs ≡ was)
-Later (refused f) text ls was r vs = saysClosing (r .closing) ≡ some (refused f)
+abbrev pub Later : Answer (Option Round) → Lent → Supply → List ℤ → Closed → List ℕ → List ℕ → List ℤ → Type 0
+Later (answered (some q)) l p was r at used vs = RoundIs l p q r at used vs
+Later (answered none) l p was r at used vs = (r .closing ≡ Quiet) × (vs ≡ was)
+Later (refused f) l p was r at used vs = saysClosing (r .closing) ≡ some (refused f)
 
 -- of `later`
-pub record LaterCall (t text : List ℕ) (k : ℕ) (s : Stand) (was : List ℤ) (r : Closed) (vs : List ℤ) : Type 0 where
-  pub goes : (ls : List (List ℕ)) (ts : List ℕ) → Supplies text ls ts (s .feed)
-      → Later (laterOf (modelOf t) (recorded ls) k (partsOf (s .state)) was ts) text ls was r vs
+pub record LaterCall (t : List ℕ) (l : Lent) (s : Stand) (at used : List ℕ) (was : List ℤ) (r : Closed) (at′ used′ : List ℕ) (vs : List ℤ) : Type 0 where
+  pub goes : (p : Supply) (ts : List ℕ) → Supplies l p ts at used
+      → Later (laterOf (modelOf t) p (s .round) (partsOf (s .state)) was ts) l p was r at′ used′ vs
+  pub placed : Placed at′ used′
   pub posed : Posed t (r .state) vs
 
 -- ---- all rounds
@@ -107,15 +113,16 @@ abbrev pub refusedWith : Refusal → Simulated
 refusedWith f = record { ended = OfEnded.Refused f; state = noState }
 
 -- of `later_rounds`: n of them after round 0, which ended in this state with these values
-abbrev pub RoundsCall : List ℕ → List ℕ → ℕ → Stand → List ℤ → Simulated → List ℤ → Type 0
-RoundsCall t text n s was r vs = (ls : List (List ℕ)) (ts : List ℕ) → Supplies text ls ts (s .feed)
-    → Runs (roundsFrom (modelOf t) (recorded ls) n 0 (record { state = partsOf (s .state); values = was; taken = ts })) r vs
+pub record RoundsCall (t : List ℕ) (l : Lent) (n : ℕ) (x : State) (at used : List ℕ) (was : List ℤ) (r : Simulated) (vs : List ℤ) : Type 0 where
+  pub runs : (p : Supply) (ts : List ℕ) → Supplies l p ts at used
+      → Runs (roundsFrom (modelOf t) p n 0 (record { state = partsOf x; values = was; taken = ts })) r vs
 
 -- of `first`
-pub record FirstCall (t text : List ℕ) (f : Feed) (r : Closed) (vs : List ℤ) : Type 0 where
-  pub closes : (ls : List (List ℕ)) → Feeds text ls f → Closes (roundZero (modelOf t) (recorded ls)) text ls r vs
+pub record FirstCall (t : List ℕ) (l : Lent) (at used : List ℕ) (r : Closed) (at′ used′ : List ℕ) (vs : List ℤ) : Type 0 where
+  pub closes : (p : Supply) → Supplies l p noneTaken at used → Closes (roundZero (modelOf t) p) l p r at′ used′ vs
+  pub placed : Placed at′ used′
   pub posed : Posed t (r .state) vs
 
--- of `run`: n later rounds, over the lists at whose first samples the cursors stand
-abbrev pub RunCall : List ℕ → List ℕ → ℕ → Feed → Simulated → List ℤ → Type 0
-RunCall t text n f r vs = (ls : List (List ℕ)) → Feeds text ls f → Runs (simulateOf (modelOf t) (recorded ls) n) r vs
+-- of `run`: n later rounds, over whatever the places supply
+pub record RunCall (t : List ℕ) (l : Lent) (n : ℕ) (at used : List ℕ) (r : Simulated) (vs : List ℤ) : Type 0 where
+  pub runs : (p : Supply) → Supplies l p noneTaken at used → Runs (simulateOf (modelOf t) p n) r vs

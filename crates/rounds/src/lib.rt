@@ -7,18 +7,26 @@ use answer::Refusal;
 use answer::Simulated;
 use answer::State;
 use answer::Verdict;
-use samples::Feed;
+use feed::Source;
 ghost use mathlib.Core.Path.{_≡_};
 ghost use Prim.Native.Nat.{ℕ, _≤_, _<_};
 ghost use lib.ListN.{length};
 ghost use Rattle.answer.specs.Limits.{maxClocks, maxBudget};
 ghost use Rattle.simulation.specs.Simulate.{noValues};
-ghost use Rattle.rounds.specs.Rounds.{Posed, EndCall, CloseCall, LaterCall, refusedWith, RoundsCall, FirstCall, Runnable, RunCall};
+ghost use Rattle.feed.specs.Supply.{lent};
+ghost use Rattle.rounds.specs.Rounds.{Posed, Placed, EndCall, CloseCall, LaterCall, refusedWith, RoundsCall, FirstCall, Runnable, RunCall};
 
-// Where a round stands: the state, the cursors, and the clocks set or reset in it so far.
+// What is asked for: where the samples come from, and how many later rounds.
+pub struct Plan {
+    pub from: Source,
+    pub rounds: usize,
+}
+
+// Where a round stands: its number, where the samples come from, the state, and the clocks set or reset in it so far.
 pub struct Stand {
+    pub from: Source,
+    pub round: usize,
     pub state: State,
-    pub feed: Feed,
     pub resets: u64,
 }
 
@@ -32,43 +40,59 @@ pub enum Closing {
 pub struct Closed {
     pub closing: Closing,
     pub state: State,
-    pub feed: Feed,
 }
 
-// 41 at the lowest clock that has no sample left; else each clock set or reset takes its next one.
-fn end(text: &[u8], s: Stand, values: &mut [i64]) -> Closed
-    requires { ⌜ length (now values) ≡ maxClocks ⌝ }
-    ensures { λ r. ⌜ EndCall (now (text .entry)) s (now (values .entry)) r (now (values .exit)) ⌝ }
+// 41 at the lowest clock that has no sample left; else each clock set or reset has taken its next one.
+fn end(
+    text: &[u8],
+    numbers: &[u64],
+    at: &mut [usize; Model::CLOCKS],
+    used: &mut [usize; Model::CLOCKS],
+    s: Stand,
+    values: &mut [i64],
+) -> Closed
+    requires { ⌜ Placed (now at) (now used) × (length (now values) ≡ maxClocks) ⌝ }
+    ensures { λ r.
+        ⌜ EndCall (lent (s .from) (now (text .entry)) (now (numbers .entry))) s (now (at .entry)) (now (used .entry)) (now (values .entry)) r
+        (now (at .exit)) (now (used .exit)) (now (values .exit)) ⌝ }
 {
-    let f = s.feed;
+    let from = s.from;
     let state = s.state;
     let w = s.resets;
-    let x = feed::lacking(text, f, w);
+    let x = feed::fed(from, text, numbers, at, used, w, values);
     if x < Model::CLOCKS as u64 {
         return Closed {
             closing: Closing::Refused(Refusal {
-                number: 41,
+                number: feed::ran_out(from),
                 place: Place::Clock(x),
             }),
             state,
-            feed: f,
         };
     }
-    let next = feed::fed(text, f, w, values);
     Closed {
         closing: Closing::Done,
         state,
-        feed: next,
     }
 }
 
-// Round k settles, 42 where it does not, and ends.
-fn close(t: &[u64], text: &[u8], k: usize, s: Stand, values: &mut [i64]) -> Closed
-    requires { ⌜ Posed (now t) (s .state) (now values) ⌝ }
-    ensures { λ r. ⌜ CloseCall (now (t .entry)) (now (text .entry)) k s (now (values .entry)) r (now (values .exit)) ⌝ }
+// A round settles, 42 where it does not, and ends.
+fn close(
+    t: &[u64],
+    text: &[u8],
+    numbers: &[u64],
+    at: &mut [usize; Model::CLOCKS],
+    used: &mut [usize; Model::CLOCKS],
+    s: Stand,
+    values: &mut [i64],
+) -> Closed
+    requires { ⌜ Placed (now at) (now used) × Posed (now t) (s .state) (now values) ⌝ }
+    ensures { λ r.
+        ⌜ CloseCall (now (t .entry)) (lent (s .from) (now (text .entry)) (now (numbers .entry))) s (now (at .entry)) (now (used .entry)) (now (values .entry)) r
+        (now (at .exit)) (now (used .exit)) (now (values .exit)) ⌝ }
 {
     let begun = s.state;
-    let f = s.feed;
+    let from = s.from;
+    let round = s.round;
     let d = settling::untraced(t, begun, State::BUDGET);
     let state = d.state;
     let verdict = d.verdict;
@@ -77,9 +101,13 @@ fn close(t: &[u64], text: &[u8], k: usize, s: Stand, values: &mut [i64]) -> Clos
             let resets = sets::union(s.resets, d.resets);
             end(
                 text,
+                numbers,
+                at,
+                used,
                 Stand {
+                    from,
+                    round,
                     state,
-                    feed: f,
                     resets,
                 },
                 values,
@@ -88,26 +116,35 @@ fn close(t: &[u64], text: &[u8], k: usize, s: Stand, values: &mut [i64]) -> Clos
         Verdict::Unsettled => Closed {
             closing: Closing::Refused(Refusal {
                 number: 42,
-                place: Place::Index(k),
+                place: Place::Index(round),
             }),
             state,
-            feed: f,
         },
         Verdict::Refused(q) => Closed {
             closing: Closing::Refused(q),
             state,
-            feed: f,
         },
     }
 }
 
-// Later round k: the timed step, and what it fires settles and ends.
-fn later(t: &[u64], text: &[u8], k: usize, s: Stand, values: &mut [i64]) -> Closed
-    requires { ⌜ Posed (now t) (s .state) (now values) ⌝ }
-    ensures { λ r. ⌜ LaterCall (now (t .entry)) (now (text .entry)) k s (now (values .entry)) r (now (values .exit)) ⌝ }
+// A later round: the timed step, and what it fires settles and ends.
+fn later(
+    t: &[u64],
+    text: &[u8],
+    numbers: &[u64],
+    at: &mut [usize; Model::CLOCKS],
+    used: &mut [usize; Model::CLOCKS],
+    s: Stand,
+    values: &mut [i64],
+) -> Closed
+    requires { ⌜ Placed (now at) (now used) × Posed (now t) (s .state) (now values) ⌝ }
+    ensures { λ r.
+        ⌜ LaterCall (now (t .entry)) (lent (s .from) (now (text .entry)) (now (numbers .entry))) s (now (at .entry)) (now (used .entry)) (now (values .entry)) r
+        (now (at .exit)) (now (used .exit)) (now (values .exit)) ⌝ }
 {
     let begun = s.state;
-    let f = s.feed;
+    let from = s.from;
+    let round = s.round;
     let shot = firing::shoot(t, begun, values);
     let state = shot.state;
     let firing = shot.firing;
@@ -119,10 +156,13 @@ fn later(t: &[u64], text: &[u8], k: usize, s: Stand, values: &mut [i64]) -> Clos
         } => close(
             t,
             text,
-            k,
+            numbers,
+            at,
+            used,
             Stand {
+                from,
+                round,
                 state,
-                feed: f,
                 resets,
             },
             values,
@@ -130,12 +170,10 @@ fn later(t: &[u64], text: &[u8], k: usize, s: Stand, values: &mut [i64]) -> Clos
         Firing::Quiet => Closed {
             closing: Closing::Quiet,
             state: begun,
-            feed: f,
         },
         Firing::Refused(q) => Closed {
             closing: Closing::Refused(q),
             state: begun,
-            feed: f,
         },
     }
 }
@@ -150,27 +188,47 @@ fn refused(f: Refusal) -> Simulated
     }
 }
 
-// So many later rounds, after one that ended so.
-fn later_rounds(t: &[u64], text: &[u8], rounds: usize, s: Stand, values: &mut [i64]) -> Simulated
-    requires { ⌜ Posed (now t) (s .state) (now values) ⌝ }
-    ensures { λ r. ⌜ RoundsCall (now (t .entry)) (now (text .entry)) rounds s (now (values .entry)) r (now (values .exit)) ⌝ }
+// So many later rounds, after one that ended in this state.
+fn later_rounds(
+    t: &[u64],
+    plan: Plan,
+    text: &[u8],
+    numbers: &[u64],
+    at: &mut [usize; Model::CLOCKS],
+    used: &mut [usize; Model::CLOCKS],
+    begun: State,
+    values: &mut [i64],
+) -> Simulated
+    requires { ⌜ Placed (now at) (now used) × Posed (now t) begun (now values) ⌝ }
+    ensures { λ r.
+        ⌜ RoundsCall (now (t .entry)) (lent (plan .from) (now (text .entry)) (now (numbers .entry))) (plan .rounds) begun
+        (now (at .entry)) (now (used .entry)) (now (values .entry)) r (now (values .exit)) ⌝ }
 {
-    let mut at = s;
+    let from = plan.from;
+    let rounds = plan.rounds;
+    let mut state = begun;
     let mut k = 0usize;
     while k < rounds {
-        let here = at.state;
-        let c = later(t, text, k + 1, at, values);
-        let state = c.state;
-        let feed = c.feed;
+        let here = state;
+        let c = later(
+            t,
+            text,
+            numbers,
+            at,
+            used,
+            Stand {
+                from,
+                round: k + 1,
+                state,
+                resets: 0,
+            },
+            values,
+        );
+        let next = c.state;
         let closing = c.closing;
         match closing {
             Closing::Done => {
-                let next = Stand {
-                    state,
-                    feed,
-                    resets: 0,
-                };
-                at = next;
+                state = next;
                 k += 1;
             }
             Closing::Quiet => {
@@ -184,54 +242,66 @@ fn later_rounds(t: &[u64], text: &[u8], rounds: usize, s: Stand, values: &mut [i
             }
         }
     }
-    let last = at.state;
     Simulated {
         ended: Ended::Rounds(k),
-        state: last,
+        state,
     }
 }
 
 // Round 0: the clocks set at the start are set, and the start settles.
-fn first(t: &[u64], text: &[u8], feed: Feed, values: &mut [i64]) -> Closed
-    requires { ⌜ Runnable (now t) × (now values ≡ noValues) ⌝ }
-    ensures { λ r. ⌜ FirstCall (now (t .entry)) (now (text .entry)) feed r (now (values .exit)) ⌝ }
+fn first(
+    t: &[u64],
+    from: Source,
+    text: &[u8],
+    numbers: &[u64],
+    at: &mut [usize; Model::CLOCKS],
+    used: &mut [usize; Model::CLOCKS],
+    values: &mut [i64],
+) -> Closed
+    requires { ⌜ Runnable (now t) × Placed (now at) (now used) × (now values ≡ noValues) ⌝ }
+    ensures { λ r.
+        ⌜ FirstCall (now (t .entry)) (lent from (now (text .entry)) (now (numbers .entry))) (now (at .entry)) (now (used .entry)) r
+        (now (at .exit)) (now (used .exit)) (now (values .exit)) ⌝ }
 {
     let state = outset::start_state(t);
     let resets = layout::joined(t, layout::STARTED);
     close(
         t,
         text,
-        0,
+        numbers,
+        at,
+        used,
         Stand {
+            from,
+            round: 0,
             state,
-            feed,
             resets,
         },
         values,
     )
 }
 
-// Round 0 and so many later rounds, over the samples at the cursors.
-pub fn run(t: &[u64], text: &[u8], rounds: usize, feed: Feed, values: &mut [i64]) -> Simulated
-    requires { ⌜ Runnable (now t) × (now values ≡ noValues) ⌝ }
-    ensures { λ r. ⌜ RunCall (now (t .entry)) (now (text .entry)) rounds feed r (now (values .exit)) ⌝ }
+// Round 0 and so many later rounds, over the samples that stand at the places.
+pub fn run(
+    t: &[u64],
+    plan: Plan,
+    text: &[u8],
+    numbers: &[u64],
+    at: &mut [usize; Model::CLOCKS],
+    used: &mut [usize; Model::CLOCKS],
+    values: &mut [i64],
+) -> Simulated
+    requires { ⌜ Runnable (now t) × Placed (now at) (now used) × (now values ≡ noValues) ⌝ }
+    ensures { λ r.
+        ⌜ RunCall (now (t .entry)) (lent (plan .from) (now (text .entry)) (now (numbers .entry))) (plan .rounds)
+        (now (at .entry)) (now (used .entry)) r (now (values .exit)) ⌝ }
 {
-    let begun = first(t, text, feed, values);
+    let from = plan.from;
+    let begun = first(t, from, text, numbers, at, used, values);
     let state = begun.state;
-    let next = begun.feed;
     let closing = begun.closing;
     match closing {
-        Closing::Done => later_rounds(
-            t,
-            text,
-            rounds,
-            Stand {
-                state,
-                feed: next,
-                resets: 0,
-            },
-            values,
-        ),
+        Closing::Done => later_rounds(t, plan, text, numbers, at, used, state, values),
         Closing::Quiet => Simulated {
             ended: Ended::Rounds(0),
             state,

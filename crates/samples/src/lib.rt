@@ -113,11 +113,6 @@ fn line_of(text: &[u8], x: u64, c: Cursor) -> Line
     }
 }
 
-// Where each clock's next sample is to be read.
-pub struct Feed {
-    pub at: [usize; Model::CLOCKS],
-}
-
 // A place in the text, and the number of the line there.
 pub struct Spot {
     pub at: usize,
@@ -154,48 +149,35 @@ fn turn_of(text: &[u8], d: u64, x: u64, p: Spot) -> Turn
     }
 }
 
-// 40, or where each clock's samples begin.
-pub struct Scanned {
-    pub checked: Checked,
-    pub feed: Feed,
+// 40 at a line.
+fn bad_line(line: usize) -> Checked
+    ensures { λ r. ⌜ r ≡ badLine line ⌝ }
+{
+    Checked::Refused(Refusal {
+        number: 40,
+        place: Place::Line(line),
+    })
 }
 
-fn bad_line(line: usize, feed: Feed) -> Scanned
-    ensures { λ r. ⌜ r ≡ badLine line feed ⌝ }
+// The whole text in one pass: 40, or where the samples of each clock begin, into the places that the caller lends; d are the declared clocks.
+pub fn scan(text: &[u8], d: u64, at: &mut [usize; Model::CLOCKS]) -> Checked
+    requires { ⌜ length (now at) ≡ maxClocks ⌝ }
+    ensures { λ r. ⌜ Scans (samplesOf d (now (text .entry))) (now (text .entry)) r (now (at .exit)) ⌝ }
 {
-    Scanned {
-        checked: Checked::Refused(Refusal {
-            number: 40,
-            place: Place::Line(line),
-        }),
-        feed,
-    }
-}
-
-// The whole text in one pass; d are the declared clocks.
-pub fn scan(text: &[u8], d: u64) -> Scanned
-    ensures { λ r. ⌜ Scans (samplesOf d (now (text .entry))) (now (text .entry)) r ⌝ }
-{
-    let mut feed = Feed {
-        at: [0; Model::CLOCKS],
-    };
     let mut p = Spot { at: 0, line: 1 };
     for x in 0..Model::CLOCKS {
         match turn_of(text, d, x as u64, p) {
             Turn::Begins(begin, next) => {
-                feed.at[x] = begin;
+                at[x] = begin;
                 p = next;
             }
             Turn::Bad => {
-                return bad_line(p.line, feed);
+                return bad_line(p.line);
             }
         }
     }
     if p.at < text.len() {
-        return bad_line(p.line, feed);
+        return bad_line(p.line);
     }
-    Scanned {
-        checked: Checked::Fine,
-        feed,
-    }
+    Checked::Fine
 }

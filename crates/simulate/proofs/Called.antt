@@ -27,11 +27,12 @@ use Rattle.table.proofs.CheckedLaws.{refused-tells, call-refuses}
 use Rattle.table.proofs.ImageExactly.{image-exactly}
 use Rattle.orderly.specs.Calls.{MayWalk}
 use Rattle.orderly.proofs.Exactly.{walk-fine}
-use Rattle.samples.specs.declared.Scanned.{Scanned}
-use Rattle.samples.specs.declared.Feed.{Feed}
 use Rattle.samples.specs.Text.{Scans}
+use Rattle.feed.specs.declared.Source.the-variants.{Lists}
+use Rattle.feed.specs.Supply.{Lent, lent}
+use Rattle.feed.proofs.Supplied.{supplied-first}
 use Rattle.rounds.specs.Rounds.{Runnable, Runs, RunCall}
-use Rattle.simulation.specs.Simulate.{Supply, Simulation, eachFrom, andThen, simulateOf}
+use Rattle.simulation.specs.Simulate.{Supply, Simulation, eachFrom, andThen, noneTaken, simulateOf}
 use Rattle.simulation.specs.Samples.{samplesOf, recorded}
 use Rattle.simulation.specs.Call.{Simulating, putAt, putOut, lentFault, simulateWith, supplied, simulateText, SimulationAnswers}
 use Rattle.simulate.specs.Simulate.{refusedWith, PlayCall, SimulateCall}
@@ -70,6 +71,13 @@ module _ (t text : List ℕ) (n : ℕ) (was : List ℤ) (c : Checked) (check : M
 
   pub goes-on : c ≡ OfChecked.Fine → (r : Simulated) (vs : List ℤ) → SimulationAnswers (simulateText (modelOf t) text n was) was r vs → SimulateCall t text n was r vs
   goes-on e r vs a = rw (on-image t (λ m. simulateText m text n was) (image-exactly t .1 (runnable e .0 .image))) a
+
+-- a good text has a place for each clock
+pub fine-count : (o : Answer (List (List ℕ))) (text : List ℕ) (s : Checked) (at : List ℕ) → Scans o text s at → s ≡ OfChecked.Fine → length at ≡ maxClocks
+unfolding saysChecked
+fine-count (refused f) text s at y c =
+    let q : some (answered tt) ≡ some (refused f) = ap saysChecked (sym c) ∙ y in let z : _≡_ {A = ℕ} 0 1 = cc in absurd (omega arith)
+fine-count (answered ls) text s at y c = y .1 .count
 
 -- ---- 22, 28 and 40
 budget-fine : (n : ℕ) → n ≤ maxBudget → budgetFault n ≡ none
@@ -118,8 +126,8 @@ module _ (m : Model) (text : List ℕ) (n : ℕ) (was : List ℤ) (e : entryOf m
   unfolding told
   told-28 h k r i = refuses (simulateText m text n was) (tell 28 (0 ∷ [])) (is-28 h k) (record { number = 28; place = OfPlace.Whole }) refl was r i
 
-  module _ (h : n ≤ maxBudget) (k : length was ≡ maxClocks) (s : Scanned) (scan : Scans (samplesOf (declared m) text) text s) where
-    pub told-40 : (q : Refusal) → s .checked ≡ OfChecked.Refused q → (r : Simulated) → r ≡ refusedWith q → SimulationAnswers (simulateText m text n was) was r was
+  module _ (h : n ≤ maxBudget) (k : length was ≡ maxClocks) (s : Checked) (at : List ℕ) (scan : Scans (samplesOf (declared m) text) text s at) where
+    pub told-40 : (q : Refusal) → s ≡ OfChecked.Refused q → (r : Simulated) → r ≡ refusedWith q → SimulationAnswers (simulateText m text n was) was r was
     unfolding saysChecked
     told-40 q c r i = go (samplesOf (declared m) text) refl scan
       where
@@ -131,36 +139,36 @@ module _ (m : Model) (text : List ℕ) (n : ℕ) (was : List ℤ) (e : entryOf m
         not-so none y = let z : _≡_ {A = ℕ} 0 1 = cc in omega arith
         not-so (some g) y = let z : _≡_ {A = ℕ} 0 1 = cc in omega arith
 
-        go : (o : Answer (List (List ℕ))) → samplesOf (declared m) text ≡ o → Scans o text s → SimulationAnswers (simulateText m text n was) was r was
+        go : (o : Answer (List (List ℕ))) → samplesOf (declared m) text ≡ o → Scans o text s at → SimulationAnswers (simulateText m text n was) was r was
         go (refused f) w y = refuses (simulateText m text n was) f (is-40 h k f w) q (so f (told q) refl (ap saysChecked (sym c) ∙ y)) was r i
         go (answered ls) w y = absurd (not-so (told q) (ap saysChecked (sym c) ∙ y .0))
 
-    pub plays : (t : List ℕ) → modelOf t ≡ m → s .checked ≡ OfChecked.Fine → (r : Simulated) (vs : List ℤ) → PlayCall t text n (s .feed) was r vs
+    pub plays : (t ns : List ℕ) → modelOf t ≡ m → s ≡ OfChecked.Fine → (r : Simulated) (vs : List ℤ) → PlayCall t (lent Lists text ns) n at was r vs
         → SimulationAnswers (simulateText m text n was) was r vs
     unfolding saysChecked
-    plays t em c r vs p = go (samplesOf (declared m) text) refl scan
+    plays t ns em c r vs p = go (samplesOf (declared m) text) refl scan
       where
-        go : (o : Answer (List (List ℕ))) → samplesOf (declared m) text ≡ o → Scans o text s → SimulationAnswers (simulateText m text n was) was r vs
+        go : (o : Answer (List (List ℕ))) → samplesOf (declared m) text ≡ o → Scans o text s at → SimulationAnswers (simulateText m text n was) was r vs
         go (refused f) w y = let q : some (answered tt) ≡ some (refused f) = ap saysChecked (sym c) ∙ y in let z : _≡_ {A = ℕ} 0 1 = cc in absurd (omega arith)
         go (answered ls) w y =
             subst (λ a. SimulationAnswers a was r vs)
             (ap (λ j. andThen (simulateOf j (recorded ls) n) (λ d. answered (putOut j was d))) em ∙ sym (is-simulated h k ls w))
-            (p ls (y .1))
+            (p .plays (recorded ls) (supplied-first text ns ls at noneTaken (y .1)))
 
 -- ---- the rounds played, and the values put out
-module _ (t text : List ℕ) (n : ℕ) (f : Feed) (was us : List ℤ) (r : Simulated) (run : RunCall t text n f r us) where
+module _ (t : List ℕ) (l : Lent) (n : ℕ) (at : List ℕ) (was us : List ℤ) (r : Simulated) (run : RunCall t l n at noneTaken r us) where
   pub put-out : (k : ℕ) → r .ended ≡ OfEnded.Rounds k → (d : ℕ) → d ≡ declared (modelOf t) → (vs : List ℤ) → vs ≡ eachFrom (putAt d us) 0 was
-      → PlayCall t text n f was r vs
+      → PlayCall t l n at was r vs
   unfolding saysEnded putOut
-  put-out k e d h vs v ls b = go (simulateOf (modelOf t) (recorded ls) n) (run ls b)
+  put-out k e d h vs v = record { plays = λ p b. go (simulateOf (modelOf t) p n) (run .runs p b) }
     where
       go : (o : Answer Simulation) → Runs o r us → SimulationAnswers (andThen o (λ d. answered (putOut (modelOf t) was d))) was r vs
       go (answered o) i = record { ended = i .ended; state = i .state; values = v ∙ ap₂ (λ k l. eachFrom (putAt k l) 0 was) h (i .values) }
       go (refused g) i = let q : some (answered k) ≡ some (refused g) = ap saysEnded (sym e) ∙ i .ended in let z : _≡_ {A = ℕ} 0 1 = cc in absurd (omega arith)
 
-  pub put-none : (q : Refusal) → r .ended ≡ OfEnded.Refused q → PlayCall t text n f was r was
+  pub put-none : (q : Refusal) → r .ended ≡ OfEnded.Refused q → PlayCall t l n at was r was
   unfolding saysEnded
-  put-none q e ls b = go (simulateOf (modelOf t) (recorded ls) n) (run ls b)
+  put-none q e = record { plays = λ p b. go (simulateOf (modelOf t) p n) (run .runs p b) }
     where
       not-so : (o : Option Told) (k : ℕ) → _≡_ {A = Option (Answer ℕ)} (asRefused o) (some (answered k)) → ⊥
       not-so none k y = let z : _≡_ {A = ℕ} 0 1 = cc in omega arith

@@ -1,4 +1,5 @@
 pub mod Answers
 pub mod Determined
 pub mod Rounds
+pub mod InPlace
 pub mod Called

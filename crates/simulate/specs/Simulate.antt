@@ -9,20 +9,18 @@ use Rattle.answer.specs.declared.Ended.the-variants as OfEnded
 use Rattle.answer.specs.declared.Simulated.{Simulated}
 use Rattle.table.specs.OnTable.{onTable}
 use Rattle.layout.specs.Image.{modelOf}
-use Rattle.samples.specs.declared.Feed.{Feed}
-use Rattle.samples.specs.Text.{Feeds}
-use Rattle.simulation.specs.Simulate.{andThen, simulateOf}
-use Rattle.simulation.specs.Samples.{recorded}
+use Rattle.feed.specs.Supply.{Lent, Supplies}
+use Rattle.simulation.specs.Simulate.{Supply, andThen, noneTaken, simulateOf}
 use Rattle.simulation.specs.Call.{Simulating, putOut, simulateText, SimulationAnswers}
 
 -- a refusal, beside which the state is zero
 abbrev pub refusedWith : Refusal → Simulated
 refusedWith f = record { ended = OfEnded.Refused f; state = noState }
 
--- of `play`: n later rounds over the lists at whose first samples the cursors stand, and the declared clocks put out
-abbrev pub PlayCall : List ℕ → List ℕ → ℕ → Feed → List ℤ → Simulated → List ℤ → Type 0
-PlayCall t text n f was r vs = (ls : List (List ℕ)) → Feeds text ls f
-    → SimulationAnswers (andThen (simulateOf (modelOf t) (recorded ls) n) (λ e. answered (putOut (modelOf t) was e))) was r vs
+-- of `play`: n later rounds over whatever the places supply, no number used yet, and the declared clocks put out
+pub record PlayCall (t : List ℕ) (l : Lent) (n : ℕ) (at : List ℕ) (was : List ℤ) (r : Simulated) (vs : List ℤ) : Type 0 where
+  pub plays : (p : Supply) → Supplies l p noneTaken at noneTaken
+      → SimulationAnswers (andThen (simulateOf (modelOf t) p n) (λ e. answered (putOut (modelOf t) was e))) was r vs
 
 -- ---- the call
 -- t is the table, samples the sample text, n the later rounds asked for, was the lent values before the call

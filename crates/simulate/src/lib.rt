@@ -6,7 +6,8 @@ use answer::Place;
 use answer::Refusal;
 use answer::Simulated;
 use answer::State;
-use samples::Feed;
+use feed::Source;
+use rounds::Plan;
 ghost use mathlib.Core.Path.{_≡_};
 ghost use mathlib.Core.Bool.{cond};
 ghost use mathlib.Core.Option.{none};
@@ -16,6 +17,7 @@ ghost use Rattle.laws.specs.Sets.{has};
 ghost use Rattle.answer.specs.Limits.{maxClocks};
 ghost use Rattle.layout.specs.Image.{modelOf};
 ghost use Rattle.triggering.specs.Test.{entryOf};
+ghost use Rattle.feed.specs.Supply.{lent};
 ghost use Rattle.rounds.specs.Rounds.{Runnable};
 ghost use Rattle.simulation.specs.Simulate.{eachFrom};
 ghost use Rattle.simulation.specs.Call.{putAt, simulateText, SimulationAnswers};
@@ -51,13 +53,23 @@ fn refused(f: Refusal) -> Simulated
     }
 }
 
-// The rounds over a good sample text; the lent values are written once, at the end.
-fn play(t: &[u64], text: &[u8], rounds: usize, feed: Feed, clocks: &mut [i64]) -> Simulated
-    requires { ⌜ Runnable (now t) × (length (now clocks) ≡ maxClocks) ⌝ }
-    ensures { λ r. ⌜ PlayCall (now (t .entry)) (now (text .entry)) rounds feed (now (clocks .entry)) r (now (clocks .exit)) ⌝ }
+// The rounds over the samples that stand at the places; the lent values are written once, at the end.
+fn play(
+    t: &[u64],
+    plan: Plan,
+    text: &[u8],
+    numbers: &[u64],
+    at: &mut [usize; Model::CLOCKS],
+    clocks: &mut [i64],
+) -> Simulated
+    requires { ⌜ Runnable (now t) × (length (now at) ≡ maxClocks) × (length (now clocks) ≡ maxClocks) ⌝ }
+    ensures { λ r.
+        ⌜ PlayCall (now (t .entry)) (lent (plan .from) (now (text .entry)) (now (numbers .entry))) (plan .rounds) (now (at .entry))
+        (now (clocks .entry)) r (now (clocks .exit)) ⌝ }
 {
+    let mut used = [0usize; Model::CLOCKS];
     let mut values = [0i64; Model::CLOCKS];
-    let r = rounds::run(t, text, rounds, feed, &mut values);
+    let r = rounds::run(t, plan, text, numbers, at, &mut used, &mut values);
     let ended = r.ended;
     match ended {
         Ended::Rounds(_) => {
@@ -87,11 +99,20 @@ fn play_text(t: &[u64], text: &[u8], rounds: usize, clocks: &mut [i64]) -> Simul
             place: Place::Whole,
         });
     }
-    let scanned = samples::scan(text, enabling::declared(t));
-    let feed = scanned.feed;
-    let checked = scanned.checked;
+    let mut at = [0usize; Model::CLOCKS];
+    let checked = samples::scan(text, enabling::declared(t), &mut at);
     match checked {
-        Checked::Fine => play(t, text, rounds, feed, clocks),
+        Checked::Fine => play(
+            t,
+            Plan {
+                from: Source::Lists,
+                rounds,
+            },
+            text,
+            &[],
+            &mut at,
+            clocks,
+        ),
         Checked::Refused(f) => refused(f),
     }
 }

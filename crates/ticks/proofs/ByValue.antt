@@ -15,7 +15,7 @@ use Rattle.iosa.specs.TimedExactly.{valueOf}
 use Rattle.ticks.specs.Ticks.{byValue}
 
 module _ (f : ℕ → ℤ → Bool) (vs : List ℤ) (k : ℕ) (h : k < maxClocks) (fits : SFits w64 (valueOf vs k)) (r : Bool) (e : r ≡ f k (toZ w64 (ofZ w64 (valueOf vs k)))) where
-  told : byValue f vs k ≡ r
+  pub told : byValue f vs k ≡ r
   told = ap (f k) (sym (toZ-ofZ w64 (valueOf vs k) fits)) ∙ sym e
 
   pub value-here : r ≡ true → seek (λ k. when (byValue f vs k) k) k maxClocks ≡ some k

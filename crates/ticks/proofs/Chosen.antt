@@ -4,9 +4,9 @@ use mathlib.Core.Logic.{by-cases}
 use mathlib.Core.Option.{Option, none, some}
 use mathlib.Core.Bool.{Bool, true, false, _&&_, not, true≢false, false≢true}
 use mathlib.Core.List.{List}
-use Prim.Native.Nat.{ℕ, zero, suc, _+_, _≤_, _<_}
+use Prim.Native.Nat.{ℕ, zero, suc, _+_, _^_, _≤_, _<_}
 use native.Mathlib.Omega.{arith}
-use native.Mathlib.Decide.{ℕ-discrete}
+use native.Mathlib.Decide.{ℕ-discrete, decLt}
 use lib.Dec.{eqb}
 use lib.IntN.{ℤ, pos}
 use lib.Signed.{ltZ, leZ}
@@ -19,6 +19,8 @@ use Rattle.laws.proofs.TickLaws.{less-irreflexive, less-transitive, less-total,
 use Rattle.answer.specs.Limits.{maxClocks}
 use Rattle.timing.specs.Timed.{isLeast, shares, check30}
 use Rattle.iosa.specs.TimedExactly.{valueOf}
+use Rattle.sets.specs.Members.{wordBits}
+use Rattle.members.proofs.Walk.{Front, Rest, none-left}
 use Rattle.ticks.specs.Ticks.{rivals, betterOf, byValue, orNone}
 use Rattle.ticks.proofs.Singles.{better-other, better-first, better-less, better-not}
 
@@ -99,6 +101,53 @@ module _ (e : ℕ) (vs : List ℤ) where
       go false n m = rw (← better-other e vs b k n) (out n m)
       go true i (nothing r f) = rw (← better-first e vs b k i r) (leading (first-one i f))
       go true i (leading l) = compare i l (ltZ (valueOf vs k) (valueOf vs b)) refl
+
+  -- the clocks from k up to x are not enabling
+  best-skip : (k x b : ℕ) → k ≤ x → ((y : ℕ) → k ≤ y → y < x → has e y ≡ false) → Best k b → Best x b
+  best-skip k x b h n (nothing r f) = nothing r (λ y q. by-cases (decLt y k) (λ l. f y l) (λ l. n y (omega arith) q))
+  best-skip k x b h n (leading l) = leading {b = b} (record {
+    below = omega (arith, l .below);
+    here = l .here;
+    least = λ y q i. by-cases (decLt y k) (λ m. l .least y m i) (λ m. absurd (true≢false (sym i ∙ n y (omega arith) q)));
+    first = l .first;
+  })
+
+  -- ---- the walk: of the clocks below `from`, b; the others are left
+  pub record Walked (left b : ℕ) : Type 0 where
+    pub fits : left < 2 ^ wordBits
+    pub from : ℕ
+    pub few : from ≤ maxClocks
+    pub best : Best from b
+    pub above : (y : ℕ) → y ∈ left → from ≤ y
+    pub rest : (y : ℕ) → y ∈ e → from ≤ y → y ∈ left
+
+  pub walked-first : e < 2 ^ wordBits → Walked e maxClocks
+  walked-first f = record { fits = f; from = 0; few = omega arith; best = best-none; above = λ y h. omega arith; rest = λ y h l. h }
+
+  module _ (left b : ℕ) (w : Walked left b) where
+    pub walked-bound : b ≤ maxClocks
+    walked-bound = best-bound (w .from) b (w .few) (w .best)
+
+    pub walked-next : (x t : ℕ) → Front left x → Rest left x t → (c : ℕ) → c ≡ betterOf e vs b x → Walked t c
+    walked-next x t i r c q = record {
+      fits = r .fits;
+      from = x + 1;
+      few = omega (arith, i .below);
+      best = rw q (best-next x b (i .below) (best-skip (w .from) x b (w .above x (i .member)) between (w .best)));
+      above = λ y h. by-cases (decLt y (x + 1)) (λ l. absurd (not-lower y h l)) (λ l. omega arith);
+      rest = λ y h l. r .same y (λ m. omega arith) ∙ w .rest y h (omega (arith, w .above x (i .member)));
+    }
+      where
+        between : (y : ℕ) → w .from ≤ y → y < x → has e y ≡ false
+        between y l m = not-so (has e y) (λ h. true≢false (sym (w .rest y h l) ∙ i .first y m))
+
+        not-lower : (y : ℕ) → y ∈ t → y < x + 1 → ⊥
+        not-lower y h l = by-cases (ℕ-discrete y x)
+            (λ m. true≢false (sym h ∙ ap (has t) m ∙ r .gone))
+            (λ m. true≢false (sym h ∙ r .same y m ∙ i .first y (omega arith)))
+
+    pub walked-all : left ≡ 0 → Best maxClocks b
+    walked-all z = best-skip (w .from) maxClocks b (w .few) (λ y l m. not-so (has e y) (λ h. true≢false (sym (w .rest y h l) ∙ none-left left y z))) (w .best)
 
   -- ---- the end of the loop
   smaller : ℕ → ℕ → Bool

@@ -37,9 +37,12 @@ pub fn age(values: &mut [i64], d: u64, v: i64)
     requires { ⌜ Ticking d (now values) × Tick v ⌝ }
     ensures { λ _. ⌜ now (values .exit) ≡ agedFrom d v 0 (now (values .entry)) ⌝ }
 {
-    for k in 0..Model::CLOCKS {
-        let z = values[k];
-        values[k] = aged_one(d, v, k as u64, z);
+    let mut left = d;
+    while left != 0 {
+        let k = sets::lowest(left);
+        let z = values[k as usize];
+        values[k as usize] = aged_one(d, v, k, z);
+        left = sets::minus(left, sets::single(k));
     }
 }
 
@@ -81,11 +84,14 @@ pub fn below_zero(values: &[i64], e: u64) -> u64
     requires { ⌜ length (now values) ≡ maxClocks ⌝ }
     ensures { λ r. ⌜ r ≡ orNone (check29 e (now (values .entry))) ⌝ }
 {
-    for k in 0..Model::CLOCKS {
-        let z = values[k];
-        if is_negative(e, k as u64, z) {
-            return k as u64;
+    let mut left = e;
+    while left != 0 {
+        let k = sets::lowest(left);
+        let z = values[k as usize];
+        if is_negative(e, k, z) {
+            return k;
         }
+        left = sets::minus(left, sets::single(k));
     }
     Model::CLOCKS as u64
 }
@@ -123,8 +129,11 @@ pub fn least(values: &[i64], e: u64) -> u64
     ensures { λ r. ⌜ r ≡ orNone (least (isLeast e (now (values .entry))) maxClocks) ⌝ }
 {
     let mut best = Model::CLOCKS as u64;
-    for k in 0..Model::CLOCKS {
-        best = better(values, e, best, k as u64);
+    let mut left = e;
+    while left != 0 {
+        let k = sets::lowest(left);
+        best = better(values, e, best, k);
+        left = sets::minus(left, sets::single(k));
     }
     best
 }
@@ -146,11 +155,14 @@ pub fn has_rival(values: &[i64], e: u64, x: u64) -> bool
     ensures { λ r. ⌜ r ≡ any (byValue (rivals e x (valueOf (now (values .entry)) x)) (now (values .entry))) maxClocks ⌝ }
 {
     let v = values[x as usize];
-    for k in 0..Model::CLOCKS {
-        let z = values[k];
-        if is_rival(e, x, v, k as u64, z) {
+    let mut left = e;
+    while left != 0 {
+        let k = sets::lowest(left);
+        let z = values[k as usize];
+        if is_rival(e, x, v, k, z) {
             return true;
         }
+        left = sets::minus(left, sets::single(k));
     }
     false
 }

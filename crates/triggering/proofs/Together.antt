@@ -171,7 +171,7 @@ module _ (m : Model) (w : WellFormed m) where
         })
 
     -- ---- led to
-    together-below : {a b : ℕ} → Together m a b → (a < maxActions) × (b < maxActions)
+    pub together-below : {a b : ℕ} → Together m a b → (a < maxActions) × (b < maxActions)
     together-below (start x y) = (
       enabled-below (compAt m (x .index)) (w .each (x .index) (x .inside)) (x .enabled),
       enabled-below (compAt m (y .index)) (w .each (y .index) (y .inside)) (y .enabled),
@@ -179,7 +179,7 @@ module _ (m : Model) (w : WellFormed m) where
     together-below (inOneSet i l x y z) = (enabled-below (compAt m i) (w .each i l) y, enabled-below (compAt m i) (w .each i l) z)
     together-below (inTwoParts i j l k n x y p q) = (enabled-below (compAt m i) (w .each i l) p, enabled-below (compAt m j) (w .each j k) q)
 
-    spread-exactly : (L : List ℕ) (X b : ℕ) → (b ∈ spreadBy L X) ↔ ((d : ℕ) × (d < maxActions) × (d ∈ X) × (b ∈ getD L d 0))
+    pub spread-exactly : (L : List ℕ) (X b : ℕ) → (b ∈ spreadBy L X) ↔ ((d : ℕ) × (d < maxActions) × (d ∈ X) × (b ∈ getD L d 0))
     unfolding spreadBy
     spread-exactly L X b =
         let p = in-joined (λ d. cond (has X d) (getD L d 0) 0) maxActions b in (
@@ -189,7 +189,7 @@ module _ (m : Model) (w : WellFormed m) where
 
     -- of any table that says what leads on to what
     module _ (L : List ℕ) (leads : (a b : ℕ) → a < maxActions → b < maxActions → (b ∈ getD L a 0) ↔ LeadsOn m a b) where
-      pub led-by-exactly : (a b : ℕ) → a < maxActions → b < maxActions → (b ∈ getD (ledBy L (togetherOf m)) a 0) ↔ Led m a b
+      led-by-exactly : (a b : ℕ) → a < maxActions → b < maxActions → (b ∈ getD (ledBy L (togetherOf m)) a 0) ↔ Led m a b
       unfolding ledBy
       led-by-exactly a b h k =
           let W = togetherOf m in

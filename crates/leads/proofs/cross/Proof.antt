@@ -1,62 +1,66 @@
--- `leads::cross` meets its contract: the places passed are crossed.
-use mathlib.Core.Path.{_≡_, ap, ap₂, _∙_}
-use mathlib.Core.Bool.{cond}
-use Prim.Native.Nat.{ℕ, _-_, _≤_}
+-- `leads::cross` meets its contract: the places that are no longer left are crossed.
+use mathlib.Core.Path.{_∙_}
 use native.Mathlib.Omega.{arith}
-use lib.ListN.{length, getD}
-use Rattle.laws.specs.Sets.{has, _∪_}
-use Rattle.answer.specs.Limits.{maxActions}
+use Rattle.members.proofs.Walk.{Front, Rest, front, rest}
 use Rattle.leads.proofs.Standing.{Crossing, crossing-first, crossing-next, crossing-all}
 use borrow.Author.Needs.{needs}
 use Rattle.leads.proofs.cross.Statement.{statement}
 use Rattle.leads.proofs.cross.Tie as tie
 
 abbrev Inv-loop : tie.InvT-loop
-Inv-loop table₀ to new a₀ table a = (a ≤ maxActions) × Crossing to new a table₀ table
+Inv-loop table₀ to new left₀ table left = Crossing to new left table₀ table
 
 abbrev μ-loop : tie.MeasureT-loop
-μ-loop table₀ to new a₀ table a = maxActions - a
+μ-loop table₀ to new left₀ table left = left
+
+first : (c : tie.After-lowest Inv-loop μ-loop) → Front (c .before .before .loop .left) (c .lowest .result)
+first c = front _ (c .before .before .loop .inv .fits) (c .before .loop-test .taken) _ (c .lowest .ensures)
+
+-- from the union to the lowest
+abbrev of : tie.After-union Inv-loop μ-loop → tie.After-lowest Inv-loop μ-loop
+of c = c .before .before
+
+without : (c : tie.After-minus Inv-loop μ-loop)
+    → (let w = of (c .before .before) in Rest (w .before .before .loop .left) (w .lowest .result) (c .minus .result))
+without c =
+    let w = of (c .before .before) in
+    rest _ (w .before .before .loop .inv .fits) (w .before .loop-test .taken) _ (w .lowest .ensures) _ _ (c .before .single .ensures) (c .minus .ensures)
 
 loop-holds : tie.Need-loop-holds Inv-loop μ-loop
-loop-holds c = (omega arith, crossing-first _ _ _ (c .pre))
+loop-holds c = crossing-first _ _ _ (c .fits .to .fits) (c .pre)
+
+lowest-requires : tie.Need-lowest-requires Inv-loop μ-loop
+lowest-requires c κs = search needs
 
 mul-union : tie.Need-mul-union Inv-loop μ-loop
-mul-union c = search needs
+mul-union c = omega (arith, first c .below)
 
 element-copy-out-union : tie.Need-element-copy-out-union Inv-loop μ-loop
-element-copy-out-union c = omega (arith, c .before .loop .inv .1 .long)
-
-has-requires : tie.Need-has-requires Inv-loop μ-loop
-has-requires c κs = search needs
-
-pick-requires : tie.Need-pick-requires Inv-loop μ-loop
-pick-requires c κs = search needs
+element-copy-out-union c = omega (arith, first c .below, c .before .before .loop .inv .long)
 
 union-requires : tie.Need-union-requires Inv-loop μ-loop
 union-requires c κs = search needs
 
 mul-table : tie.Need-mul-table Inv-loop μ-loop
-mul-table c = search needs
+mul-table c = omega (arith, first (of c) .below)
 
 element-write-table : tie.Need-element-write-table Inv-loop μ-loop
-element-write-table c = omega (arith, c .before .before .before .before .before .loop .inv .1 .long)
+element-write-table c = let w = of c in omega (arith, first w .below, w .before .before .loop .inv .long)
 
-add-a : tie.Need-add-a Inv-loop μ-loop
-add-a c = search needs
+single-requires : tie.Need-single-requires Inv-loop μ-loop
+single-requires c κs = first (of c) .below
+
+minus-requires : tie.Need-minus-requires Inv-loop μ-loop
+minus-requires c κs = search needs
 
 loop-less : tie.Need-loop-less Inv-loop μ-loop
-loop-less c = search needs
+loop-less c = without c .less
 
 loop-again : tie.Need-loop-again Inv-loop μ-loop
-loop-again c =
-    let l = c .before .before .before .before .before .loop in
-    let x = c .before .before .before .before .before .before .args in
-    let s : c .before .pick .result ≡ cond (has (x .to) (l .a)) (x .new) 0 =
-    c .before .pick .ensures ∙ ap (λ b. cond b (x .new) 0) (c .before .before .has .ensures) in
-    (omega arith, crossing-next _ _ (l .a) _ (omega arith) (c .union .ensures ∙ ap (λ y. getD (l .table) (l .a) 0 ∪ y) s) (l .inv .1))
+loop-again c = let u = c .before .before in crossing-next (of u .before .before .loop .inv) _ _ _ (first (of u)) (without c) (u .union .ensures)
 
 returns : tie.Need-returns Inv-loop μ-loop
-returns c = crossing-all (omega arith) (c .before .loop .inv .1)
+returns c = crossing-all (c .loop-test .left) (c .before .loop .inv)
 
 pub cross-spec : {M : Type 1} → statement M
 cross-spec =
@@ -65,14 +69,14 @@ cross-spec =
     Inv-loop
     μ-loop
     loop-holds
+    lowest-requires
     mul-union
     element-copy-out-union
-    has-requires
-    pick-requires
     union-requires
     mul-table
     element-write-table
-    add-a
+    single-requires
+    minus-requires
     loop-less
     loop-again
     returns)

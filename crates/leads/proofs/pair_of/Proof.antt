@@ -26,14 +26,11 @@ enum-told-2 c = search needs
 woken-requires : tie.Need-woken-requires
 woken-requires c κs = search needs
 
-woken-requires-2 : tie.Need-woken-requires-2
-woken-requires-2 c κs = search needs
-
 enum-told-3 : tie.Need-enum-told-3
 enum-told-3 c = search needs
 
-woken-requires-3 : tie.Need-woken-requires-3
-woken-requires-3 c κs = search needs
+woken-requires-2 : tie.Need-woken-requires-2
+woken-requires-2 c κs = search needs
 
 returns : tie.Need-returns
 unfolding toOf newOf
@@ -43,13 +40,13 @@ returns c =
 
 returns-2 : tie.Need-returns-2
 unfolding toOf newOf
-returns-2 c = rw (c .before .before .enum-told2 .given .1) (record { to = c .before .woken .ensures; new = c .woken2 .ensures })
+returns-2 c = rw (c .before .enum-told2 .given .1) (record { to = c .woken .ensures; new = c .woken .ensures })
 
 returns-3 : tie.Need-returns-3
 unfolding toOf newOf
 returns-3 c =
     let own = c .before .before .before in
-    rw (c .before .enum-told3 .given .1) (record { to = c .woken3 .ensures; new = own .single .ensures ∙ ap only (own .before .action-at .ensures) })
+    rw (c .before .enum-told3 .given .1) (record { to = c .woken2 .ensures; new = own .single .ensures ∙ ap only (own .before .action-at .ensures) })
 
 pub pair-of-spec : {M : Type 1} → statement M
 pair-of-spec =
@@ -61,9 +58,8 @@ pair-of-spec =
     stirred-requires
     enum-told-2
     woken-requires
-    woken-requires-2
     enum-told-3
-    woken-requires-3
+    woken-requires-2
     returns
     returns-2
     returns-3)

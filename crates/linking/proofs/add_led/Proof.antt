@@ -14,17 +14,17 @@ use borrow.Author.Needs.{needs}
 use Rattle.linking.proofs.add_led.Statement.{statement}
 use Rattle.linking.proofs.add_led.Tie as tie
 
-abbrev adds : List ℕ → List ℕ → ℕ → List ℕ → List ℕ
-adds L W = λ a. crossed (getD L a 0) (spreadBy L (getD W a 0))
+abbrev adds : List ℕ → ℕ → List ℕ → List ℕ
+adds L = λ a T. crossed (getD L a 0) (spreadBy L (getD T a 0)) T
 
 abbrev Inv-loop : tie.InvT-loop
-Inv-loop lead with table₀ a₀ table a = (a ≤ maxActions) × (length table ≡ maxActions) × (over (adds lead with) a maxActions table ≡ over (adds lead with) 0 maxActions table₀)
+Inv-loop lead table₀ a₀ table a = (a ≤ maxActions) × (length table ≡ maxActions) × (over (adds lead) a maxActions table ≡ over (adds lead) 0 maxActions table₀)
 
 abbrev μ-loop : tie.MeasureT-loop
-μ-loop lead with table₀ a₀ table a = maxActions - a
+μ-loop lead table₀ a₀ table a = maxActions - a
 
 loop-holds : tie.Need-loop-holds Inv-loop μ-loop
-loop-holds c = (omega arith, c .pre .2, refl)
+loop-holds c = (omega arith, c .pre .1, refl)
 
 mul-to : tie.Need-mul-to Inv-loop μ-loop
 mul-to c = search needs
@@ -36,7 +36,7 @@ mul-spread : tie.Need-mul-spread Inv-loop μ-loop
 mul-spread c = search needs
 
 element-copy-out-spread : tie.Need-element-copy-out-spread Inv-loop μ-loop
-element-copy-out-spread c = omega (arith, c .before .before .before .pre .1)
+element-copy-out-spread c = omega (arith, c .before .before .loop .inv .1)
 
 spread-requires : tie.Need-spread-requires Inv-loop μ-loop
 spread-requires c κs = c .before .before .before .before .pre .0
@@ -55,14 +55,14 @@ loop-again c =
     let l = c .before .before .before .before .before .before .loop in
     let a = c .before .before .before .before .before .before .before .args in
     let e = rw (c .before .before .spread .ensures) at (c .cross .ensures) in
-    (omega arith, ap length (c .cross .ensures) ∙ crossed-length _ _ _, fold-next (adds (a .lead .now) (a .with .now)) (l .a) _ (l .table) (l .inv .2) _ (omega arith) e)
+    (omega arith, ap length (c .cross .ensures) ∙ crossed-length _ _ _, fold-next (adds (a .lead .now)) (l .a) _ (l .table) (l .inv .2) _ (omega arith) e)
 
 returns : tie.Need-returns Inv-loop μ-loop
 unfolding ledFrom
 returns c =
     let l = c .before .loop in
     let a = c .before .before .args in
-    fold-end (adds (a .lead .now) (a .with .now)) (l .a) _ (l .table) (l .inv .2) (omega arith)
+    fold-end (adds (a .lead .now)) (l .a) _ (l .table) (l .inv .2) (omega arith)
 
 pub add-led-spec : {M : Type 1} → statement M
 add-led-spec =

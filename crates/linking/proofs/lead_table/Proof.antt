@@ -1,8 +1,7 @@
 -- `linking::lead_table` meets its contract: what is learnt, closed.
-use mathlib.Core.Path.{ap, _∙_}
+use mathlib.Core.Path.{_≡_, ap, _∙_}
 use lib.ListN.{length}
 use Rattle.laws.specs.Sets.{only}
-use Rattle.laws.specs.Fold.{tab}
 use Rattle.laws.proofs.FoldLaws.{tab-length}
 use Rattle.answer.specs.Limits.{maxActions}
 use Rattle.layout.specs.Image.{modelOf}
@@ -23,15 +22,16 @@ learn-requires c κs = search needs
 close-sets-requires : tie.Need-close-sets-requires
 close-sets-requires c κs =
     let s = c .before .before .before in
-    let m = modelOf (s .before .before .args .t .now) in
+    let m = modelOf (s .before .before .before .args .t .now) in
     ap length (c .before .learn .ensures ∙ ap (learnOf Triggers m) (s .singles .ensures)) ∙ system-length Triggers m _ (tab-length only 0 maxActions)
 
 returns : tie.Need-returns
 returns c =
     let s = c .before .before .before .before in
-    let t = s .before .before .args .t .now in
+    let s0 = s .before .before .before in
+    let t = s0 .args .t .now in
     let e = c .before .before .learn .ensures ∙ ap (learnOf Triggers (modelOf t)) (s .singles .ensures) ∙ learnt-triggers (modelOf t) in
-    lead-table-is (modelOf t) (well-formed t (s .before .before .pre)) _ (rw e at (c .close-sets .ensures))
+    lead-table-is (modelOf t) (well-formed t (s0 .pre .0)) _ (rw e at (c .close-sets .ensures))
 
 pub lead-table-spec : {M : Type 1} → statement M
 lead-table-spec = tie.close (tie.spec singles-requires learn-requires close-sets-requires returns)

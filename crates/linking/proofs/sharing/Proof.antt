@@ -10,7 +10,7 @@ use Rattle.laws.specs.Sets.{_∪_, _∩_, only}
 use Rattle.laws.specs.Fold.{over}
 use Rattle.answer.specs.Limits.{maxActions}
 use Rattle.triggering.specs.Test.{sharing}
-use Rattle.linking.proofs.Walking.{fold-next, fold-end}
+use Rattle.linking.proofs.Walking.{none-shared, fold-next, fold-end}
 use borrow.Author.Needs.{needs}
 use Rattle.linking.proofs.sharing.Statement.{statement}
 use Rattle.linking.proofs.sharing.Tie as tie
@@ -30,6 +30,9 @@ mul-mine c = search needs
 element-copy-out-mine : tie.Need-element-copy-out-mine Inv-loop μ-loop
 element-copy-out-mine c = omega (arith, c .pre .0)
 
+returns : tie.Need-returns Inv-loop μ-loop
+returns c = let a = c .before .before .args in none-shared (a .table .now) (a .a) (c .if1 .taken)
+
 loop-holds : tie.Need-loop-holds Inv-loop μ-loop
 loop-holds c = (omega arith, refl)
 
@@ -37,7 +40,7 @@ mul-pick : tie.Need-mul-pick Inv-loop μ-loop
 mul-pick c = search needs
 
 element-copy-out-pick : tie.Need-element-copy-out-pick Inv-loop μ-loop
-element-copy-out-pick c = omega (arith, c .before .before .before .pre .0)
+element-copy-out-pick c = omega (arith, c .before .before .before .before .pre .0)
 
 single-requires : tie.Need-single-requires Inv-loop μ-loop
 single-requires c κs = omega arith
@@ -56,14 +59,15 @@ loop-less c = search needs
 
 loop-again : tie.Need-loop-again Inv-loop μ-loop
 loop-again c =
-    let l = c .before .before .before .before .before .loop in
-    let a = c .before .before .before .before .before .before .before .args in
+    let w = c .before .before .before .before .before in
+    let l = w .loop in
+    let a = w .before .before .before .args in
     let e = c .before .pick .ensures ∙ ap (λ s. cond (not (eqb (getD (a .table .now) (a .a) 0 ∩ getD (a .table .now) (l .d) 0) 0)) s 0) (c .before .before .single .ensures) in
     (omega arith, fold-next (joins (a .table .now) (a .a)) (l .d) _ (l .all) (l .inv .1) _ (omega arith) (c .union .ensures ∙ ap (λ x. l .all ∪ x) e))
 
-returns : tie.Need-returns Inv-loop μ-loop
+returns-2 : tie.Need-returns-2 Inv-loop μ-loop
 unfolding sharing
-returns c = let l = c .before .loop in fold-end (joins (c .before .before .before .args .table .now) (c .before .before .before .args .a)) (l .d) _ (l .all) (l .inv .1) (omega arith)
+returns-2 c = let l = c .before .loop in let a = c .before .before .before .before .args in fold-end (joins (a .table .now) (a .a)) (l .d) _ (l .all) (l .inv .1) (omega arith)
 
 pub sharing-spec : {M : Type 1} → statement M
 sharing-spec =
@@ -73,6 +77,7 @@ sharing-spec =
     μ-loop
     mul-mine
     element-copy-out-mine
+    returns
     loop-holds
     mul-pick
     element-copy-out-pick
@@ -82,4 +87,4 @@ sharing-spec =
     add-d
     loop-less
     loop-again
-    returns)
+    returns-2)

@@ -18,7 +18,7 @@ abbrev μ-loop : tie.MeasureT-loop
 μ-loop table₀ a₀ table a = maxActions - a
 
 loop-holds : tie.Need-loop-holds Inv-loop μ-loop
-loop-holds c = (search needs, omega arith, λ j h. absurd (omega arith))
+loop-holds c = (c .pre, omega arith, λ j h. absurd (omega arith))
 
 single-requires : tie.Need-single-requires Inv-loop μ-loop
 single-requires c κs = search needs
@@ -26,8 +26,8 @@ single-requires c κs = search needs
 mul-table : tie.Need-mul-table Inv-loop μ-loop
 mul-table c = search needs
 
-array-write-table : tie.Need-array-write-table Inv-loop μ-loop
-array-write-table c = search needs
+element-write-table : tie.Need-element-write-table Inv-loop μ-loop
+element-write-table c = search needs
 
 add-a : tie.Need-add-a Inv-loop μ-loop
 add-a c = search needs
@@ -52,7 +52,7 @@ singles-spec =
     loop-holds
     single-requires
     mul-table
-    array-write-table
+    element-write-table
     add-a
     loop-less
     loop-again

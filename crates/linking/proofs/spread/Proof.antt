@@ -9,7 +9,7 @@ use Rattle.laws.specs.Sets.{has, _∪_}
 use Rattle.laws.specs.Fold.{over}
 use Rattle.answer.specs.Limits.{maxActions}
 use Rattle.triggering.specs.Test.{spreadBy}
-use Rattle.linking.proofs.Walking.{fold-next, fold-end}
+use Rattle.linking.proofs.Walking.{none-spread, fold-next, fold-end}
 use borrow.Author.Needs.{needs}
 use Rattle.linking.proofs.spread.Statement.{statement}
 use Rattle.linking.proofs.spread.Tie as tie
@@ -23,6 +23,9 @@ Inv-loop lead x all₀ d₀ all d = (d ≤ maxActions) × (over (joins lead x) d
 abbrev μ-loop : tie.MeasureT-loop
 μ-loop lead x all₀ d₀ all d = maxActions - d
 
+returns : tie.Need-returns Inv-loop μ-loop
+returns c = none-spread _ _ (c .if1 .taken)
+
 loop-holds : tie.Need-loop-holds Inv-loop μ-loop
 loop-holds c = (omega arith, refl)
 
@@ -33,7 +36,7 @@ mul-pick : tie.Need-mul-pick Inv-loop μ-loop
 mul-pick c = search needs
 
 element-copy-out-pick : tie.Need-element-copy-out-pick Inv-loop μ-loop
-element-copy-out-pick c = omega (arith, c .before .before .before .pre)
+element-copy-out-pick c = omega (arith, c .before .before .before .before .pre)
 
 pick-requires : tie.Need-pick-requires Inv-loop μ-loop
 pick-requires c κs = search needs
@@ -49,14 +52,15 @@ loop-less c = search needs
 
 loop-again : tie.Need-loop-again Inv-loop μ-loop
 loop-again c =
-    let l = c .before .before .before .before .before .loop in
-    let a = c .before .before .before .before .before .before .args in
+    let w = c .before .before .before .before .before in
+    let l = w .loop in
+    let a = w .before .before .args in
     let e = c .before .pick .ensures ∙ ap (λ b. cond b (getD (a .lead .now) (l .d) 0) 0) (c .before .before .before .has .ensures) in
     (omega arith, fold-next (joins (a .lead .now) (a .x)) (l .d) _ (l .all) (l .inv .1) _ (omega arith) (c .union .ensures ∙ ap (λ y. l .all ∪ y) e))
 
-returns : tie.Need-returns Inv-loop μ-loop
+returns-2 : tie.Need-returns-2 Inv-loop μ-loop
 unfolding spreadBy
-returns c = let l = c .before .loop in fold-end (joins (c .before .before .args .lead .now) (c .before .before .args .x)) (l .d) _ (l .all) (l .inv .1) (omega arith)
+returns-2 c = let l = c .before .loop in let a = c .before .before .before .args in fold-end (joins (a .lead .now) (a .x)) (l .d) _ (l .all) (l .inv .1) (omega arith)
 
 pub spread-spec : {M : Type 1} → statement M
 spread-spec =
@@ -64,6 +68,7 @@ spread-spec =
     (tie.spec
     Inv-loop
     μ-loop
+    returns
     loop-holds
     has-requires
     mul-pick
@@ -73,4 +78,4 @@ spread-spec =
     add-d
     loop-less
     loop-again
-    returns)
+    returns-2)

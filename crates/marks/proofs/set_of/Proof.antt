@@ -12,7 +12,7 @@ use Rattle.marks.proofs.set_of.Statement.{statement}
 use Rattle.marks.proofs.set_of.Tie as tie
 
 abbrev Inv-loop : tie.InvT-loop
-Inv-loop row all₀ j₀ all j = (j ≤ rowsOfMarks) × Members row j all
+Inv-loop row all₀ j₀ all j = (j ≤ rowsOfMarks) × Members (λ b. getD row b false) j all
 
 abbrev μ-loop : tie.MeasureT-loop
 μ-loop row all₀ j₀ all j = rowsOfMarks - j

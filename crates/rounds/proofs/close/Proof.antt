@@ -1,10 +1,17 @@
 -- `rounds::close` meets its contract.
-use mathlib.Core.Path.{refl}
-use denote.Ref.{now}
+use mathlib.Core.Path.{refl, sym, _∙_}
 use borrow.Author.Needs.{needs}
 use Rattle.rounds.proofs.Ending.{closes-stable, closes-42, closes-not}
 use Rattle.rounds.proofs.close.Statement.{statement}
 use Rattle.rounds.proofs.close.Tie as tie
+
+-- from where the round has settled to the beginning
+abbrev begin : tie.After-untraced → tie.Start
+begin c = c .before .before .before .before .before
+
+-- and from where it is stable
+abbrev settled : tie.After-enum-told → tie.After-untraced
+settled c = c .before .before .before
 
 untraced-requires : tie.Need-untraced-requires
 untraced-requires c κs = search needs
@@ -16,7 +23,7 @@ union-requires : tie.Need-union-requires
 union-requires c κs = search needs
 
 end-requires : tie.Need-end-requires
-end-requires c κs = search needs
+end-requires c κs = let s0 = begin (settled (c .before .before .before .before)) in (s0 .pre .0, s0 .pre .1 .ticking .count)
 
 enum-told-2 : tie.Need-enum-told-2
 enum-told-2 c = search needs
@@ -25,27 +32,30 @@ enum-known-verdict : tie.Need-enum-known-verdict
 enum-known-verdict c = search needs
 
 same-length : tie.Need-same-length
-same-length c = search needs
+same-length c =
+    let e = c .before in
+    let s0 = begin (settled (e .before .before .before .before .before)) in
+    e .end .ensures .ticking _ (s0 .pre .1 .ticking) .count ∙ sym (s0 .pre .1 .ticking .count)
 
 returns : tie.Need-returns
 returns c =
     let e = c .before in
-    let v = e .before .before .before in
-    let d = v .before .before .before in
-    let s0 = d .before .before .before .before .before in
-    closes-stable _ _ _ (s0 .args .s) _ (s0 .pre) _ (d .untraced .ensures) (v .enum-told .given .1) _ (e .before .before .union .ensures) _ _ (e .end .ensures)
+    let u = e .before .before .before .before in
+    let d = settled (u .before) in
+    let s0 = begin d in
+    closes-stable _ (s0 .args .s) _ (s0 .pre .1) _ (d .untraced .ensures) _ _ _ (u .before .enum-told .given .1) _ (u .union .ensures) _ _ _ _ (e .end .ensures)
 
 returns-2 : tie.Need-returns-2
 returns-2 c =
     let d = c .before .before .before in
-    let s0 = d .before .before .before .before .before in
-    closes-42 _ _ _ (s0 .args .s) _ (s0 .pre) _ (d .untraced .ensures) (c .enum-told2 .given .1) _ refl
+    let s0 = begin d in
+    closes-42 _ (s0 .args .s) _ (s0 .pre .1) _ (d .untraced .ensures) _ _ _ (c .enum-told2 .given .1) _ refl (s0 .pre .0)
 
 returns-3 : tie.Need-returns-3
 returns-3 c =
     let d = c .before .before .before .before in
-    let s0 = d .before .before .before .before .before in
-    absurd (closes-not _ (now (s0 .args .text)) (s0 .args .k) (s0 .args .s) _ (s0 .pre) _ (d .untraced .ensures) _ (c .before .verdict .given .1))
+    let s0 = begin d in
+    absurd (closes-not _ (s0 .args .s) _ (s0 .pre .1) _ (d .untraced .ensures) _ (c .before .verdict .given .1))
 
 pub close-spec : {M : Type 1} → statement M
 close-spec =

@@ -1,28 +1,33 @@
 -- `rounds::end` meets its contract.
-use mathlib.Core.Path.{refl}
+use mathlib.Core.Path.{refl, sym, _∙_}
 use borrow.Author.Needs.{needs}
-use Rattle.rounds.proofs.Ending.{ends-41, ends-fed}
+use Rattle.rounds.proofs.Ending.{ends-lacking, ends-fed}
 use Rattle.rounds.proofs.end.Statement.{statement}
 use Rattle.rounds.proofs.end.Tie as tie
 
-lacking-requires : tie.Need-lacking-requires
-lacking-requires c κs = search needs
-
-returns : tie.Need-returns
-returns c = let l = c .before in ends-41 _ (l .before .before .before .before .args .s) _ _ (l .lacking .ensures) (c .if1 .taken) _ refl
+-- from where the clocks are fed to the beginning
+abbrev begin : tie.After-fed → tie.Start
+begin c = c .before .before .before .before .before .before .before
 
 fed-requires : tie.Need-fed-requires
-fed-requires c κs = search needs
+fed-requires c κs = let s0 = c .before .before .before .before .before .before in (s0 .pre .0 .at-count, s0 .pre .0 .used-count, s0 .pre .1)
+
+ran-out-requires : tie.Need-ran-out-requires
+ran-out-requires c κs = search needs
 
 same-length : tie.Need-same-length
-same-length c = search needs
+same-length c = let f = c .before .before .before in f .fed .ensures .count ∙ sym (begin f .pre .1)
+
+returns : tie.Need-returns
+returns c =
+    let f = c .before .before .before in
+    ends-lacking _ (begin f .args .s) _ _ _ _ _ _ _ (f .fed .ensures) (c .before .if1 .taken) _ (c .ran-out .ensures) _ refl
+
+same-length-2 : tie.Need-same-length-2
+same-length-2 c = let f = c .before .before in f .fed .ensures .count ∙ sym (begin f .pre .1)
 
 returns-2 : tie.Need-returns-2
-returns-2 c =
-    let d = c .before in
-    let i = d .before .before in
-    let s0 = i .before .before .before .before .before in
-    ends-fed _ (s0 .args .s) _ _ (i .before .lacking .ensures) (i .if1 .left) (s0 .pre) _ _ (d .fed .ensures .0) (d .fed .ensures .1) _ refl
+returns-2 c = let f = c .before .before in ends-fed _ (begin f .args .s) _ _ _ _ _ _ _ (f .fed .ensures) (c .if1 .left) _ refl
 
 pub end-spec : {M : Type 1} → statement M
-end-spec = tie.close (tie.spec lacking-requires returns fed-requires same-length returns-2)
+end-spec = tie.close (tie.spec fed-requires ran-out-requires same-length returns same-length-2 returns-2)

@@ -11,13 +11,13 @@ use Rattle.samples.proofs.scan.Statement.{statement}
 use Rattle.samples.proofs.scan.Tie as tie
 
 abbrev Inv-loop : tie.InvT-loop
-Inv-loop text d feed₀ p₀ x₀ feed p x = Between text d feed p x
+Inv-loop text d at₀ p₀ x₀ at p x = Between text d at p x
 
 abbrev μ-loop : tie.MeasureT-loop
-μ-loop text d feed₀ p₀ x₀ feed p x = maxClocks - x
+μ-loop text d at₀ p₀ x₀ at p x = maxClocks - x
 
 loop-holds : tie.Need-loop-holds Inv-loop μ-loop
-loop-holds c = between-none _ _ _ refl
+loop-holds c = between-none _ _ _ (search needs)
 
 turn-of-requires : tie.Need-turn-of-requires Inv-loop μ-loop
 turn-of-requires c κs = (search needs, omega (arith, c .before .loop .inv .line))
@@ -25,11 +25,11 @@ turn-of-requires c κs = (search needs, omega (arith, c .before .loop .inv .line
 enum-known-begin : tie.Need-enum-known-begin Inv-loop μ-loop
 enum-known-begin c = search needs
 
-mul-feed : tie.Need-mul-feed Inv-loop μ-loop
-mul-feed c = search needs
+mul-at : tie.Need-mul-at Inv-loop μ-loop
+mul-at c = search needs
 
-element-write-feed : tie.Need-element-write-feed Inv-loop μ-loop
-element-write-feed c = search needs
+element-write-at : tie.Need-element-write-at Inv-loop μ-loop
+element-write-at c = search needs
 
 enum-told : tie.Need-enum-told Inv-loop μ-loop
 enum-told c = search needs
@@ -77,8 +77,8 @@ scan-spec =
     loop-holds
     turn-of-requires
     enum-known-begin
-    mul-feed
-    element-write-feed
+    mul-at
+    element-write-at
     enum-told
     bad-line-requires
     returns

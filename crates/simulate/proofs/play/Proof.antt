@@ -1,7 +1,7 @@
 -- `simulate::play` meets its contract.
 use mathlib.Core.Path.{refl}
 use borrow.Author.Needs.{needs}
-use Rattle.simulation.specs.Simulate.{noValues}
+use Rattle.simulation.specs.Simulate.{noValues, noneTaken}
 use Rattle.simulate.proofs.Called.{put-out, put-none}
 use Rattle.simulate.proofs.play.Statement.{statement}
 use Rattle.simulate.proofs.play.Tie as tie
@@ -11,7 +11,7 @@ slice-aggregate-run c = search needs
 
 run-requires : tie.Need-run-requires
 unfolding noValues
-run-requires c κs = (c .before .before .before .pre .0, refl)
+run-requires c κs = let s0 = c .before .before .before .before .before .before in (s0 .pre .0, record { at-count = s0 .pre .1; used-count = refl }, refl)
 
 enum-told : tie.Need-enum-told
 enum-told c = search needs
@@ -32,14 +32,15 @@ same-length : tie.Need-same-length
 same-length c = search needs
 
 returns : tie.Need-returns
+unfolding noneTaken
 returns c =
     let p = c .before in
     let d = p .before .before .before in
     let e = d .before in
-    let r = e .before .before .before in
-    put-out _ _ _ _ _ _ _ (r .run .ensures) _ (e .enum-told .given .1) _ (d .declared .ensures) _ (p .put .ensures)
+    put-out _ _ _ _ _ _ _ (e .before .before .before .run .ensures) _ (e .enum-told .given .1) _ (d .declared .ensures) _ (p .put .ensures)
 
 returns-2 : tie.Need-returns-2
+unfolding noneTaken
 returns-2 c = put-none _ _ _ _ _ _ _ (c .before .before .before .run .ensures) _ (c .enum-told2 .given .1)
 
 pub play-spec : {M : Type 1} → statement M

@@ -6,16 +6,22 @@ use Rattle.model.specs.Model.{declared}
 use Rattle.layout.specs.Image.{modelOf}
 use Rattle.samples.specs.Text.{Scans}
 use Rattle.simulation.specs.Samples.{samplesOf}
-use Rattle.simulate.proofs.Called.{told-22, told-28, told-40, plays}
+use Rattle.simulate.proofs.Called.{told-22, told-28, fine-count, told-40, plays}
 use Rattle.simulate.proofs.play_text.Statement.{statement}
 use Rattle.simulate.proofs.play_text.Tie as tie
 
+-- from the scan to the tests before it, and to the beginning
+abbrev tested : tie.After-scan → tie.Else2
+tested c = c .before .before .before
+
+abbrev begin : tie.After-scan → tie.Start
+begin c = tested c .before .before .before .before
+
 -- what the scan found, of the clocks that the model declares
-scanned : (c : tie.After-scan) → Scans (samplesOf (declared (modelOf (now (c .before .before .before .before .before .before .args .t)))) (now (c .before .before .before .before .before .before .args .text)))
-    (now (c .before .before .before .before .before .before .args .text)) (c .scan .result)
+scanned : (c : tie.After-scan) → (let x = now (begin c .args .text) in Scans (samplesOf (declared (modelOf (now (begin c .args .t)))) x) x (c .scan .result) (c .scan .last .1 .1 .0))
 scanned c =
-    let x = now (c .before .before .before .before .before .before .args .text) in
-    subst (λ d. Scans (samplesOf d x) x (c .scan .result)) (c .before .declared .ensures) (c .scan .ensures)
+    let x = now (begin c .args .text) in
+    subst (λ d. Scans (samplesOf d x) x (c .scan .result) (c .scan .last .1 .1 .0)) (c .before .before .declared .ensures) (c .scan .ensures)
 
 refused-requires : tie.Need-refused-requires
 refused-requires c κs = search needs
@@ -38,8 +44,15 @@ scan-requires c κs = search needs
 enum-told : tie.Need-enum-told
 enum-told c = search needs
 
+slice-aggregate-play : tie.Need-slice-aggregate-play
+slice-aggregate-play c = search needs
+
 play-requires : tie.Need-play-requires
-play-requires c κs = search needs
+play-requires c κs =
+    let s = c .before .before .before .before .before in
+    let x = now (begin s .args .text) in
+    let o = samplesOf (declared (modelOf (now (begin s .args .t)))) x in
+    (begin s .pre .0, fine-count o x (s .scan .result) (s .scan .last .1 .1 .0) (scanned s) (c .before .before .before .enum-told .given .1), tested s .if2 .left)
 
 enum-known-checked : tie.Need-enum-known-checked
 enum-known-checked c = search needs
@@ -53,19 +66,17 @@ same-length c = search needs
 returns-3 : tie.Need-returns-3
 returns-3 c =
     let p = c .before in
-    let e = p .before .before in
-    let s = e .before .before .before in
-    let i = s .before .before in
-    let s0 = i .before .before .before .before in
-    plays _ _ _ _ (s0 .pre .1) (i .before .if1 .left) (i .if2 .left) (s .scan .result) (scanned s) _ refl (e .enum-told .given .1) _ _ (p .play .ensures)
+    let e = p .before .before .before .before in
+    let s = e .before .before in
+    let i = tested s in
+    plays _ _ _ _ (begin s .pre .1) (i .before .if1 .left) (i .if2 .left) (s .scan .result) (s .scan .last .1 .1 .0) (scanned s) _ _ refl (e .enum-told .given .1) _ _ (p .play .ensures)
 
 returns-4 : tie.Need-returns-4
 returns-4 c =
     let e = c .before .before in
-    let s = e .before .before .before in
-    let i = s .before .before in
-    let s0 = i .before .before .before .before in
-    told-40 _ _ _ _ (s0 .pre .1) (i .before .if1 .left) (i .if2 .left) (s .scan .result) (scanned s) _ (e .checked .given .1) _ (c .refused3 .ensures)
+    let s = e .before .before in
+    let i = tested s in
+    told-40 _ _ _ _ (begin s .pre .1) (i .before .if1 .left) (i .if2 .left) (s .scan .result) (s .scan .last .1 .1 .0) (scanned s) _ (e .checked .given .1) _ (c .refused3 .ensures)
 
 pub play-text-spec : {M : Type 1} → statement M
 play-text-spec =
@@ -78,6 +89,7 @@ play-text-spec =
     declared-requires
     scan-requires
     enum-told
+    slice-aggregate-play
     play-requires
     enum-known-checked
     refused-requires-3

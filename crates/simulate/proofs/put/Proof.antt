@@ -13,7 +13,7 @@ use Rattle.laws.specs.Sets.{has}
 use Rattle.answer.specs.Limits.{maxClocks}
 use Rattle.iosa.specs.TimedExactly.{valueOf}
 use Rattle.simulation.specs.Call.{putAt}
-use Rattle.feed.proofs.InPlace.{Placed, placed-none, placed-more, placed-all}
+use Rattle.simulate.proofs.InPlace.{Placed, placed-none, placed-more, placed-all}
 use Rattle.simulate.proofs.put.Statement.{statement}
 use Rattle.simulate.proofs.put.Tie as tie
 
