@@ -20,8 +20,9 @@ unsigned number_of(const Aim& aim) { return static_cast<unsigned>(std::atoi(aim.
 
 bool within(unsigned number, unsigned low, unsigned high) { return low <= number && number <= high; }
 
+bool simulates(const Call* call) { return call == &calls::simulate || call == &calls::simulate_drawn; }
 // The calls that take models which pass either test, and the new test itself.
-bool settles_either(const Call* call) { return call == &calls::settle_after || call == &calls::settle_list_after || call == &calls::simulate; }
+bool settles_either(const Call* call) { return call == &calls::settle_after || call == &calls::settle_list_after || simulates(call); }
 bool walks(const Call* call) { return call == &calls::settle_after || call == &calls::settle_list_after; }
 
 bool explains(const Call* call) { return call == &calls::explain || call == &calls::explain_table; }
@@ -40,7 +41,7 @@ Model model_for(Random& random, const Aim& aim) {
     return number == 26 || random.chance(20) ? drawing::deaf_at_a_limit(random) : drawing::deaf(random, drawing::model(random));
   if (number == 26) return second::generate(random, second::families[random.below(9)], second::Size::large);
   const bool rarely_42 = number == 42 && aim.outcome == "42" && random.chance(50);
-  if (aim.call == &calls::simulate && !rarely_42) return second::generate_plant(random, size);
+  if (simulates(aim.call) && !rarely_42) return second::generate_plant(random, size);
   // What comes behind 18 in one call comes before it in another, so all of these are confluent.
   static const std::vector<Family> settling = {Family::confluent, Family::endless, Family::sharing};
   static const std::vector<Family> timing = {Family::confluent, Family::sharing};
@@ -130,9 +131,14 @@ Bytes out_for(Random& random, const Aim& aim, const Drawn& drawn, std::uint64_t 
 }
 
 // A simulation of the table that is lent already.
-void lend_simulation(Random& random, unsigned number, const Drawn& drawn, Loan& loan) {
+void lend_simulation(Random& random, const Aim& aim, const Drawn& drawn, Loan& loan) {
+  const unsigned number = number_of(aim);
   loan.number = number == 22 ? drawing::odd_rounds(random) : drawing::rounds(random);
-  loan.bytes = number == 40 ? drawing::odd_samples(random, drawn, loan.number) : drawing::samples(random, drawn, loan.number);
+  if (aim.call == &calls::simulate_drawn) {
+    loan.bytes = number == 49 ? drawing::odd_laws(random, drawn) : drawing::laws(random, drawn);
+    loan.numbers = drawing::numbers(random, loan.number);
+  } else
+    loan.bytes = number == 40 ? drawing::odd_samples(random, drawn, loan.number) : drawing::samples(random, drawn, loan.number);
   loan.clocks = number == 28 ? drawing::odd_values(random) : drawing::values(random);
 }
 
@@ -174,8 +180,8 @@ Loan loan_for(Random& random, const Aim& aim, const Drawn& drawn) {
   }
   const Table table = number == 20 ? second::damaged_table(random, drawn.table) : drawn.table;
   loan.table = drawing::lengthened(random, table);
-  if (aim.call == &calls::simulate) {
-    lend_simulation(random, number, drawn, loan);
+  if (simulates(aim.call)) {
+    lend_simulation(random, aim, drawn, loan);
     return loan;
   }
   if (walks(aim.call)) {

@@ -144,6 +144,16 @@ Pair simulate(const Subject& s, const Bytes& samples, std::uint64_t rounds) {
           },
           [&s, &samples, rounds] { second::simulate(lent(s.table), lent(samples), rounds, {lent_out.clocks.data(), lent_out.clocks.size()}); }};
 }
+Pair simulate_drawn(const Subject& s, const Bytes& laws, const Table& numbers, std::uint64_t rounds) {
+  return {"simulate_drawn",
+          [&s, &laws, &numbers, rounds] {
+            floodneedle_simulate_drawn(words(s), s.table.size(), laws.data(), laws.size(), numbers.data(), numbers.size(), rounds, lent_out.clocks.data(),
+                                       lent_out.clocks.size(), lent_out.after.data(), &lent_out.answer);
+          },
+          [&s, &laws, &numbers, rounds] {
+            second::simulate_drawn(lent(s.table), lent(laws), lent(numbers), rounds, {lent_out.clocks.data(), lent_out.clocks.size()});
+          }};
+}
 Pair merge(const Subject& s) {
   return {"merge", [&] { floodneedle_merge(words(s), s.table.size(), 0, lent_out.into.data(), lent_out.into.size(), &lent_out.answer); },
           [&] { second::merge(lent(s.table), 0, {lent_out.into.data(), lent_out.into.size()}); }};
@@ -298,6 +308,33 @@ void round_lines(const std::vector<Subject>& subjects) {
   std::fflush(stdout);
 }
 
+// The same over draws, by one number and by two; beside it, what the engine's round takes over lists.
+void draw_lines(const std::vector<Subject>& subjects) {
+  std::printf("\nOne round of a simulation over draws\n\n| Model | Distributions | Ratio to the second program | Ratio to a round over lists |%s\n|---|---|---|---|%s\n",
+              with_times ? " Engine, nanoseconds | Rounds a second |" : "", with_times ? "---|---|" : "");
+  for (const Subject& s : subjects) {
+    const Bytes samples = recorded(s, second::max_rounds + 1), one = distributed(s, false), two = distributed(s, true);
+    const Table numbers = random_numbers(second::members * 2 * (second::max_rounds + 1));
+    const Pair lists = simulate(s, samples, second::max_rounds), no_lists = simulate(s, samples, 0);
+    std::vector<Work> works = {lists.engine, no_lists.engine};
+    for (const Bytes* laws : {&one, &two}) {
+      const Pair whole = simulate_drawn(s, *laws, numbers, second::max_rounds), none = simulate_drawn(s, *laws, numbers, 0);
+      whole.engine();
+      if (lent_out.answer.count != second::max_rounds) std::printf("%s does not go on.\n", s.name.c_str());
+      works.insert(works.end(), {whole.engine, none.engine, whole.second, none.second});
+    }
+    const std::vector<double> costs = least(works);
+    for (unsigned i = 0; i < 2; ++i) {
+      const double* cost = costs.data() + 2 + 4 * i;
+      const double engine = cost[0] - cost[1];
+      std::printf("| %s | %s | %.3f | %.2f |", s.name.c_str(), i == 0 ? "`uni`" : "`mix`", engine / (cost[2] - cost[3]), engine / (costs[0] - costs[1]));
+      if (with_times) std::printf(" %.1f | %.0f |", engine / second::max_rounds * 1e9, second::max_rounds / engine);
+      std::printf("\n");
+    }
+  }
+  std::fflush(stdout);
+}
+
 // The text of samples: M with more and more of them and no round, so that the scan is what grows.
 void scan_lines(const std::vector<unsigned>& counts) {
   std::printf("\nThe scan of a text of samples: M, 0 rounds\n\n| Samples | Bytes | Ratio to the second program | Multiple of the line above |%s\n|---|---|---|---|%s\n",
@@ -376,6 +413,7 @@ int main(int count, char** arguments) {
   lines(timing, timed_step);
 
   round_lines({paper_model(), plant(4, 4), plant(8, 4), plant(16, 4), plant(32, 2)});
+  draw_lines({paper_model(), plant(4, 4), plant(16, 4), plant(32, 2)});
   scan_lines({1, 64, 1024, 16384, 131072});
 
   const std::vector<Subject> merging = {paper_model(),     to_merge(8, 8, 0), to_merge(8, 8, 1),  to_merge(8, 8, 2),

@@ -190,6 +190,13 @@ Said engine_simulate(const Lent& l) {
 }
 Said second_simulate(const Lent& l) { return said(second::simulate(l.table, l.bytes, l.number, l.clocks)); }
 
+Said engine_simulate_drawn(const Lent& l) {
+  floodneedle_simulate_drawn(l.table.front, l.table.length, l.bytes.front, l.bytes.length, l.numbers.front, l.numbers.length, l.number,
+                             l.clocks.front, l.clocks.length, l.after->data(), l.answer);
+  return answered_with_state(l);
+}
+Said second_simulate_drawn(const Lent& l) { return said(second::simulate_drawn(l.table, l.bytes, l.numbers, l.number, l.clocks)); }
+
 Said engine_merge(const Lent& l) {
   floodneedle_merge(l.table.front, l.table.length, l.number, l.into.front, l.into.length, l.answer);
   return answered(l);
@@ -279,6 +286,9 @@ const Call timed_step = {"timed_step", engine_timed_step, second_timed_step, num
 const Call simulate = {"simulate", engine_simulate, second_simulate,
                        numbers({{10, 18}, {20, 20}, {22, 22}, {28, 28}, {30, 30}, {40, 42}, {45, 45}}, {"42 later", "done", "quiet"}),
                        simulated_kind};
+const Call simulate_drawn = {"simulate_drawn", engine_simulate_drawn, second_simulate_drawn,
+                             numbers({{10, 18}, {20, 20}, {22, 22}, {28, 28}, {30, 30}, {42, 42}, {45, 45}, {49, 50}}, {"42 later", "done", "quiet"}),
+                             simulated_kind};
 const Call repair = {"repair", engine_repair, second_repair, numbers({{20, 20}, {24, 24}, {26, 26}}, {"done", "nothing"}), repaired_kind};
 const Call merge = {"merge", engine_merge, second_merge, numbers({{10, 17}, {20, 20}, {24, 26}}, {"done"}), answered_kind};
 const Call report = {"report", engine_report, second_report, numbers({{1, 19}, {21, 22}, {24, 24}}, {"stable", "unsettled"}), printed_kind};
@@ -288,9 +298,9 @@ const Call explain = {"explain", engine_explain, second_explain,
 const Call explain_table = {"explain_table", engine_explain_table, second_explain_table,
                             numbers({{10, 17}, {20, 20}, {24, 24}}, {"confluent", "clash", "clash at the start"}), explained_kind};
 
-const Call* const all[25] = {&recognise, &check_text, &read,   &read_tree, &write,       &start,   &component,    &compatible,
+const Call* const all[26] = {&recognise, &check_text, &read,   &read_tree, &write,       &start,   &component,    &compatible,
                              &accept,    &confluent,  &step,   &step_by,   &settle,      &settle_list, &orderly,  &settle_after,
-                             &settle_list_after, &timed_step, &simulate, &merge, &repair, &report,  &advance, &explain,
+                             &settle_list_after, &timed_step, &simulate, &simulate_drawn, &merge, &repair, &report,  &advance, &explain,
                              &explain_table};
 
 }  // namespace calls

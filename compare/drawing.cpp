@@ -402,6 +402,19 @@ Bytes odd_samples(Random& random, const Drawn& drawn, std::uint64_t rounds) {
   return bytes_of(second::damaged_samples(random, second::generate_exact_samples(random, drawn.model, most)));
 }
 
+Bytes laws(Random& random, const Drawn& drawn) { return bytes_of(second::generate_laws(random, drawn.model)); }
+Bytes odd_laws(Random& random, const Drawn& drawn) { return bytes_of(second::generate_odd_laws(random, drawn.model)); }
+
+// A clock draws at most once in a round, by at most two numbers.
+Table numbers(Random& random, std::uint64_t rounds) {
+  Table all = second::generate_numbers(random);
+  const std::uint64_t rows = std::min<std::uint64_t>(rounds, 130) + 1;
+  if (random.chance(40)) return all;
+  const std::size_t count = second::members * 2 * rows - (random.chance(50) ? random.below(second::members * 2) : 0);
+  while (all.size() < count) all.push_back(random.next());
+  return all;
+}
+
 Clocks values(Random& random) {
   if (random.chance(30)) return second::generate_ticks(random);
   Clocks any;

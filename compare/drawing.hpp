@@ -91,6 +91,10 @@ std::uint64_t odd_rounds(Random& random);
 // A text of samples for so many rounds: just as many as are taken, one too few, or some for each clock; the odd one is damaged as a rule.
 Bytes samples(Random& random, const Drawn& drawn, std::uint64_t rounds);
 Bytes odd_samples(Random& random, const Drawn& drawn, std::uint64_t rounds);
+// Distributions of the declared clocks; the odd ones are damaged as a rule. Numbers that draws take, for up to 10 rows of 64, or for so many rounds.
+Bytes laws(Random& random, const Drawn& drawn);
+Bytes odd_laws(Random& random, const Drawn& drawn);
+Table numbers(Random& random, std::uint64_t rounds);
 // 64 values of any content, which no simulation reads; the odd ones may be more or fewer.
 Clocks values(Random& random);
 Clocks odd_values(Random& random);

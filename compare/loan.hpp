@@ -11,11 +11,12 @@ struct Loan {
   Bytes state;                // read; `advance` writes it too
   std::uint64_t missing = 0;  // parts that the state is said to have beyond its bytes
   Bytes path;                 // read: a listed path
-  Bytes bytes;                // read: a text, a list, recorded samples, or the program's input
+  Bytes bytes;                // read: a text, a list, recorded samples, distributions, or the program's input
+  Table numbers;              // read: the numbers that draws take
   std::uint64_t number = 0;   // a budget, a named action, an index, or rounds
   Table into;                 // written: a table
   Bytes out;                  // written: a text, a trace, a report, or a list of added rows
-  Clocks clocks;              // read and written; `simulate` writes them alone
+  Clocks clocks;              // read and written; simulations write them alone
 };
 
 // The same as a call gets it: fronts and lengths, and where its answer goes.
@@ -26,6 +27,7 @@ struct Lent {
   second::BytesToWrite advanced;  // the state again, for `advance`
   second::Bytes path;
   second::Bytes bytes;
+  second::Words numbers;
   std::uint64_t number;
   second::WordsToWrite into;
   second::BytesToWrite out;
@@ -84,7 +86,7 @@ class Framed {
 // A loan kept for one program.
 struct Kept {
   explicit Kept(const Loan& loan)
-      : table(loan.table), state(loan.state), missing(loan.missing), path(loan.path), bytes(loan.bytes), number(loan.number),
+      : table(loan.table), state(loan.state), missing(loan.missing), path(loan.path), bytes(loan.bytes), numbers(loan.numbers), number(loan.number),
         into(loan.into), out(loan.out), clocks(loan.clocks) {}
 
   Lent lent() {
@@ -95,6 +97,7 @@ struct Kept {
             {state.front(), parts},
             {path.front(), path.size()},
             {bytes.front(), bytes.size()},
+            {numbers.front(), numbers.size()},
             number,
             {into.front(), into.size()},
             {out.front(), out.size()},
@@ -104,13 +107,13 @@ struct Kept {
   }
 
   bool holds(const Loan& loan) const {
-    return table.holds(loan.table) && state.holds(loan.state) && path.holds(loan.path) && bytes.holds(loan.bytes) && into.holds(loan.into) &&
+    return table.holds(loan.table) && state.holds(loan.state) && path.holds(loan.path) && bytes.holds(loan.bytes) && numbers.holds(loan.numbers) && into.holds(loan.into) &&
            out.holds(loan.out) && clocks.holds(loan.clocks);
   }
   // Whether all guards hold what they held.
   bool intact() const {
-    return table.intact() && state.intact() && path.intact() && bytes.intact() && into.intact() && out.intact() && clocks.intact() &&
-           answer.intact() && after.intact();
+    return table.intact() && state.intact() && path.intact() && bytes.intact() && numbers.intact() && into.intact() && out.intact() &&
+           clocks.intact() && answer.intact() && after.intact();
   }
 
   Guarded<std::uint64_t> table;
@@ -118,6 +121,7 @@ struct Kept {
   std::uint64_t missing;
   Guarded<std::uint8_t> path;
   Guarded<std::uint8_t> bytes;
+  Guarded<std::uint64_t> numbers;
   std::uint64_t number;
   Guarded<std::uint64_t> into;
   Guarded<std::uint8_t> out;

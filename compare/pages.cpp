@@ -120,6 +120,7 @@ void PagedLoan::hold(const Loan& loan) {
   missing = loan.missing;
   path.hold(loan.path);
   bytes.hold(loan.bytes);
+  numbers.hold(loan.numbers);
   number = loan.number;
   into.hold(loan.into);
   out.hold(loan.out);
@@ -133,6 +134,7 @@ Lent PagedLoan::lent(bool read_only) {
   const auto repaired = table.lent(read_only);
   const auto read = bytes.lent(true);
   const auto listed = path.lent(true);
+  const auto drawn = numbers.lent(true);
   const auto parts = state.lent(true);
   const auto advanced = state.lent(read_only);
   return {{words.front, words.length},
@@ -141,6 +143,7 @@ Lent PagedLoan::lent(bool read_only) {
           {advanced.front, advanced.length + missing},
           {listed.front, listed.length},
           {read.front, read.length},
+          {drawn.front, drawn.length},
           number,
           into.lent(read_only),
           out.lent(read_only),
@@ -150,13 +153,13 @@ Lent PagedLoan::lent(bool read_only) {
 }
 
 bool PagedLoan::holds(const Kept& other) const {
-  return table.holds(other.table) && state.holds(other.state) && path.holds(other.path) && bytes.holds(other.bytes) && into.holds(other.into) &&
-         out.holds(other.out) && clocks.holds(other.clocks) && answer.intact() && after.intact();
+  return table.holds(other.table) && state.holds(other.state) && path.holds(other.path) && bytes.holds(other.bytes) && numbers.holds(other.numbers) &&
+         into.holds(other.into) && out.holds(other.out) && clocks.holds(other.clocks) && answer.intact() && after.intact();
 }
 
 std::string PagedLoan::place_of(const void* address) const {
   const std::pair<const char*, const Pages*> all[] = {{"table", &table}, {"state", &state}, {"path", &path}, {"bytes", &bytes},
-                                                      {"into", &into},   {"out", &out},     {"clocks", &clocks}};
+                                                      {"numbers", &numbers}, {"into", &into}, {"out", &out}, {"clocks", &clocks}};
   std::ptrdiff_t byte = 0;
   for (const auto& [name, pages] : all)
     if (pages->find(address, byte)) return "byte " + std::to_string(byte) + " of the " + std::to_string(pages->bytes()) + " of `" + name + "`";

@@ -54,6 +54,7 @@ class PagedLoan {
   std::uint64_t missing = 0;
   Paged<std::uint8_t> path;
   Paged<std::uint8_t> bytes;
+  Paged<std::uint64_t> numbers;
   std::uint64_t number = 0;
   Paged<std::uint64_t> into;
   Paged<std::uint8_t> out;

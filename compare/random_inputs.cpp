@@ -56,6 +56,17 @@ void try_simulation(Random& random, const Table& table, const Drawn& drawn) {
   try_call(calls::simulate, loan);
 }
 
+// The same over draws: the numbers last or do not, or the file is damaged.
+void try_draws(Random& random, const Table& table, const Drawn& drawn) {
+  Loan loan;
+  loan.table = table;
+  loan.number = random.chance(95) ? drawing::rounds(random) : drawing::odd_rounds(random);
+  loan.bytes = random.chance(80) ? drawing::laws(random, drawn) : drawing::odd_laws(random, drawn);
+  loan.numbers = drawing::numbers(random, loan.number);
+  loan.clocks = random.chance(95) ? drawing::values(random) : drawing::odd_values(random);
+  try_call(calls::simulate_drawn, loan);
+}
+
 // Settling after a path, by rule and by list. A list that comes to an end has taken the steps in some order: the rule must have come to the same.
 void try_walk(Random& random, const Table& table, const Drawn& drawn) {
   Loan loan;
@@ -112,6 +123,7 @@ void try_calls(Random& random, const Table& table, const Drawn& drawn) {
   try_call(calls::timed_step, loan);
 
   try_simulation(random, table, drawn);
+  try_draws(random, table, drawn);
   try_walk(random, table, drawn);
 
   loan.number = second::generate_index(random, drawn.model);
@@ -128,6 +140,7 @@ void try_plant(Random& random) {
   const Drawn drawn(second::generate_plant(random, size));
   const Table table = drawing::lengthened(random, drawn.table);
   for (unsigned turn = 0; turn < 3; ++turn) try_simulation(random, table, drawn);
+  for (unsigned turn = 0; turn < 3; ++turn) try_draws(random, table, drawn);
   Loan loan;
   loan.table = table;
   const unsigned most = random.below(20);
@@ -152,6 +165,7 @@ void try_not_alone(Random& random) {
   for (const Call* call : {&calls::confluent, &calls::orderly, &calls::settle}) try_call(*call, loan);
   for (unsigned turn = 0; turn < 3; ++turn) try_walk(random, table, drawn);
   try_simulation(random, table, drawn);
+  try_draws(random, table, drawn);
   try_explanations(random, table, drawn);
 }
 
@@ -178,6 +192,7 @@ void try_trees(Random& random) {
   const Drawn drawn(*second::model_of_image(lent(loan.table)));
   try_walk(random, loan.table, drawn);
   try_simulation(random, loan.table, drawn);
+  try_draws(random, loan.table, drawn);
 }
 
 // A model that lacks rows of inputs is repaired, then checked, repaired again and written.

@@ -261,6 +261,25 @@ Bytes recorded(const Subject& of, unsigned samples) {
   return Bytes(text.begin(), text.end());
 }
 
+Bytes distributed(const Subject& of, bool mixture) {
+  const std::string range = "\t3ff0000000000000\t426ffffffffffff0";
+  std::string text;
+  for (unsigned x = 0; x < second::members; ++x) {
+    if (!second::has(second::clocks_of(of.model), x)) continue;
+    text += std::to_string(x);
+    text += mixture ? "\tmix\t3fe0000000000000" + range + range : "\tuni" + range;
+    text += '\n';
+  }
+  return Bytes(text.begin(), text.end());
+}
+
+Table random_numbers(std::size_t count) {
+  second::Random random(2);
+  Table numbers(count);
+  for (std::uint64_t& number : numbers) number = random.next();
+  return numbers;
+}
+
 Subject to_merge(unsigned left, unsigned right, unsigned actions) {
   Model model;
   for (unsigned c = 0; c < 2; ++c) {

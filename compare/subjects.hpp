@@ -60,6 +60,11 @@ Bytes path_of(const Subject& of, unsigned steps);
 // A text with so many samples for each clock of the model; no two clocks ever tie.
 Bytes recorded(const Subject& of, unsigned samples);
 
+// A file with a distribution for each clock of the model, ranges that begin at 1 and end near 2^40, so that clocks hardly ever tie: `mix` or `uni`.
+// So many numbers for draws.
+Bytes distributed(const Subject& of, bool mixture);
+Table random_numbers(std::size_t count);
+
 // Two components of so many states, by so many inputs each, which have nothing in common.
 Subject to_merge(unsigned left, unsigned right, unsigned actions);
 

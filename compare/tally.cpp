@@ -27,10 +27,11 @@ struct Held {
 };
 
 // Merging must not matter (compare/alike.cpp), nor the order of urgent steps after a path, and every tree's model is one to settle and to simulate
-// (compare/random_inputs.cpp).
+// (compare/random_inputs.cpp). 10,000 draws that a fused operation would change are stated (compare/stated/draws.cpp).
 std::map<std::string, Held> held = {{"any order after a path ends alike", {}}, {"explained alike, as text and as table", {}}, {"10 to 17 passed again", {}},      {"18 passed again", {}},
                                     {"settle alike, merged or not", {}},       {"settle_list alike, merged or not", {}}, {"23 at the same index", {}},
-                                    {"three merged either way", {}},           {"a tree's model is accepted", {}}, {"a tree's model passes the test", {}}};
+                                    {"three merged either way", {}},           {"a tree's model is accepted", {}}, {"a tree's model passes the test", {}},
+                                    {"10,000 draws that a fused operation would change", {}}};
 std::uint64_t compared = 0;
 
 unsigned long long plain(std::uint64_t number) { return number; }

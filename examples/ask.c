@@ -13,6 +13,10 @@
  *   timed STATE VALUES                         the values of clocks 0, 1, .. joined by commas; the others are 0
  *   simulate ROUNDS SAMPLES                    the samples as their text, with a comma for each tab and a semicolon for each LF, or - for none;
  *                                              told are the rounds done, the state, and the values of the clocks
+ *   draw ROUNDS LAWS NUMBERS                   the same over draws: the distributions as their text, likewise, and the lent numbers joined by
+ *                                              commas, 0 to 2^64 - 1, or - for none
+ *   draw ROUNDS LAWS @SEED                     the same by numbers that are counted: number k of clock x is the (64 k + x)th, from 0, of
+ *                                              SplitMix64 from this seed on
  *   write BYTES | text                         the text into a buffer of so many bytes; the text itself
  *   nothing                                    accept, on a table of zeros
  *   version                                    the version that was linked; no model is read
@@ -30,6 +34,7 @@ static uint8_t text[FLOODNEEDLE_TEXT + 1];
 static uint64_t table[FLOODNEEDLE_TABLE], merged[FLOODNEEDLE_TABLE];
 static int64_t clocks[FLOODNEEDLE_CLOCKS], numbers[most];
 static uint8_t state[most], list[most], path[2 * FLOODNEEDLE_BUDGET + 2], after[FLOODNEEDLE_STATE], trace[FLOODNEEDLE_BUDGET];
+static uint64_t lent[FLOODNEEDLE_CLOCKS * 2 * (FLOODNEEDLE_BUDGET + 1)]; /* a clock draws once in a round, by two numbers at most */
 static struct floodneedle_answer answer;
 
 static int usage(void) {
@@ -167,7 +172,7 @@ static int timed(size_t n, const char *values) {
   return 0;
 }
 
-/* The text of samples, in place of the model's, which has been read. Answers its length. */
+/* The text of samples or distributions, in place of the model's, which has been read. Answers its length. */
 static size_t samples_of(const char *word) {
   size_t n = 0;
   if (strcmp(word, "-") == 0) return 0;
@@ -175,13 +180,38 @@ static size_t samples_of(const char *word) {
   return n;
 }
 
-/* Where it is done each line of the samples begins with a declared clock. */
-static int simulate(uint64_t rounds, const char *word) {
+/* The numbers that draws take, joined by commas, or as many as may be lent, from a seed on. Answers how many. */
+static size_t lent_of(const char *word) {
+  size_t n = 0;
+  if (strcmp(word, "-") == 0) return 0;
+  if (word[0] == '@') {
+    uint64_t seed = strtoull(word + 1, 0, 10);
+    for (; n < sizeof lent / sizeof lent[0]; ++n) {
+      uint64_t z = seed += 0x9e3779b97f4a7c15u;
+      z = (z ^ (z >> 30)) * 0xbf58476d1ce4e5b9u;
+      z = (z ^ (z >> 27)) * 0x94d049bb133111ebu;
+      lent[n] = z ^ (z >> 31);
+    }
+    return n;
+  }
+  for (;;) {
+    char *end = 0;
+    lent[n++] = strtoull(word, &end, 10);
+    if (*end != ',' || n == sizeof lent / sizeof lent[0]) return n;
+    word = end + 1;
+  }
+}
+
+/* Over samples, or over draws by lent numbers. Where it is done each line of the text begins with a declared clock. */
+static int simulate(uint64_t rounds, const char *word, const char *drawn) {
   size_t length, parts;
   floodneedle_start(table, FLOODNEEDLE_TABLE, after, &answer);
   parts = (size_t)answer.count;
   length = samples_of(word);
-  floodneedle_simulate(table, FLOODNEEDLE_TABLE, text, length, rounds, clocks, FLOODNEEDLE_CLOCKS, after, &answer);
+  if (drawn == 0)
+    floodneedle_simulate(table, FLOODNEEDLE_TABLE, text, length, rounds, clocks, FLOODNEEDLE_CLOCKS, after, &answer);
+  else
+    floodneedle_simulate_drawn(table, FLOODNEEDLE_TABLE, text, length, lent, lent_of(drawn), rounds, clocks, FLOODNEEDLE_CLOCKS, after, &answer);
   if (answer.kind == FLOODNEEDLE_REFUSED) return 0;
   printf("done\t%llu", (unsigned long long)answer.count);
   print_state(after, parts);
@@ -215,7 +245,8 @@ static int call(int words, char **word, size_t *n) {
     size_t room = strtoull(word[2], 0, 10);
     return floodneedle_write(table, FLOODNEEDLE_TABLE, text, room < sizeof text ? room : sizeof text, &answer), 0;
   }
-  if (words == 4 && strcmp(verb, "simulate") == 0) return simulate(strtoull(word[2], 0, 10), word[3]);
+  if (words == 4 && strcmp(verb, "simulate") == 0) return simulate(strtoull(word[2], 0, 10), word[3], 0);
+  if (words == 5 && strcmp(verb, "draw") == 0) return simulate(strtoull(word[2], 0, 10), word[3], word[4]);
   if (words < 3) return -1;
   *n = bytes_of(word[2], state);
   if (words == 3 && strcmp(verb, "step") == 0) return floodneedle_step(table, FLOODNEEDLE_TABLE, state, *n, after, &answer), 0;

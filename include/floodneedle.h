@@ -15,14 +15,14 @@
  * In a model that `confluent` accepts, from a state each part of which its component can reach (19), urgent steps that come to an end come
  * to the same one in whatever order they are taken. settle and settle_list ask for both each time. In a model that `orderly` accepts the
  * same holds of every state that the whole system reaches: from the start by steps of which each non-urgent one leaves a stable state.
- * settle_after, settle_list_after and simulate take models that either of the two accepts, and begin at the start. step, step_by, advance
+ * settle_after, settle_list_after, simulate and simulate_drawn take models that either of the two accepts, and begin at the start. step, step_by, advance
  * and timed_step ask for neither: in a model that `confluent` refuses with 18, what a loop over them arrives at can depend on which of
  * several enabled actions is taken first. Whoever loops over them asks `confluent` once, and begins at the start or where settling led to;
  * or asks `orderly` once, and begins at the start or where such a loop or settle_after led to.
  *
  * Stack, in bytes, the deepest seen of each call (`make -C compare stack` measures it, and holds these numbers to it):
  *   recognise 240, check_text 832, read 1376, write 400, start 496, component 1568, compatible 656, accept 1872, confluent 2128, merge 2048,
- *   repair 368, step 2224, advance 2288, step_by 2016, settle 2736, settle_list 2688, timed_step 2048, simulate 8000,
+ *   repair 368, step 2224, advance 2288, step_by 2016, settle 2736, settle_list 2688, timed_step 2048, simulate 6496, simulate_drawn 6512,
  *   orderly 5728, settle_after 6688, settle_list_after 6688, read_tree 5104,
  *   explain_table 1904, report 70384 and explain 69872 (which keep a table of their own).
  *
@@ -109,7 +109,9 @@ enum floodneedle_refusal {
   FLOODNEEDLE_INPUT_OPEN = 45,           /* an action that is heard and nobody's output; the lowest such action */
   FLOODNEEDLE_PATH_NOT_POSSIBLE = 46,    /* a step of the path is not possible where it is taken; its index, from 0 */
   FLOODNEEDLE_TREE_ILL_FORMED = 47,      /* a condition of well-formed trees is broken; its number, 1 to 6 */
-  FLOODNEEDLE_TREE_TOO_LARGE = 48        /* the model of the tree would exceed a limit */
+  FLOODNEEDLE_TREE_TOO_LARGE = 48,       /* the model of the tree would exceed a limit */
+  FLOODNEEDLE_LAWS_MISSHAPEN = 49,       /* simulation over draws: a line of the distributions is bad, or one lacks; line */
+  FLOODNEEDLE_NUMBERS_RAN_OUT = 50       /* simulation over draws: a clock that is due a draw has too few numbers left */
 };
 
 struct floodneedle_answer {
@@ -118,7 +120,7 @@ struct floodneedle_answer {
   uint64_t places;   /* how many values the refusal's place has, 1 to 4; 0 where nothing is refused */
   uint64_t place[4];
   uint64_t count;    /* bytes written (write, report, explain, explain_table), rows added (repair), steps taken (all that settle), components (start),
-                      * later rounds done (simulate); else 0 */
+                      * later rounds done (simulate, simulate_drawn); else 0 */
   uint64_t action;   /* where moved or fired, else 0 */
   uint64_t resets;   /* a set of clocks: where moved or fired, of a settling, and those set at the start (start); else 0 */
   uint64_t ticks;    /* where fired, else 0 */
@@ -290,6 +292,23 @@ void floodneedle_timed_step(const uint64_t *table, size_t table_words, const uin
  * sample and has none left). */
 void floodneedle_simulate(const uint64_t *table, size_t table_words, const uint8_t *samples, size_t sample_bytes, uint64_t rounds,
                           int64_t *clocks, size_t clock_values, uint8_t after[FLOODNEEDLE_STATE], struct floodneedle_answer *answer);
+
+/* A simulation over draws from distributions: as simulate, but each clock that is due a sample draws one. `laws` is a text with a line for each
+ * declared clock, ascending: the clock's number, `uni` and the lower and upper end of a range, or `mix`, a weight and the ends of two ranges,
+ * all behind tabs, and LF. A weight or an end is the 16 lower-case hexadecimal digits of the bits of a binary64, the highest first: 1.0 is
+ * 3ff0000000000000. Ends are 1 to 2^40, the lower one not above the upper one, weights 0 to 1; -0.0 is 0, and a NaN is nowhere within.
+ * Number k of clock x, from 0, is numbers[64 * k + x], where there is one: each clock has numbers of its own, and those of others do not matter.
+ * A draw takes the clock's next number n, or for `mix` two, always: by the first the first range is picked where u < weight, else the second,
+ * and the other one is for the range. u is the top 53 bits of n over 2^53. The value is lower + u * (upper - lower), as three operations of
+ * binary64, each rounded to nearest, ties to even, none fused, and held between the ends; the ticks are the largest whole number not above it.
+ * The floating-point mode is meant to be the usual one: rounding to nearest, and subnormals neither flushed to zero nor taken for zero. The
+ * promise is for that mode; a caller who has set another one sets it back before the call.
+ * Done, and what is written, as simulate.
+ * Refuses: as simulate, but 49 (the first bad line, from 1; one past the last where all are good and too few) for 40, and 50 (the lowest clock
+ * that is due a draw and has fewer numbers left than it takes) for 41. */
+void floodneedle_simulate_drawn(const uint64_t *table, size_t table_words, const uint8_t *laws, size_t law_bytes,
+                                const uint64_t *numbers, size_t number_count, uint64_t rounds, int64_t *clocks, size_t clock_values,
+                                uint8_t after[FLOODNEEDLE_STATE], struct floodneedle_answer *answer);
 
 /* Writes what the program `settle` prints for these bytes of standard input to the buffer's front; `count` is its length. What the program
  * refuses is a line that it prints, and no refusal here.

@@ -28,6 +28,7 @@ void try_stated() {
   stated_trees();
   stated_clocks();
   stated_simulations();
+  stated_draws();
   stated_merges();
   stated_repairs();
   stated_requests();
@@ -135,7 +136,7 @@ void expect_checks(const std::string& why, const Table& table, const Said& accep
       expect(why, *call, loan, accepted);
   if (confluent.answer.kind == FLOODNEEDLE_REFUSED)
     for (const Call* call : {&calls::settle, &calls::settle_list}) expect(why, *call, loan, confluent);
-  for (const Call* call : {&calls::orderly, &calls::settle_after, &calls::settle_list_after, &calls::simulate}) {
+  for (const Call* call : {&calls::orderly, &calls::settle_after, &calls::settle_list_after, &calls::simulate, &calls::simulate_drawn}) {
     if (accepted.answer.kind == FLOODNEEDLE_REFUSED) expect(why, *call, loan, accepted);
     else compare(Input::stated, *call, loan, why);
   }

@@ -20,6 +20,7 @@ void stated_orderly();
 void stated_trees();
 void stated_clocks();
 void stated_simulations();
+void stated_draws();
 void stated_merges();
 void stated_repairs();
 void stated_requests();

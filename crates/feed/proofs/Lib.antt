@@ -1,3 +1,4 @@
 pub mod Takes
+pub mod Draws
 pub mod Feeding
 pub mod Supplied

@@ -58,8 +58,8 @@ module _ (t ns : List ℕ) (x at used : ℕ) where
   small-listed (Takes n a u) e = field-is (drop at t) n (drop a t) e .most
   small-listed (Lacks n a u) e = tt
 
-  pub takes-listed : (from : Source) (r : Taking) → ListTakes t at r → TakeCall (lent from t ns) x at used r
-  takes-listed Lists r e = record { small = small-listed r e; gives = gives-listed r e }
+  pub takes-listed : (from : Source) → from ≡ Lists → (r : Taking) → ListTakes t at r → TakeCall (lent from t ns) x at used r
+  takes-listed from q r e = subst (λ s. TakeCall (lent s t ns) x at used r) (sym q) (record { small = small-listed r e; gives = gives-listed r e })
 
 -- a sample taken fits a clock's value
 pub takes-small : (r : Taking) → Small r → (n a u : ℕ) → r ≡ Takes n a u → n < 2 ^ 63

@@ -2,15 +2,18 @@
 use mathlib.Core.Path.{_≡_}
 use mathlib.Core.Option.{Option, none, some}
 use mathlib.Core.List.{List}
-use Prim.Native.Nat.{ℕ, suc, _+_, _≤_, _<_}
+use Prim.Native.Nat.{ℕ, suc, _+_, _*_, _≤_, _<_}
 use lib.ListN.{length, getD, drop}
 use Rattle.answer.specs.Limits.{maxClocks, maxTicks}
 use Rattle.model.specs.Reading.{stops, got, field}
 use Rattle.simulation.specs.Simulate.{Supply, takenBy}
 use Rattle.simulation.specs.Samples.{sampleAt, nth}
 use Rattle.samples.specs.Lines.{Left}
+use Rattle.drawing.specs.Draws.{lent as numbersOf, drawOf}
+use Rattle.distributions.specs.Found.{lawIn}
+use Rattle.sampling.specs.Sampling.{fromLaw, takesOf, DrawIs}
 use Rattle.feed.specs.declared.Source.{Source}
-use Rattle.feed.specs.declared.Source.the-variants.{Lists}
+use Rattle.feed.specs.declared.Source.the-variants.{Lists, Draws}
 use Rattle.feed.specs.declared.Taking.{Taking}
 use Rattle.feed.specs.declared.Taking.the-variants.{Takes, Lacks}
 
@@ -23,9 +26,10 @@ pub record Lent : Type 0 where
 abbrev pub lent : Source → List ℕ → List ℕ → Lent
 lent s t n = record { source = s; text = t; numbers = n }
 
--- 41 "a list ran out"
+-- 41 "a list ran out", 50 "lent numbers used up"
 abbrev pub ranOutOf : Source → ℕ
 ranOutOf Lists = 41
+ranOutOf Draws = 50
 
 -- ---- from these places on, the samples of clock x are g k, g (k + 1), ..
 pub record InList (t : List ℕ) (at : ℕ) (g : ℕ → Option ℕ) (k : ℕ) : Type 0 where
@@ -33,8 +37,14 @@ pub record InList (t : List ℕ) (at : ℕ) (g : ℕ → Option ℕ) (k : ℕ) :
   pub left : Left (drop at t) samples
   pub each : (j : ℕ) → g (k + j) ≡ nth samples j
 
+-- the distribution stands at the place, and each draw before took its numbers
+pub record InFile (t ns : List ℕ) (x at used : ℕ) (g : ℕ → Option ℕ) (k : ℕ) : Type 0 where
+  pub taken : used ≡ takesOf (lawIn t at) * k
+  pub each : (j : ℕ) → g j ≡ drawOf (lawIn t at) (numbersOf ns x) j
+
 abbrev standsBy : Source → List ℕ → List ℕ → ℕ → ℕ → ℕ → (ℕ → Option ℕ) → ℕ → Type 0
 standsBy Lists t n x at used g k = InList t at g k
+standsBy Draws t n x at used g k = InFile t n x at used g k
 
 abbrev pub Stands : Lent → ℕ → ℕ → ℕ → (ℕ → Option ℕ) → ℕ → Type 0
 Stands l x at used g k = standsBy (l .source) (l .text) (l .numbers) x at used g k
@@ -50,6 +60,11 @@ pub record Supplies (l : Lent) (p : Supply) (ts at used : List ℕ) : Type 0 whe
 abbrev pub ListTakes : List ℕ → ℕ → Taking → Type 0
 ListTakes t at (Takes n a u) = field sampleAt (drop at t) ≡ got n (drop a t)
 ListTakes t at (Lacks n a u) = field sampleAt (drop at t) ≡ stops (drop a t)
+
+-- of `drawn`
+abbrev pub DrawTakes : List ℕ → List ℕ → ℕ → ℕ → ℕ → Taking → Type 0
+DrawTakes t ns x at used (Takes n a u) = (a ≡ at) × DrawIs (lawIn t at) (numbersOf ns x) used n u
+DrawTakes t ns x at used (Lacks n a u) = fromLaw (lawIn t at) (numbersOf ns x) used ≡ none
 
 -- clock x, whose samples are g k, g (k + 1), .., takes the first of them
 pub record TakesNext (l : Lent) (x : ℕ) (g : ℕ → Option ℕ) (k n a u : ℕ) : Type 0 where

@@ -2,16 +2,18 @@
 use answer::Model;
 use fields::Cursor;
 use fields::NumberScan;
+use sampling::Draw;
 ghost use mathlib.Core.Path.{_≡_};
 ghost use Prim.Native.Nat.{ℕ, _<_};
 ghost use lib.ListN.{length};
 ghost use Rattle.answer.specs.Limits.{maxClocks};
-ghost use Rattle.feed.specs.Supply.{lent, ListTakes, TakeCall, ranOutOf};
+ghost use Rattle.feed.specs.Supply.{lent, ListTakes, DrawTakes, TakeCall, ranOutOf};
 ghost use Rattle.feed.specs.Feeding.{FedCall};
 
-// Where samples come from: the lists of a text.
+// Where samples come from: the lists of a text, or draws from the distributions of a file by lent numbers.
 pub enum Source {
     Lists,
+    Draws,
 }
 
 // What a clock takes, where its next sample stands then, and how many numbers it has used; or it has none left.
@@ -26,6 +28,7 @@ pub fn ran_out(from: Source) -> u8
 {
     match from {
         Source::Lists => 41,
+        Source::Draws => 50,
     }
 }
 
@@ -39,6 +42,17 @@ fn listed(text: &[u8], at: usize, used: usize) -> Taking
     }
 }
 
+// The next draw of clock x: its distribution stays where it is.
+fn drawn(text: &[u8], numbers: &[u64], x: u64, at: usize, used: usize) -> Taking
+    requires { ⌜ x < maxClocks ⌝ }
+    ensures { λ r. ⌜ DrawTakes (now (text .entry)) (now (numbers .entry)) x at used r ⌝ }
+{
+    match sampling::draw_at(text, numbers, x, at, used) {
+        Draw::Ticks(n, u) => Taking::Takes(n, at, u),
+        Draw::Lacks => Taking::Lacks(0, at, used),
+    }
+}
+
 // The next sample of clock x.
 fn take(from: Source, text: &[u8], numbers: &[u64], x: u64, at: usize, used: usize) -> Taking
     requires { ⌜ x < maxClocks ⌝ }
@@ -46,6 +60,7 @@ fn take(from: Source, text: &[u8], numbers: &[u64], x: u64, at: usize, used: usi
 {
     match from {
         Source::Lists => listed(text, at, used),
+        Source::Draws => drawn(text, numbers, x, at, used),
     }
 }
 

@@ -25,6 +25,7 @@ use Rattle.outset.specs.Start.{startOn}
 use Rattle.floodneedle.specs.Told.{componentOn, compatibleOn, acceptOn, confluentOn, orderlyOn, timedOn, TimingTold, StartTold, StepTold, AdvanceTold, SettlingTold, AfterTold, SimulationTold}
 use Rattle.after.specs.Calls.{settleAfterOn, settleListAfterOn}
 use Rattle.simulate.specs.Simulate.{simulateOn}
+use Rattle.simulate_drawn.specs.SimulateDrawn.{simulateDrawnOn}
 
 -- one value for two that are it
 one : {A : Type 0} {x y z : A} → x ≡ z → y ≡ z → x ≡ y
@@ -140,3 +141,8 @@ module _ (t : List ℕ) (p q b d : List ℕ) where
     pub floodneedle_simulate-determined : (n : ℕ) (was u v : List ℤ) → SimulationTold (simulateOn t s n was) was u b p → SimulationTold (simulateOn t s n was) was v d q
         → (b ≡ d) × (p ≡ q) × (u ≡ v)
     floodneedle_simulate-determined n was u v g h = (one (g .state) (h .state), one (g .words) (h .words), one (g .values) (h .values))
+
+    -- s is the file of distributions, ns the lent numbers
+    pub floodneedle_simulate_drawn-determined : (ns : List ℕ) (n : ℕ) (was u v : List ℤ) → SimulationTold (simulateDrawnOn t s ns n was) was u b p
+        → SimulationTold (simulateDrawnOn t s ns n was) was v d q → (b ≡ d) × (p ≡ q) × (u ≡ v)
+    floodneedle_simulate_drawn-determined ns n was u v g h = (one (g .state) (h .state), one (g .words) (h .words), one (g .values) (h .values))

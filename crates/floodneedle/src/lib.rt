@@ -25,6 +25,7 @@ ghost use Rattle.words.specs.Bytes.{stateOf};
 ghost use Rattle.floodneedle.specs.Told.{componentOn, compatibleOn, acceptOn, confluentOn, orderlyOn, timedOn, StartTold, TimingTold, StepTold, AdvanceTold, SettlingTold, AfterTold, SimulationTold};
 ghost use Rattle.after.specs.Calls.{settleAfterOn, settleListAfterOn};
 ghost use Rattle.simulate.specs.Simulate.{simulateOn};
+ghost use Rattle.simulate_drawn.specs.SimulateDrawn.{simulateDrawnOn};
 ghost use Rattle.run.specs.Calls.{stepOn, stepByOn, settleOn, settleListOn, traceAfter};
 
 // The version as one number.
@@ -226,6 +227,31 @@ pub extern "C" fn floodneedle_simulate(
         (now (answer .exit)) ⌝ }
 {
     let r = simulate::simulate(table, samples, rounds, clocks);
+    let last = r.state;
+    let ended = r.ended;
+    let parts = last.parts;
+    *after = parts;
+    *answer = ended_words(ended);
+}
+
+// The same over draws from distributions, by lent numbers.
+#[no_mangle]
+pub extern "C" fn floodneedle_simulate_drawn(
+    table: &[u64],
+    laws: &[u8],
+    numbers: &[u64],
+    rounds: usize,
+    clocks: &mut [i64],
+    after: &mut [u8; State::PARTS],
+    answer: &mut [u64; Words::COUNT],
+)
+    ensures { λ _. ⌜ SimulationTold (simulateDrawnOn (now (table .entry)) (now (laws .entry)) (now (numbers .entry)) rounds (now (clocks .entry)))
+        (now (clocks .entry))
+        (now (clocks .exit))
+        (now (after .exit))
+        (now (answer .exit)) ⌝ }
+{
+    let r = simulate_drawn::simulate_drawn(table, laws, numbers, rounds, clocks);
     let last = r.state;
     let ended = r.ended;
     let parts = last.parts;

@@ -27,15 +27,11 @@ use Rattle.table.proofs.CheckedLaws.{refused-tells, call-refuses}
 use Rattle.table.proofs.ImageExactly.{image-exactly}
 use Rattle.orderly.specs.Calls.{MayWalk}
 use Rattle.orderly.proofs.Exactly.{walk-fine}
-use Rattle.samples.specs.Text.{Scans}
-use Rattle.feed.specs.declared.Source.the-variants.{Lists}
-use Rattle.feed.specs.Supply.{Lent, lent}
-use Rattle.feed.proofs.Supplied.{supplied-first}
+use Rattle.feed.specs.Supply.{Lent, Supplies}
 use Rattle.rounds.specs.Rounds.{Runnable, Runs, RunCall}
 use Rattle.simulation.specs.Simulate.{Supply, Simulation, eachFrom, andThen, noneTaken, simulateOf}
-use Rattle.simulation.specs.Samples.{samplesOf, recorded}
-use Rattle.simulation.specs.Call.{Simulating, putAt, putOut, lentFault, simulateWith, supplied, simulateText, SimulationAnswers}
-use Rattle.simulate.specs.Simulate.{refusedWith, PlayCall, SimulateCall}
+use Rattle.simulation.specs.Call.{Simulating, putAt, putOut, lentFault, simulateWith, SimulationAnswers}
+use Rattle.simulate.specs.Simulate.{refusedWith, PlayCall}
 
 -- a refusal is told, and writes nothing
 refuses : (a : Answer Simulating) (f : Told) → a ≡ refused f → (q : Refusal) → told q ≡ some f → (was : List ℤ) (r : Simulated) → r ≡ refusedWith q → SimulationAnswers a was r was
@@ -51,109 +47,103 @@ refuses a f e q h was r i = subst (λ b. SimulationAnswers b was r was) (sym e) 
 abbrev behind : Option Told → Option Told → Option Told → Answer Simulating → Answer Simulating
 behind a b d x = elim (orElse a (orElse b d)) as (λ _. Answer Simulating) [ some t ↦ refused t | none ↦ x ]
 
--- what `may_walk` refuses the call refuses alike
-follows : (m : Model) (text : List ℕ) (n : ℕ) (was : List ℤ) (f : Told) → entryOf m ≡ some f → simulateText m text n was ≡ refused f
-unfolding simulateText simulateWith
-follows m text n was f e =
-    ap (λ o. behind o (budgetFault n) (lentFault was) (andThen (supplied m text) (λ q. andThen (simulateOf m q n) (λ d. answered (putOut m was d))))) e
+-- the rounds over whatever is supplied
+abbrev played : Model → ℕ → List ℤ → Answer Supply → Answer Simulating
+played m n was p = andThen p (λ q. andThen (simulateOf m q n) (λ d. answered (putOut m was d)))
 
-module _ (t text : List ℕ) (n : ℕ) (was : List ℤ) (c : Checked) (check : MayWalk t c) where
-  pub refused-before : (q : Refusal) → c ≡ OfChecked.Refused q → (r : Simulated) → r ≡ refusedWith q → SimulateCall t text n was r was
+-- what `may_walk` refuses the call refuses alike
+follows : (m : Model) (p : Answer Supply) (n : ℕ) (was : List ℤ) (f : Told) → entryOf m ≡ some f → simulateWith m p n was ≡ refused f
+unfolding simulateWith
+follows m p n was f e = ap (λ o. behind o (budgetFault n) (lentFault was) (played m n was p)) e
+
+pub runnable : (t : List ℕ) (c : Checked) → MayWalk t c → c ≡ OfChecked.Fine → Runnable t × (entryOf (modelOf t) ≡ none)
+runnable t c check e =
+    let p = walk-fine t (ap saysChecked (sym e) ∙ check) in
+    (record { image = p .image; conforming = p .settles .conforms; joinable = p .settles .joins }, p .entry)
+
+-- a simulation over whatever is supplied for a model: lists or draws
+module _ (t : List ℕ) (s : Model → Answer Supply) (n : ℕ) (was : List ℤ) (c : Checked) (check : MayWalk t c) where
+  abbrev over : Model → Answer Simulating
+  over m = simulateWith m (s m) n was
+
+  pub refused-before : (q : Refusal) → c ≡ OfChecked.Refused q → (r : Simulated) → r ≡ refusedWith q → SimulationAnswers (onTable t over) was r was
   refused-before q e r i =
       let p = refused-tells t entryOf q (ap saysChecked (sym e) ∙ check) in
-      refuses (onTable t (λ m. simulateText m text n was)) (p .0)
-      (call-refuses t entryOf (λ m. simulateText m text n was) (λ m f k. follows m text n was f k) (p .0) (p .2)) q (p .1) was r i
+      refuses (onTable t over) (p .0) (call-refuses t entryOf over (λ m f k. follows m (s m) n was f k) (p .0) (p .2)) q (p .1) was r i
 
-  pub runnable : c ≡ OfChecked.Fine → Runnable t × (entryOf (modelOf t) ≡ none)
-  runnable e =
-      let p = walk-fine t (ap saysChecked (sym e) ∙ check) in
-      (record { image = p .image; conforming = p .settles .conforms; joinable = p .settles .joins }, p .entry)
+  pub goes-on : c ≡ OfChecked.Fine → (r : Simulated) (vs : List ℤ) → SimulationAnswers (over (modelOf t)) was r vs → SimulationAnswers (onTable t over) was r vs
+  goes-on e r vs a = rw (on-image t over (image-exactly t .1 (runnable t c check e .0 .image))) a
 
-  pub goes-on : c ≡ OfChecked.Fine → (r : Simulated) (vs : List ℤ) → SimulationAnswers (simulateText (modelOf t) text n was) was r vs → SimulateCall t text n was r vs
-  goes-on e r vs a = rw (on-image t (λ m. simulateText m text n was) (image-exactly t .1 (runnable e .0 .image))) a
-
--- a good text has a place for each clock
-pub fine-count : (o : Answer (List (List ℕ))) (text : List ℕ) (s : Checked) (at : List ℕ) → Scans o text s at → s ≡ OfChecked.Fine → length at ≡ maxClocks
-unfolding saysChecked
-fine-count (refused f) text s at y c =
-    let q : some (answered tt) ≡ some (refused f) = ap saysChecked (sym c) ∙ y in let z : _≡_ {A = ℕ} 0 1 = cc in absurd (omega arith)
-fine-count (answered ls) text s at y c = y .1 .count
-
--- ---- 22, 28 and 40
+-- ---- 22, 28, and what is refused as there is no supply
 budget-fine : (n : ℕ) → n ≤ maxBudget → budgetFault n ≡ none
 unfolding budgetFault
 budget-fine n h = ap (λ b. when b (tell 22 (0 ∷ []))) (le-ltb maxBudget n h)
 
-module _ (m : Model) (text : List ℕ) (n : ℕ) (was : List ℤ) (e : entryOf m ≡ none) where
-  abbrev played : Answer Supply → Answer Simulating
-  played p = andThen p (λ q. andThen (simulateOf m q n) (λ d. answered (putOut m was d)))
-
-  by-faults : (a b : Option Told) → budgetFault n ≡ a → lentFault was ≡ b → simulateText m text n was ≡ behind none a b (played (supplied m text))
-  unfolding simulateText simulateWith
+module _ (m : Model) (p : Answer Supply) (n : ℕ) (was : List ℤ) (e : entryOf m ≡ none) where
+  by-faults : (a b : Option Told) → budgetFault n ≡ a → lentFault was ≡ b → simulateWith m p n was ≡ behind none a b (played m n was p)
+  unfolding simulateWith
   by-faults a b ea eb =
-      ap (λ o. behind o (budgetFault n) (lentFault was) (played (supplied m text))) e
-      ∙ ap₂ (λ o k. behind none o k (played (supplied m text))) ea eb
+      ap (λ o. behind o (budgetFault n) (lentFault was) (played m n was p)) e
+      ∙ ap₂ (λ o k. behind none o k (played m n was p)) ea eb
 
-  is-22 : maxBudget < n → simulateText m text n was ≡ refused (tell 22 (0 ∷ []))
+  is-22 : maxBudget < n → simulateWith m p n was ≡ refused (tell 22 (0 ∷ []))
   unfolding budgetFault
   is-22 h = by-faults (some (tell 22 (0 ∷ []))) (lentFault was) (ap (λ b. when b (tell 22 (0 ∷ []))) (lt-ltb maxBudget n h)) refl
 
-  module _ (h : n ≤ maxBudget) where
-    is-28 : (length was ≡ maxClocks → ⊥) → simulateText m text n was ≡ refused (tell 28 (0 ∷ []))
-    unfolding lentFault
-    is-28 k = by-faults none (some (tell 28 (0 ∷ []))) (budget-fine n h) (ap (λ b. when (not b) (tell 28 (0 ∷ []))) (ne-eqb (length was) maxClocks k))
+  is-28 : n ≤ maxBudget → (length was ≡ maxClocks → ⊥) → simulateWith m p n was ≡ refused (tell 28 (0 ∷ []))
+  unfolding lentFault
+  is-28 h k = by-faults none (some (tell 28 (0 ∷ []))) (budget-fine n h) (ap (λ b. when (not b) (tell 28 (0 ∷ []))) (ne-eqb (length was) maxClocks k))
 
-    module _ (k : length was ≡ maxClocks) where
-      no-fault : simulateText m text n was ≡ played (supplied m text)
-      unfolding lentFault
-      no-fault = by-faults none none (budget-fine n h) (ap (λ b. when (not b) (tell 28 (0 ∷ []))) (eq-eqb (length was) maxClocks k))
-
-      is-40 : (f : Told) → samplesOf (declared m) text ≡ refused f → simulateText m text n was ≡ refused f
-      unfolding supplied
-      is-40 f s = no-fault ∙ ap (λ o. played (andThen o (λ ls. answered (recorded ls)))) s
-
-      is-simulated : (ls : List (List ℕ)) → samplesOf (declared m) text ≡ answered ls
-          → simulateText m text n was ≡ andThen (simulateOf m (recorded ls) n) (λ d. answered (putOut m was d))
-      unfolding supplied
-      is-simulated ls s = no-fault ∙ ap (λ o. played (andThen o (λ ls. answered (recorded ls)))) s
-
-  pub told-22 : maxBudget < n → (r : Simulated) → r ≡ refusedWith (record { number = 22; place = OfPlace.Whole }) → SimulationAnswers (simulateText m text n was) was r was
+  pub told-22 : maxBudget < n → (r : Simulated) → r ≡ refusedWith (record { number = 22; place = OfPlace.Whole }) → SimulationAnswers (simulateWith m p n was) was r was
   unfolding told
-  told-22 h r i = refuses (simulateText m text n was) (tell 22 (0 ∷ [])) (is-22 h) (record { number = 22; place = OfPlace.Whole }) refl was r i
+  told-22 h r i = refuses (simulateWith m p n was) (tell 22 (0 ∷ [])) (is-22 h) (record { number = 22; place = OfPlace.Whole }) refl was r i
 
   pub told-28 : n ≤ maxBudget → (length was ≡ maxClocks → ⊥) → (r : Simulated) → r ≡ refusedWith (record { number = 28; place = OfPlace.Whole })
-      → SimulationAnswers (simulateText m text n was) was r was
+      → SimulationAnswers (simulateWith m p n was) was r was
   unfolding told
-  told-28 h k r i = refuses (simulateText m text n was) (tell 28 (0 ∷ [])) (is-28 h k) (record { number = 28; place = OfPlace.Whole }) refl was r i
+  told-28 h k r i = refuses (simulateWith m p n was) (tell 28 (0 ∷ [])) (is-28 h k) (record { number = 28; place = OfPlace.Whole }) refl was r i
 
-  module _ (h : n ≤ maxBudget) (k : length was ≡ maxClocks) (s : Checked) (at : List ℕ) (scan : Scans (samplesOf (declared m) text) text s at) where
-    pub told-40 : (q : Refusal) → s ≡ OfChecked.Refused q → (r : Simulated) → r ≡ refusedWith q → SimulationAnswers (simulateText m text n was) was r was
-    unfolding saysChecked
-    told-40 q c r i = go (samplesOf (declared m) text) refl scan
-      where
-        so : (f : Told) (o : Option Told) → told q ≡ o → _≡_ {A = Option (Answer (Unit {0}))} (asRefused o) (some (refused f)) → told q ≡ some f
-        so f none w y = let z : _≡_ {A = ℕ} 0 1 = cc in absurd (omega arith)
-        so f (some g) w y = let z : g ≡ f = cc in w ∙ ap some z
+  module _ (h : n ≤ maxBudget) (k : length was ≡ maxClocks) where
+    no-fault : simulateWith m p n was ≡ played m n was p
+    unfolding lentFault
+    no-fault = by-faults none none (budget-fine n h) (ap (λ b. when (not b) (tell 28 (0 ∷ []))) (eq-eqb (length was) maxClocks k))
 
-        not-so : (o : Option Told) → _≡_ {A = Option (Answer (Unit {0}))} (asRefused o) (some (answered tt)) → ⊥
-        not-so none y = let z : _≡_ {A = ℕ} 0 1 = cc in omega arith
-        not-so (some g) y = let z : _≡_ {A = ℕ} 0 1 = cc in omega arith
+    pub told-unsupplied : (f : Told) → p ≡ refused f → (q : Refusal) → told q ≡ some f → (r : Simulated) → r ≡ refusedWith q
+        → SimulationAnswers (simulateWith m p n was) was r was
+    told-unsupplied f s q j r i = refuses (simulateWith m p n was) f (no-fault ∙ ap (played m n was) s) q j was r i
 
-        go : (o : Answer (List (List ℕ))) → samplesOf (declared m) text ≡ o → Scans o text s at → SimulationAnswers (simulateText m text n was) was r was
-        go (refused f) w y = refuses (simulateText m text n was) f (is-40 h k f w) q (so f (told q) refl (ap saysChecked (sym c) ∙ y)) was r i
-        go (answered ls) w y = absurd (not-so (told q) (ap saysChecked (sym c) ∙ y .0))
+    -- the rounds, where there is a supply that the places stand for
+    pub plays : (t : List ℕ) (l : Lent) (at : List ℕ) → modelOf t ≡ m → (q : Supply) → p ≡ answered q → Supplies l q noneTaken at noneTaken
+        → (r : Simulated) (vs : List ℤ) → PlayCall t l n at was r vs → SimulationAnswers (simulateWith m p n was) was r vs
+    plays t l at em q s b r vs c =
+        subst (λ a. SimulationAnswers a was r vs)
+        (ap (λ j. played j n was (answered q)) em ∙ sym (no-fault ∙ ap (played m n was) s))
+        (c .plays q b)
 
-    pub plays : (t ns : List ℕ) → modelOf t ≡ m → s ≡ OfChecked.Fine → (r : Simulated) (vs : List ℤ) → PlayCall t (lent Lists text ns) n at was r vs
-        → SimulationAnswers (simulateText m text n was) was r vs
-    unfolding saysChecked
-    plays t ns em c r vs p = go (samplesOf (declared m) text) refl scan
-      where
-        go : (o : Answer (List (List ℕ))) → samplesOf (declared m) text ≡ o → Scans o text s at → SimulationAnswers (simulateText m text n was) was r vs
-        go (refused f) w y = let q : some (answered tt) ≡ some (refused f) = ap saysChecked (sym c) ∙ y in let z : _≡_ {A = ℕ} 0 1 = cc in absurd (omega arith)
-        go (answered ls) w y =
-            subst (λ a. SimulationAnswers a was r vs)
-            (ap (λ j. andThen (simulateOf j (recorded ls) n) (λ d. answered (putOut j was d))) em ∙ sym (is-simulated h k ls w))
-            (p .plays (recorded ls) (supplied-first text ns ls at noneTaken (y .1)))
+-- ---- a scan of what is lent: it tells why it refuses, or finds what P says
+abbrev pub Finds : {A : Type 0} → (A → Type 0) → Answer A → Checked → Type 0
+Finds P (refused f) s = saysChecked s ≡ some (refused f)
+Finds P (answered a) s = (saysChecked s ≡ some (answered tt)) × P a
+
+module _ {A : Type 0} (P : A → Type 0) (s : Checked) where
+  pub scan-refuses : (o : Answer A) → Finds P o s → (q : Refusal) → s ≡ OfChecked.Refused q → (f : Told) × (told q ≡ some f) × (o ≡ refused f)
+  unfolding saysChecked
+  scan-refuses (answered a) y q c = absurd (not-so (told q) (ap saysChecked (sym c) ∙ y .0))
+    where
+      not-so : (o : Option Told) → _≡_ {A = Option (Answer (Unit {0}))} (asRefused o) (some (answered tt)) → ⊥
+      not-so none y = let z : _≡_ {A = ℕ} 0 1 = cc in omega arith
+      not-so (some g) y = let z : _≡_ {A = ℕ} 0 1 = cc in omega arith
+  scan-refuses (refused f) y q c = (f, so (told q) refl (ap saysChecked (sym c) ∙ y), refl)
+    where
+      so : (o : Option Told) → told q ≡ o → _≡_ {A = Option (Answer (Unit {0}))} (asRefused o) (some (refused f)) → told q ≡ some f
+      so none w y = let z : _≡_ {A = ℕ} 0 1 = cc in absurd (omega arith)
+      so (some g) w y = let z : g ≡ f = cc in w ∙ ap some z
+
+  pub scan-finds : (o : Answer A) → Finds P o s → s ≡ OfChecked.Fine → (a : A) × P a × (o ≡ answered a)
+  unfolding saysChecked
+  scan-finds (refused f) y c =
+      let q : some (answered tt) ≡ some (refused f) = ap saysChecked (sym c) ∙ y in let z : _≡_ {A = ℕ} 0 1 = cc in absurd (omega arith)
+  scan-finds (answered a) y c = (a, y .1, refl)
 
 -- ---- the rounds played, and the values put out
 module _ (t : List ℕ) (l : Lent) (n : ℕ) (at : List ℕ) (was us : List ℤ) (r : Simulated) (run : RunCall t l n at noneTaken r us) where

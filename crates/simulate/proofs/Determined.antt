@@ -9,7 +9,7 @@ use Rattle.answer.proofs.SaysFixes.{ended-fixed}
 use Rattle.simulation.specs.Call.{Simulating, SimulationAnswers}
 use Rattle.simulate.specs.Simulate.{simulateOn, SimulateCall}
 
-answers-fix : (a : Answer Simulating) (was : List ℤ) (r q : Simulated) (vs us : List ℤ) → SimulationAnswers a was r vs → SimulationAnswers a was q us
+pub answers-fix : (a : Answer Simulating) (was : List ℤ) (r q : Simulated) (vs us : List ℤ) → SimulationAnswers a was r vs → SimulationAnswers a was q us
     → (r ≡ q) × (vs ≡ us)
 answers-fix (answered d) was r q vs us g h =
     let f = ended-fixed (r .ended) (q .ended) (answered (d .rounds)) (g .ended) (h .ended) in

@@ -3,3 +3,4 @@ pub mod Determined
 pub mod Rounds
 pub mod InPlace
 pub mod Called
+pub mod Listed

@@ -44,7 +44,7 @@ fn put(d: u64, values: &[i64], clocks: &mut [i64])
 }
 
 // A refusal, with no state beside it.
-fn refused(f: Refusal) -> Simulated
+pub fn refused(f: Refusal) -> Simulated
     ensures { λ r. ⌜ r ≡ refusedWith f ⌝ }
 {
     Simulated {
@@ -54,7 +54,7 @@ fn refused(f: Refusal) -> Simulated
 }
 
 // The rounds over the samples that stand at the places; the lent values are written once, at the end.
-fn play(
+pub fn play(
     t: &[u64],
     plan: Plan,
     text: &[u8],

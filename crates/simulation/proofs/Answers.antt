@@ -59,7 +59,7 @@ recorded-fair {d} {ls = ls} (are k) = record {
 
 -- ---- the lent values then
 module _ (m : Model) (was : List ℤ) (d : Simulation) where
-  put-out : PutsOut m (d .last .values) was (putOut m was d .values)
+  pub put-out : PutsOut m (d .last .values) was (putOut m was d .values)
   unfolding putOut putAt
   put-out = record {
     count = each-length f (pos 0) 0 was;
@@ -74,7 +74,7 @@ module _ (m : Model) (was : List ℤ) (d : Simulation) where
       go x i (yes h) = each-at f (pos 0) was x h ∙ rw i
       go x i (no h) = each-beyond f (pos 0) was x (omega arith)
 
-  puts-once : (now : List ℤ) → PutsOut m (d .last .values) was now → putOut m was d .values ≡ now
+  pub puts-once : (now : List ℤ) → PutsOut m (d .last .values) was now → putOut m was d .values ≡ now
   puts-once now g =
       let f = put-out in
       ext-getD (pos 0) (putOut m was d .values) now (f .count ∙ sym (g .count)) (λ x h. go f x (omega (arith, f .count)) (has (declared m) x) refl)
@@ -85,7 +85,7 @@ module _ (m : Model) (was : List ℤ) (d : Simulation) where
       go f x h false i = f .stays x i ∙ sym (g .stays x i)
 
 -- 28 "if not 64 values"
-lent-decided : (was : List ℤ) → Decided (needs 28 (length was ≡ maxClocks)) (lentFault was)
+pub lent-decided : (was : List ℤ) → Decided (needs 28 (length was ≡ maxClocks)) (lentFault was)
 unfolding lentFault
 lent-decided was = needs-decided 28 (length was ≡ maxClocks) (not (eqb (length was) maxClocks)) (
   λ e. eqb-true (length was) maxClocks (not-false (eqb (length was) maxClocks) e),

@@ -1,16 +1,21 @@
 -- `feed::ran_out` meets its contract.
-use mathlib.Core.Path.{_≡_, refl}
-use Rattle.feed.specs.declared.Source.{Source}
-use Rattle.feed.specs.declared.Source.the-variants.{Lists}
+use mathlib.Core.Path.{sym, ap}
+use borrow.Author.Needs.{needs}
 use Rattle.feed.specs.Supply.{ranOutOf}
 use Rattle.feed.proofs.ran_out.Statement.{statement}
 use Rattle.feed.proofs.ran_out.Tie as tie
 
-of-lists : (from : Source) → 41 ≡ ranOutOf from
-of-lists Lists = refl
+enum-told : tie.Need-enum-told
+enum-told c = search needs
+
+enum-told-2 : tie.Need-enum-told-2
+enum-told-2 c = search needs
 
 returns : tie.Need-returns
-returns c = of-lists (c .args .from)
+returns c = sym (ap ranOutOf (c .enum-told .given .1))
+
+returns-2 : tie.Need-returns-2
+returns-2 c = sym (ap ranOutOf (c .enum-told2 .given .1))
 
 pub ran-out-spec : {M : Type 1} → statement M
-ran-out-spec = tie.close (tie.spec returns)
+ran-out-spec = tie.close (tie.spec enum-told enum-told-2 returns returns-2)

@@ -6,7 +6,9 @@ use Rattle.model.specs.Model.{declared}
 use Rattle.layout.specs.Image.{modelOf}
 use Rattle.samples.specs.Text.{Scans}
 use Rattle.simulation.specs.Samples.{samplesOf}
-use Rattle.simulate.proofs.Called.{told-22, told-28, fine-count, told-40, plays}
+use Rattle.simulation.specs.Call.{simulateText}
+use Rattle.simulate.proofs.Called.{told-22, told-28}
+use Rattle.simulate.proofs.Listed.{fine-count, told-40, plays-lists}
 use Rattle.simulate.proofs.play_text.Statement.{statement}
 use Rattle.simulate.proofs.play_text.Tie as tie
 
@@ -27,12 +29,14 @@ refused-requires : tie.Need-refused-requires
 refused-requires c κs = search needs
 
 returns : tie.Need-returns
+unfolding simulateText
 returns c = let i = c .before in told-22 _ _ _ _ (i .before .before .before .pre .1) (i .if1 .taken) _ (c .refused .ensures)
 
 refused-requires-2 : tie.Need-refused-requires-2
 refused-requires-2 c κs = search needs
 
 returns-2 : tie.Need-returns-2
+unfolding simulateText
 returns-2 c = let i = c .before .before in told-28 _ _ _ _ (i .before .before .before .pre .1) (i .if1 .left) (c .before .if2 .taken) _ (c .refused2 .ensures)
 
 declared-requires : tie.Need-declared-requires
@@ -69,7 +73,7 @@ returns-3 c =
     let e = p .before .before .before .before in
     let s = e .before .before in
     let i = tested s in
-    plays _ _ _ _ (begin s .pre .1) (i .before .if1 .left) (i .if2 .left) (s .scan .result) (s .scan .last .1 .1 .0) (scanned s) _ _ refl (e .enum-told .given .1) _ _ (p .play .ensures)
+    plays-lists _ _ _ _ (begin s .pre .1) (i .before .if1 .left) (i .if2 .left) (s .scan .result) (s .scan .last .1 .1 .0) (scanned s) _ _ refl (e .enum-told .given .1) _ _ (p .play .ensures)
 
 returns-4 : tie.Need-returns-4
 returns-4 c =

@@ -1,6 +1,7 @@
 -- `simulate::simulate` meets its contract: what `may_walk` refuses, and else what stands behind it.
 use borrow.Author.Needs.{needs}
 use denote.Ref.{now}
+use Rattle.simulation.specs.Call.{supplied, simulateText}
 use Rattle.simulate.proofs.Called.{refused-before, runnable, goes-on}
 use Rattle.simulate.proofs.simulate.Statement.{statement}
 use Rattle.simulate.proofs.simulate.Tie as tie
@@ -15,8 +16,7 @@ play-text-requires : tie.Need-play-text-requires
 play-text-requires c κs =
     let e = c .before in
     let k = e .before .before in
-    let a = k .before .before .before .args in
-    runnable (now (a .table)) (now (a .samples)) (a .rounds) (now (a .clocks)) _ (k .may-walk .ensures) (e .enum-told .given .1)
+    runnable _ _ (k .may-walk .ensures) (e .enum-told .given .1)
 
 enum-known-checked : tie.Need-enum-known-checked
 enum-known-checked c = search needs
@@ -28,15 +28,19 @@ same-length : tie.Need-same-length
 same-length c = search needs
 
 returns : tie.Need-returns
+unfolding simulateText
 returns c =
     let p = c .before in
     let e = p .before .before in
-    goes-on _ _ _ _ _ (e .before .before .may-walk .ensures) (e .enum-told .given .1) _ _ (p .play-text .ensures)
+    let text = now (e .before .before .before .before .before .args .samples) in
+    goes-on _ (λ m. supplied m text) _ _ _ (e .before .before .may-walk .ensures) (e .enum-told .given .1) _ _ (p .play-text .ensures)
 
 returns-2 : tie.Need-returns-2
+unfolding simulateText
 returns-2 c =
     let e = c .before .before in
-    refused-before _ _ _ _ _ (e .before .before .may-walk .ensures) _ (e .checked .given .1) _ (c .refused .ensures)
+    let text = now (e .before .before .before .before .before .args .samples) in
+    refused-before _ (λ m. supplied m text) _ _ _ (e .before .before .may-walk .ensures) _ (e .checked .given .1) _ (c .refused .ensures)
 
 pub simulate-spec : {M : Type 1} → statement M
 simulate-spec =

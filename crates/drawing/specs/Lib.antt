@@ -1,0 +1,4 @@
+pub mod File
+pub mod Draws
+pub mod Call
+pub mod Exactly

@@ -1,0 +1,4 @@
+pub mod Answers
+pub mod Determined
+pub mod Rounds
+pub mod Drawn

@@ -1,0 +1,3 @@
+pub mod SimulateDrawn
+pub mod SimulateDrawnExactly
+pub mod DrawnRounds
