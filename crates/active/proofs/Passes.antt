@@ -1,7 +1,7 @@
 -- A row that changes a set lets their sum fall. A pass keeps the sets above all that the rows allow; where it changes nothing, no row breaks them.
 use mathlib.Core.Path.{_≡_, refl, sym, _∙_, ap}
 use mathlib.Core.Bool.{Bool, true, false, not, _||_}
-use mathlib.Core.List.{List, [], _∷_}
+use mathlib.Core.List.{List}
 use Prim.Native.Nat.{ℕ, zero, suc, _+_, _-_, _≤_, _<_}
 use native.Mathlib.Omega.{arith}
 use native.Mathlib.Decide.{ℕ-discrete, decLt}
@@ -9,23 +9,24 @@ use lib.ListN.{length, getD, set, List·getD-eq-default}
 use lib.Seq.{getD-set-same, getD-set-other, set-getD}
 use lib.Bits.{and-le-l}
 use borrow.Author.Tests.{eq-eqb, ne-eqb}
-use Rattle.laws.specs.Sets.{_∩_, within, _⊆_}
+use Rattle.laws.specs.Sets.{_∩_, within}
 use Rattle.laws.specs.Fold.{overFrom, over, sum}
 use Rattle.laws.proofs.SetLaws.{within-true}
 use Rattle.laws.proofs.UnionLaws.{over-keeps}
-use Rattle.model.specs.Model.{Row, Comp, rowAt}
+use Rattle.model.specs.Model.{Row, rowAt}
 use Rattle.model.specs.WellFormed.{WellComp}
-use Rattle.iosa.specs.Checks.{allowed, handedOn, breaks, narrowed}
-use Rattle.iosa.specs.Greatest.{Allows, Above, Greatest}
-use Rattle.iosa.proofs.Acceptance.Check14.{setsOf, Low, High, low-narrowed, high-narrowed, shrinks}
-use Rattle.layout.specs.Layout.{countOf, blockWord}
+use Rattle.iosa.specs.Checks.{handedOn, breaks, narrowed}
+use Rattle.iosa.specs.Greatest.{Greatest}
+use Rattle.iosa.proofs.Acceptance.Check14.{Low, High, low-narrowed, high-narrowed, shrinks}
+use Rattle.layout.specs.Layout.{countOf}
 use Rattle.layout.specs.Image.{Image, compOf}
 use Rattle.layout.proofs.RowsOfRange.{well-comp}
 use Rattle.layout.proofs.WalkByStates.{over-rows}
 use Rattle.active.specs.Narrowing.{narrowState, pass, FirstSets, Fell}
 
 -- ---- a list filled one place after the other
-pub filled : (f : ℕ → ℕ) (A : List ℕ) (s v : ℕ) → s < length A → v ≡ f s → ((j : ℕ) → j < s → getD A j 0 ≡ f j) → (j : ℕ) → j < s + 1 → getD (set A s v) j 0 ≡ f j
+pub filled : (f : ℕ → ℕ) (A : List ℕ) (s v : ℕ) → s < length A → v ≡ f s → ((j : ℕ) → j < s → getD A j 0 ≡ f j) → (j : ℕ) → j < s + 1
+    → getD (set A s v) j 0 ≡ f j
 filled f A s v h e ih j p = elim (ℕ-discrete j s) [
   | yes w ↦ rw w (getD-set-same A s v 0 h ∙ e)
   | no w ↦ getD-set-other A s j v 0 w ∙ ih j (omega arith)
@@ -55,7 +56,10 @@ module _ (f : ℕ → List ℕ → List ℕ) (down : (k : ℕ) (A : List ℕ) �
   from-falls : (n k : ℕ) (A : List ℕ) → Falls A (overFrom f n k A)
   unfolding overFrom
   from-falls zero k A = (false, refl)
-  from-falls (suc n) k A = let d = down k A in let e = from-falls n (suc k) (f k A) in (e .0 || d .0, fell-on A (f k A) (overFrom f n (suc k) (f k A)) (d .0) (e .0) (d .1) (e .1))
+  from-falls (suc n) k A =
+      let d = down k A in
+      let e = from-falls n (suc k) (f k A) in
+      (e .0 || d .0, fell-on A (f k A) (overFrom f n (suc k) (f k A)) (d .0) (e .0) (d .1) (e .1))
 
   from-still : (n k : ℕ) (A : List ℕ) → overFrom f n k A ≡ A → (j : ℕ) → k ≤ j → j < k + n → f j A ≡ A
   unfolding overFrom
@@ -65,7 +69,8 @@ module _ (f : ℕ → List ℕ → List ℕ) (down : (k : ℕ) (A : List ℕ) �
       next : f k A ≡ A → (overFrom f n (suc k) A ≡ A → (j : ℕ) → suc k ≤ j → j < suc k + n → f j A ≡ A) → f j A ≡ A
       next w ih = elim (ℕ-discrete j k) [ yes v ↦ ap (λ m. f m A) v ∙ w | no v ↦ ih (ap (overFrom f n (suc k)) (sym w) ∙ e) j (omega arith) (omega arith) ]
 
-      go : Falls A (f k A) → Falls (f k A) (overFrom f n (suc k) (f k A)) → (overFrom f n (suc k) A ≡ A → (j : ℕ) → suc k ≤ j → j < suc k + n → f j A ≡ A) → f j A ≡ A
+      go : Falls A (f k A) → Falls (f k A) (overFrom f n (suc k) (f k A)) → (overFrom f n (suc k) A ≡ A → (j : ℕ) → suc k ≤ j → j < suc k + n
+          → f j A ≡ A) → f j A ≡ A
       go (false, w) r ih = next w ih
       go (true, w) (false, r) ih = absurd (omega (arith, ap sum r, ap sum e))
       go (true, w) (true, r) ih = absurd (omega (arith, ap sum e))
@@ -92,7 +97,9 @@ module _ (t : List ℕ) (im : Image t) (i : ℕ) (h : i < countOf t) where
 
   pub pass-high : (A : List ℕ) → High (compOf t i) w A → High (compOf t i) w (pass t i A)
   unfolding by-rows
-  pass-high A p = rw (pass-rows A) (over-keeps by-rows (High (compOf t i) w) 0 (length (compOf t i .rows)) A (λ k B u v q. high-narrowed (compOf t i) w B k v q) p)
+  pass-high A p =
+      rw (pass-rows A) (over-keeps by-rows (High (compOf t i) w) 0 (length (compOf t i .rows)) A (λ k B u v q. high-narrowed (compOf t i) w B k v q)
+      p)
 
   -- where a pass changes nothing the sets are the greatest
   pub unchanged-greatest : (A : List ℕ) → Low (compOf t i) w A → High (compOf t i) w A → A ≡ pass t i A → Greatest (compOf t i) (λ s. getD A s 0)
@@ -105,12 +112,14 @@ module _ (t : List ℕ) (im : Image t) (i : ℕ) (h : i < countOf t) where
     above = hi .1;
   }
     where
-      kept : (k : ℕ) → k < length (compOf t i .rows) → getD A (rowAt (compOf t i) k .target) 0 ∩ handedOn A (rowAt (compOf t i) k) ≡ getD A (rowAt (compOf t i) k .target) 0
+      kept : (k : ℕ) → k < length (compOf t i .rows) → getD A (rowAt (compOf t i) k .target) 0 ∩ handedOn A (rowAt (compOf t i) k)
+          ≡ getD A (rowAt (compOf t i) k .target) 0
       kept k p =
           let to = rowAt (compOf t i) k .target in
           let room : to < length A = omega (arith, lo .0, w .rows k p .target) in
           sym (getD-set-same A to _ 0 room)
-          ∙ ap (λ B. getD B to 0) (over-unchanged by-rows (λ k B. (breaks B (rowAt (compOf t i) k), narrowed-fell B (rowAt (compOf t i) k))) 0 (length (compOf t i .rows)) A (sym (pass-rows A) ∙ sym e) k (omega arith) p)
+          ∙ ap (λ B. getD B to 0) (over-unchanged by-rows (λ k B. (breaks B (rowAt (compOf t i) k), narrowed-fell B (rowAt (compOf t i) k))) 0
+          (length (compOf t i .rows)) A (sym (pass-rows A) ∙ sym e) k (omega arith) p)
 
   -- the sets to begin with
   pub first-low : (A : List ℕ) → FirstSets (compOf t i) A → Low (compOf t i) w A

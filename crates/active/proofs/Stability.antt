@@ -1,10 +1,10 @@
 -- Whether a state is stable, from the search for an urgent output over its range.
-use mathlib.Core.Path.{_≡_, refl, sym, _∙_, ap}
-use mathlib.Core.Bool.{Bool, true, false}
+use mathlib.Core.Path.{_≡_, sym, _∙_, ap}
+use mathlib.Core.Bool.{true, false}
 use mathlib.Core.List.{List}
-use Prim.Native.Nat.{ℕ, suc, _+_, _≤_, _<_}
+use Prim.Native.Nat.{ℕ, _+_, _<_}
 use Rattle.laws.specs.Sets.{has}
-use Rattle.laws.specs.Search.{seek, when, isSome}
+use Rattle.laws.specs.Search.{when, isSome}
 use Rattle.iosa.specs.Checks.{unstable}
 use Rattle.layout.specs.Layout.{countOf, blockWord, firstOf, actionAt}
 use Rattle.layout.specs.Image.{Image, compOf}
@@ -15,7 +15,8 @@ use Rattle.rows.specs.declared.Found.the-variants.{At, Nothing}
 use Rattle.rows.proofs.FoundLaws.{at-some, nothing-none}
 use Rattle.rows.proofs.Ready.{range-seek}
 
-module _ (t : List ℕ) (im : Image t) (i : ℕ) (h : i < countOf t) (s : ℕ) (b : s < blockWord t i 0) (lo hi : ℕ) (el : lo ≡ firstOf t i s) (eh : hi ≡ firstOf t i (s + 1)) (f : Found)
+module _ (t : List ℕ) (im : Image t) (i : ℕ) (h : i < countOf t) (s : ℕ) (b : s < blockWord t i 0) (lo hi : ℕ) (el : lo ≡ firstOf t i s)
+    (eh : hi ≡ firstOf t i (s + 1)) (f : Found)
     (e : f ≡ foundOf (bySet t (blockWord t i 5) lo hi)) where
   by-range : unstable (compOf t i) s ≡ isSome (bySet t (blockWord t i 5) lo hi)
   unfolding bySet

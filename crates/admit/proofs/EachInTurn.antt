@@ -57,7 +57,9 @@ module _ (t : List ℕ) (im : Image t) where
     unfolding clashesLeft clashAmong fault18
     clash-next = ap (clashAmong i) next ∙ go (check18 (compOf t i))
       where
-        go : (o : Option (List ℕ)) → _≡_ {A = Option Told} (elim o as (λ p. Option Told) [ none ↦ clashAmong (suc i) (drop (i + 1) m) | some p ↦ some (tell 18 (i ∷ p)) ]) (orElse (mapSome (λ p. tell 18 (i ∷ p)) o) (clashAmong (i + 1) (drop (i + 1) m)))
+        go : (o : Option (List ℕ)) → _≡_ {A = Option Told}
+            (elim o as (λ p. Option Told) [ none ↦ clashAmong (suc i) (drop (i + 1) m) | some p ↦ some (tell 18 (i ∷ p)) ])
+            (orElse (mapSome (λ p. tell 18 (i ∷ p)) o) (clashAmong (i + 1) (drop (i + 1) m)))
         go none = ap (λ k. clashAmong k (drop (i + 1) m)) (sym (add-one i))
         go (some p) = refl
 

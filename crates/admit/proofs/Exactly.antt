@@ -1,4 +1,5 @@
--- `accept` answers fine exactly where the table is the image of a well-formed model that meets the conditions; `confluent` exactly where its components are confluent too.
+-- `accept` answers fine exactly where the table is the image of a well-formed model that meets the conditions; `confluent` exactly where its
+-- components are confluent too.
 -- `component` answers fine exactly where that component is there and meets them, `compatible` exactly where every two are compatible.
 use mathlib.Core.Path.{_≡_, refl, _∙_, ap}
 use mathlib.Core.Logic.{_↔_}
@@ -45,7 +46,8 @@ confluent-fine t e =
     (admitted t im a, p .1, confluent-exactly (modelOf t) (well-formed t im) a .0 (p .1))
 
 -- ---- both ways
-pub passes-fine : (t : List ℕ) (check : Model → Option Told) (r : Checked) → Image t → check (modelOf t) ≡ none → saysChecked r ≡ some (checkOn t check) → r ≡ Fine
+pub passes-fine : (t : List ℕ) (check : Model → Option Told) (r : Checked) → Image t → check (modelOf t) ≡ none
+    → saysChecked r ≡ some (checkOn t check) → r ≡ Fine
 unfolding saysChecked
 passes-fine t check r im e s =
     checked-fixed r Fine (answered tt) (s ∙ ap some (on-image t (λ m. unless (check m) tt) (image-exactly t .1 im) ∙ ap (λ o. unless o tt) e)) refl
@@ -56,7 +58,8 @@ accept-exactly t r s = (
   λ p. passes-fine t acceptOf r (p .0) (accepted-exactly (modelOf t) (well-formed t (p .0)) .1 (p .1, p .2)) s,
 )
 
-pub confluent-call-exactly : (t : List ℕ) (r : Checked) → Confluently t r → (r ≡ Fine) ↔ (Image t × Conforming (modelOf t) × Joinable (modelOf t) × AllConfluent (modelOf t))
+pub confluent-call-exactly : (t : List ℕ) (r : Checked) → Confluently t r
+    → (r ≡ Fine) ↔ (Image t × Conforming (modelOf t) × Joinable (modelOf t) × AllConfluent (modelOf t))
 confluent-call-exactly t r s = (
   λ e. let a = confluent-fine t (rw e at s) in (a .0 .image, a .0 .conforming, a .0 .joinable, a .2),
   λ p.

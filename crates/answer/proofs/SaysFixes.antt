@@ -4,7 +4,8 @@ use mathlib.Core.Bool.{Bool, true, false}
 use mathlib.Core.Option.{Option, none, some}
 use Prim.Native.Nat.{ℕ}
 use native.Mathlib.Omega.{arith}
-use Rattle.answer.specs.Told.{Told, told, Answer, answered, refused, asRefused, saysChecked, saysWritten, Step, moved, stable, saysOutcome, saysVerdict, Shot, fired, quiet, saysFiring, saysEnded}
+use Rattle.answer.specs.Told.{Told, told, Answer, answered, refused, asRefused, saysChecked, saysWritten, Step, moved, stable, saysOutcome}
+use Rattle.answer.specs.Told.{saysVerdict, Shot, fired, quiet, saysFiring, saysEnded}
 use Rattle.answer.specs.declared.Refusal.{Refusal}
 use Rattle.answer.specs.declared.Checked.{Checked}
 use Rattle.answer.specs.declared.Checked.the-variants as C

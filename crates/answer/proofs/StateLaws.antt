@@ -1,6 +1,6 @@
 -- The numbers of a state by index, and the state with other numbers.
 use mathlib.Core.Path.{_≡_, refl, sym, _∙_, ap}
-use mathlib.Core.List.{List, [], _∷_, _++_}
+use mathlib.Core.List.{List, _++_}
 use Prim.Native.Nat.{ℕ, zero, suc, _+_, _≤_, _<_}
 use native.Mathlib.Omega.{arith}
 use lib.ListN.{length, getD, take, drop, take-append-drop, List·getD-append}
@@ -49,4 +49,6 @@ with-parts-again x ps qs e = ap (λ l. record { count = x .count; parts = qs ++ 
 -- given its own, it is as it was
 pub with-own-parts : (x : State) → x .count ≤ length (x .parts) → withParts x (partsOf x) ≡ x
 unfolding withParts
-with-own-parts x h = ap (λ l. record { count = x .count; parts = l }) (ap (λ l. l ++ drop (x .count) (x .parts)) (parts-front x h) ∙ take-append-drop (x .count) (x .parts))
+with-own-parts x h =
+    ap (λ l. record { count = x .count; parts = l }) (ap (λ l. l ++ drop (x .count) (x .parts)) (parts-front x h) ∙ take-append-drop (x .count)
+    (x .parts))

@@ -1,14 +1,16 @@
 -- Number and values fix the refusal: two refusals that tell the same are the same.
 use mathlib.Core.Path.{_≡_, refl, sym, _∙_, ap, ap₂}
 use mathlib.Core.Option.{Option, none, some, Option·some-inj}
-use mathlib.Core.List.{List, [], _∷_}
+use mathlib.Core.List.{List}
 use Prim.Native.Nat.{ℕ}
 use native.Mathlib.Omega.{arith}
 use lib.ListN.{getD}
 use Rattle.answer.specs.declared.Place.{Place}
-use Rattle.answer.specs.declared.Place.the-variants.{Whole, Line, Row, Bytes, Index, Clock, Component, Cell, Clash, SharedAction, SharedClock, Spot, Condition, Action}
+use Rattle.answer.specs.declared.Place.the-variants.{Whole, Line, Row, Bytes, Index, Clock, Component, Cell, Clash, SharedAction, SharedClock}
+use Rattle.answer.specs.declared.Place.the-variants.{Spot, Condition, Action}
 use Rattle.answer.specs.declared.Refusal.{Refusal}
-use Rattle.answer.specs.Told.{Told, Shape, nowhere, whole, line, row, bytes, index, clock, component, cell, clash, shared-action, shared-clock, spot, condition, action, same-shape, tell, told, shapeOf, shapeAt, valuesAt}
+use Rattle.answer.specs.Told.{Told, Shape, nowhere, whole, line, row, bytes, index, clock, component, cell, clash, shared-action, shared-clock}
+use Rattle.answer.specs.Told.{spot, condition, action, same-shape, tell, told, shapeOf, shapeAt, valuesAt}
 
 -- the place of a shape with these values
 placeOf : Shape → List ℕ → Place

@@ -30,11 +30,17 @@ unfolding sizesRight
 sizes-told t i e =
     let p = both-true _ _ e in
     let q = both-true _ _ (p .1) in
-    record { some = leb-true 1 (blockWord t i 0) (p .0); states = leb-true (blockWord t i 0) maxStates (q .0); start = ltb-true (blockWord t i 1) (blockWord t i 0) (q .1) }
+    record {
+      some = leb-true 1 (blockWord t i 0) (p .0);
+      states = leb-true (blockWord t i 0) maxStates (q .0);
+      start = ltb-true (blockWord t i 1) (blockWord t i 0) (q .1);
+    }
 
 pub sizes-so : (t : List ℕ) (i : ℕ) → Sizes t i → sizesRight t i ≡ true
 unfolding sizesRight
-sizes-so t i w = true-both _ _ (le-leb 1 (blockWord t i 0) (w .some)) (true-both _ _ (le-leb (blockWord t i 0) maxStates (w .states)) (lt-ltb (blockWord t i 1) (blockWord t i 0) (w .start)))
+sizes-so t i w =
+    true-both _ _ (le-leb 1 (blockWord t i 0) (w .some)) (true-both _ _ (le-leb (blockWord t i 0) maxStates (w .states))
+    (lt-ltb (blockWord t i 1) (blockWord t i 0) (w .start)))
 
 -- ---- the sets
 apart-told : (s t : ℕ) → apart s t ≡ true → Apart s t
@@ -91,7 +97,8 @@ module _ (t : List ℕ) (i : ℕ) where
   sets-so w =
       true-both _ _ (apart-so ins outs (w .ins-outs))
       (true-both _ _ (apart-so (ins ∪ outs) uins (joined-apart ins outs uins (w .ins-uins) (w .outs-uins)))
-      (true-both _ _ (apart-so (ins ∪ outs ∪ uins) uouts (joined-apart (ins ∪ outs) uins uouts (joined-apart ins outs uouts (w .ins-uouts) (w .outs-uouts)) (w .uins-uouts)))
+      (true-both _ _ (apart-so (ins ∪ outs ∪ uins) uouts
+      (joined-apart (ins ∪ outs) uins uouts (joined-apart ins outs uouts (w .ins-uouts) (w .outs-uouts)) (w .uins-uouts)))
       (true-within (blockWord t i 7) (blockWord t i 6) (w .started))))
 
 pub head-sizes : (t : List ℕ) (i : ℕ) → headRight t i ≡ true → Sizes t i
@@ -162,7 +169,9 @@ module _ (t : List ℕ) (i : ℕ) where
     firsts-above s p q = w .above (firstPlace i s) (omega arith) (omega arith)
 
     pub firsts-few : (s : ℕ) → s ≤ maxStates → firstOf t i s ≤ maxRows
-    firsts-few s h = by-cases (decLt (blockWord t i 0) s) (λ p. omega (arith, firsts-above s p h)) (λ p. omega (arith, firsts-climb s (blockWord t i 0) (omega arith) (omega arith), w .last))
+    firsts-few s h =
+        by-cases (decLt (blockWord t i 0) s) (λ p. omega (arith, firsts-above s p h))
+        (λ p. omega (arith, firsts-climb s (blockWord t i 0) (omega arith) (omega arith), w .last))
 
 -- ---- all blocks
 pub record Blocks (t : List ℕ) : Type 0 where

@@ -3,14 +3,15 @@ use mathlib.Core.Path.{_≡_, refl, sym, _∙_, ap}
 use mathlib.Core.Bool.{Bool, true, false, _&&_, not, cond}
 use mathlib.Core.Option.{Option, none, some}
 use mathlib.Core.List.{List, [], _∷_, _++_, append-assoc}
-use Prim.Native.Nat.{ℕ, zero, suc, _+_, _-_, _≤_}
+use Prim.Native.Nat.{ℕ, zero, suc, _+_, _≤_}
 use native.Mathlib.Omega.{arith}
 use lib.ListN.{length, drop, length-append, length-drop}
 use lib.Seq.{drop-drop, drop-at}
 use lib.Dec.{ltb, leb}
 use Rattle.answer.specs.Limits.{maxStates}
 use Rattle.model.specs.Text.{tab, lf, comma, dash, rowWord, decimal, guardField, joined, fieldsAfter}
-use Rattle.model.specs.Reading.{got, number, theByte, guardOf, Entry, comp-entry, act-entry, clk-entry, row-entry, entry, Value, action-value, state-value, exactly, valueText, guardValue, resetValues, lastValues, firstBad, firstColumn, stopColumn}
+use Rattle.model.specs.Reading.{got, number, theByte, guardOf, Entry, comp-entry, act-entry, clk-entry, row-entry, entry, Value, action-value}
+use Rattle.model.specs.Reading.{state-value, exactly, valueText, guardValue, resetValues, lastValues, firstBad, firstColumn, stopColumn}
 use Rattle.model.specs.Line.{AllFit, listField, lineOf as printedLine}
 use Rattle.model.proofs.Reading.Number.{number-printed}
 use Rattle.model.proofs.Reading.Fields.{number-no-dash, further, joined-first}
@@ -48,8 +49,7 @@ module _ (a : Allowed) (W : List ℕ) (v : Value) where
             arith,
             ap (λ (l : List ℕ). length (l ++ tab ∷ bs)) (joined-first x []),
             length-append (decimal x ++ []) (tab ∷ bs),
-            length-append
-                (decimal x) [],
+            length-append (decimal x) [],
           )
 
       go : (b : Bool) → memberOf (a .clocks) x ≡ b

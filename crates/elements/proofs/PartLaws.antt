@@ -1,27 +1,22 @@
 -- An element's parts as the code has them: its signals, the place of an input, the roles of a gate.
 use mathlib.Core.Path.{_≡_, refl, sym, _∙_, ap, ap₂}
 use mathlib.Core.Option.{Option, none, some}
-use mathlib.Core.Bool.{Bool, true, false, cond}
 use mathlib.Core.List.{List, [], _∷_}
-use Prim.Native.Nat.{ℕ, zero, suc, _+_, _*_, _-_, _/_, _%_, _^_, _≤_, _<_}
+use Prim.Native.Nat.{ℕ, suc, _+_, _-_, _/_, _%_, _≤_, _<_}
 use native.Mathlib.Omega.{arith}
 use lib.ListN.{length}
-use lib.Dec.{eqb}
 use borrow.Author.Tests.{eq-eqb, ne-eqb}
 use Rattle.laws.specs.Fold.{tab}
-use Rattle.laws.specs.Search.{when, mapSome}
+use Rattle.laws.specs.Search.{mapSome}
 use Rattle.laws.proofs.FoldLaws.{tab-length}
 use Rattle.laws.proofs.TabLaws.{tab-next, tab-done}
 use Rattle.sets.specs.Members.{orEnd}
-use Rattle.model.specs.Text.{Kind}
-use Rattle.trees.specs.Module.{Move}
-use Rattle.trees.specs.Tree.{Signal, fl, up, f, u, r, Meaning}
+use Rattle.trees.specs.Tree.{fl, up, f, u, r, Meaning}
 use Rattle.trees.specs.TreeText.{fewest, atMostMore}
 use Rattle.trees.specs.Modules.{plainMove, beKind, beMove, GateRole, gateRole, pandRole, ticked, boxKind, boxMove, boxHears, placeOf, bound}
 use Rattle.trees.proofs.Boxes.{place-below}
 use Rattle.treelines.specs.declared.Inputs.{Inputs}
 use Rattle.treelines.specs.declared.Element.{Element}
-use Rattle.treelines.specs.declared.Sort.{Sort}
 use Rattle.treelines.specs.declared.Sort.the-variants as OfSort
 use Rattle.treelines.specs.Elements.{sortIs}
 use Rattle.treecheck.specs.Numbers.{inputAt, insIn}
@@ -73,7 +68,11 @@ module _ (i : Inputs) (v : ℕ) where
 
   pub looking-begins : Looking 0
   unfolding insIn
-  looking-begins = record { same = ap (λ o. orEnd o (i .count)) (zeros (placeOf v (tab (inputAt i) 0 (i .count - 0))) ∙ ap (λ n. placeOf v (tab (inputAt i) 0 n)) (let z : i .count - 0 ≡ i .count = omega arith in z)) }
+  looking-begins =
+      record {
+        same = ap (λ o. orEnd o (i .count)) (zeros (placeOf v (tab (inputAt i) 0 (i .count - 0))) ∙ ap (λ n. placeOf v (tab (inputAt i) 0 n))
+            (let z : i .count - 0 ≡ i .count = omega arith in z));
+      }
     where
       zeros : (o : Option ℕ) → mapSome (λ x. x + 0) o ≡ o
       zeros none = refl
@@ -81,13 +80,16 @@ module _ (i : Inputs) (v : ℕ) where
 
   pub looking-here : (j : ℕ) → Looking j → j < i .count → (x : ℕ) → x ≡ inputAt i j → v ≡ x → j ≡ orEnd (placeOf v (insIn i)) (i .count)
   looking-here j l h x e q =
-      (let z : j ≡ 0 + j = omega arith in z) ∙ sym (ap (λ o. orEnd (mapSome (λ y. y + j) o) (i .count)) (ap (placeOf v) (tab-next (inputAt i) j (i .count) h) ∙ place-first v (inputAt i j) _ (q ∙ e))) ∙ l .same
+      (let z : j ≡ 0 + j = omega arith in z) ∙ sym
+      (ap (λ o. orEnd (mapSome (λ y. y + j) o) (i .count)) (ap (placeOf v) (tab-next (inputAt i) j (i .count) h) ∙ place-first v (inputAt i j) _
+      (q ∙ e))) ∙ l .same
 
   pub looking-on : (j : ℕ) → Looking j → j < i .count → (x : ℕ) → x ≡ inputAt i j → ¬ (v ≡ x) → Looking (j + 1)
   looking-on j l h x e q = let rest = tab (inputAt i) (j + 1) (i .count - (j + 1)) in record {
     same =
         ap (λ o. orEnd o (i .count)) (shift (placeOf v rest))
-        ∙ sym (ap (λ o. orEnd (mapSome (λ y. y + j) o) (i .count)) (ap (placeOf v) (tab-next (inputAt i) j (i .count) h) ∙ place-later v (inputAt i j) rest (λ z. q (z ∙ sym e)))) ∙ l .same;
+        ∙ sym (ap (λ o. orEnd (mapSome (λ y. y + j) o) (i .count)) (ap (placeOf v) (tab-next (inputAt i) j (i .count) h) ∙ place-later v (inputAt i j)
+        rest (λ z. q (z ∙ sym e)))) ∙ l .same;
   }
     where
       shift : (o : Option ℕ) → mapSome (λ y. y + (j + 1)) o ≡ mapSome (λ y. y + j) (mapSome suc o)
@@ -150,7 +152,8 @@ module _ (i : Inputs) (of p : ℕ) (g : CodeSignal) where
   role-none h = rw (h, boxRoleBy)
 
   module _ (e : p ≡ orEnd (placeOf of (insIn i)) (i .count)) where
-    pub box-move-is : (s : ℕ) → p < i .count → bound (boxHears (signalIs g) p) (λ x. mapSome plainMove (boxMove (i .count) s x)) ≡ boxMoveBy (insIn i) s (meantAs of g)
+    pub box-move-is : (s : ℕ) → p < i .count → bound (boxHears (signalIs g) p) (λ x. mapSome plainMove (boxMove (i .count) s x))
+        ≡ boxMoveBy (insIn i) s (meantAs of g)
     unfolding boxMoveBy
     box-move-is s h =
         ap₂ (λ o n. bound o (λ x. mapSome plainMove (boxMove n s x))) (sym (role-some (place-some i of p e h))) (sym (ins-length i))
@@ -181,7 +184,9 @@ module _ (e : Element) (h : e .inputs .count ≡ 2) (x : Meaning) where
   unfolding pandRole
   pand-is = go (ticked (x .signal))
     where
-      go : (o : Option GateRole) → _≡_ {A = Option GateRole} (elim o as (λ _. Option GateRole) [ some t ↦ some t | none ↦ gateRole (gateOf (e .number) (e .inputs .first) (e .inputs .second)) x ]) (elim o as (λ _. Option GateRole) [ some t ↦ some t | none ↦ gateRole (elementOf e) x ])
+      go : (o : Option GateRole) → _≡_ {A = Option GateRole}
+          (elim o as (λ _. Option GateRole) [ some t ↦ some t | none ↦ gateRole (gateOf (e .number) (e .inputs .first) (e .inputs .second)) x ])
+          (elim o as (λ _. Option GateRole) [ some t ↦ some t | none ↦ gateRole (elementOf e) x ])
       go none = gate-is
       go (some t) = refl
 

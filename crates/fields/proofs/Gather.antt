@@ -23,7 +23,8 @@ pub record Gathered {A : Type 0} (all : A → List ℕ → A) (t : List ℕ) (s�
   pub enough : length (drop at t) ≤ turns
   pub same : valued (all s) (moreNumbers turns (drop at t)) ≡ kept all t s₀ at₀
 
-module _ {A : Type 0} (with : A → ℕ → A) (all : A → List ℕ → A) (nothing : (s : A) → all s [] ≡ s) (one : (s : A) (n : ℕ) (ns : List ℕ) → all s (n ∷ ns) ≡ all (with s n) ns)
+module _ {A : Type 0} (with : A → ℕ → A) (all : A → List ℕ → A) (nothing : (s : A) → all s [] ≡ s) (one : (s : A) (n : ℕ) (ns : List ℕ)
+    → all s (n ∷ ns) ≡ all (with s n) ns)
     (t : List ℕ) (s₀ : A) (at₀ : ℕ) where
   pub gathered-none : Gathered all t s₀ at₀ s₀ at₀
   gathered-none = record { turns = length (drop at₀ t); enough = le-refl (length (drop at₀ t)); same = refl }
@@ -46,7 +47,13 @@ module _ {A : Type 0} (with : A → ℕ → A) (all : A → List ℕ → A) (not
           read = sym scan ∙ ap (gotNumber t) is
 
           pub gathered-less : length t - next .at < length t - at
-          gathered-less = omega (arith, number-shortens (drop (at + 1) t) (record { value = n; rest = drop (next .at) t }) read, length-drop (at + 1) t, length-drop (next .at) t)
+          gathered-less =
+              omega (
+                arith,
+                number-shortens (drop (at + 1) t) (record { value = n; rest = drop (next .at) t }) read,
+                length-drop (at + 1) t,
+                length-drop (next .at) t,
+              )
 
           pub gathered-more : (s' : A) → s' ≡ with s n → Gathered all t s₀ at₀ s' (next .at)
           gathered-more s' k =

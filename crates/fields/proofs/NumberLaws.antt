@@ -21,7 +21,8 @@ more-shortens (suc k) n [] = omega arith
 more-shortens (suc k) n (b ∷ bs) = go (isDigit b) (more-shortens k (n * 10 + (b - byte0)) bs)
   where
     go : (d : Bool) → length ((moreDigits k (n * 10 + (b - byte0)) bs) .rest) ≤ length bs
-        → length ((elim d as (λ _. Got ℕ) [ true ↦ moreDigits k (n * 10 + (b - byte0)) bs | false ↦ record { value = n; rest = b ∷ bs } ]) .rest) ≤ length (b ∷ bs)
+        → length ((elim d as (λ _. Got ℕ) [ true ↦ moreDigits k (n * 10 + (b - byte0)) bs | false ↦ record { value = n; rest = b ∷ bs } ]) .rest)
+        ≤ length (b ∷ bs)
     go true h = omega arith
     go false h = omega arith
 
@@ -59,7 +60,8 @@ unfolding moreNumbers
 more-comma k b bs e = rw (eq-eqb b comma e, moreNumbers)
 
 -- all gathers what with adds one by one
-module _ {A : Type 0} (with : A → ℕ → A) (all : A → List ℕ → A) (nothing : (s : A) → all s [] ≡ s) (one : (s : A) (n : ℕ) (ns : List ℕ) → all s (n ∷ ns) ≡ all (with s n) ns) where
+module _ {A : Type 0} (with : A → ℕ → A) (all : A → List ℕ → A) (nothing : (s : A) → all s [] ≡ s) (one : (s : A) (n : ℕ) (ns : List ℕ)
+    → all s (n ∷ ns) ≡ all (with s n) ns) where
   behind : (s : A) (n : ℕ) (o : Scan (List ℕ)) → valued (all s) (then o (λ ns ds. got (n ∷ ns) ds)) ≡ valued (all (with s n)) o
   behind s n (stops cs) = refl
   behind s n (is g) = ap (λ x. got x (g .rest)) (one s n (g .value))

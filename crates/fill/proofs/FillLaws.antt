@@ -3,7 +3,7 @@ use mathlib.Core.Path.{_≡_, refl, sym, _∙_, ap, ap₂}
 use mathlib.Core.List.{List, [], _∷_, _++_}
 use Prim.Native.Nat.{ℕ, zero, suc, _+_, _-_, _≤_, _<_}
 use native.Mathlib.Omega.{arith}
-use lib.ListN.{length, getD, set, take, drop, replicate}
+use lib.ListN.{length, getD, set, drop, replicate}
 use lib.Seq.{sets, drop-cons, drop-append-add}
 use Rattle.laws.specs.Fold.{tab}
 use Rattle.laws.proofs.FoldLaws.{tab-length}
@@ -24,7 +24,8 @@ module _ (f : ℕ → ℕ) (at n : ℕ) where
   pub fill-start : (l : List ℕ) → sets l (at + 0) (tab f 0 (n - 0)) ≡ sets l at (tab f 0 n)
   fill-start l = let e : at + 0 ≡ at = omega arith in let g : n - 0 ≡ n = omega arith in rw (e, g)
 
-  pub fill-on : (k : ℕ) (l l′ whole : List ℕ) → k < n → sets l (at + k) (tab f k (n - k)) ≡ whole → l′ ≡ set l (at + k) (f k) → sets l′ (at + (k + 1)) (tab f (k + 1) (n - (k + 1))) ≡ whole
+  pub fill-on : (k : ℕ) (l l′ whole : List ℕ) → k < n → sets l (at + k) (tab f k (n - k)) ≡ whole → l′ ≡ set l (at + k) (f k)
+      → sets l′ (at + (k + 1)) (tab f (k + 1) (n - (k + 1))) ≡ whole
   fill-on k l l′ whole h e g =
       let s : at + (k + 1) ≡ suc (at + k) = omega arith in
       rw (g, s) (ap (sets l (at + k)) (sym (tab-next f k n h)) ∙ e)
@@ -51,7 +52,9 @@ tab-prefix l ys (x ∷ xs) k (suc n) e h b =
 
 tab-shift : (t : List ℕ) (from k n : ℕ) → tab (λ j. getD t (from + j) 0) k n ≡ tab (λ j. getD t j 0) (from + k) n
 tab-shift t from k zero = refl
-tab-shift t from k (suc n) = let e : from + suc k ≡ suc (from + k) = omega arith in ap (λ r. getD t (from + k) 0 ∷ r) (tab-shift t from (suc k) n ∙ ap (λ x. tab (λ j. getD t j 0) x n) e)
+tab-shift t from k (suc n) =
+    let e : from + suc k ≡ suc (from + k) = omega arith in
+    ap (λ r. getD t (from + k) 0 ∷ r) (tab-shift t from (suc k) n ∙ ap (λ x. tab (λ j. getD t j 0) x n) e)
 
 -- the middle of three
 pub part-of : (t xs ys zs : List ℕ) (from n : ℕ) → t ≡ xs ++ (ys ++ zs) → from ≡ length xs → n ≡ length ys → from + n ≤ length t → wordsFrom t from n ≡ ys

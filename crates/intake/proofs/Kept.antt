@@ -27,7 +27,9 @@ kept-on a b = record { rest = b .rest ∙ a .rest; long = b .long ∙ a .long }
 
 pub kept-by : (n : ℕ) (d d′ : List ℕ) → length d′ ≡ length d → ((j : ℕ) → n ≤ j → getD d′ j 0 ≡ getD d j 0) → Kept n d d′
 kept-by n d d′ l f = record {
-  rest = ext-getD 0 (drop n d′) (drop n d) (length-drop n d′ ∙ ap (λ k. k - n) l ∙ sym (length-drop n d)) (λ i h. getD-drop n d′ i 0 ∙ f (n + i) (omega arith) ∙ sym (getD-drop n d i 0));
+  rest =
+      ext-getD 0 (drop n d′) (drop n d) (length-drop n d′ ∙ ap (λ k. k - n) l ∙ sym (length-drop n d))
+      (λ i h. getD-drop n d′ i 0 ∙ f (n + i) (omega arith) ∙ sym (getD-drop n d i 0));
   long = l;
 }
 

@@ -14,7 +14,8 @@ use Rattle.laws.proofs.SearchLaws.{no-some}
 use Rattle.answer.specs.Limits.{maxComponents, maxRows, maxStates, maxClocks}
 use Rattle.model.specs.Model.{Comp, rowCount}
 use Rattle.model.specs.Text.{Kind, in-kind, out-kind, uin-kind, uout-kind}
-use Rattle.model.specs.Reading.{Entry, comp-entry, act-entry, clk-entry, row-entry, Progress, current, turn, outOfTurn, outOfRange, lacks, outOfOrder, tooMany, faultOf, guardOf, rowOf, takeIn}
+use Rattle.model.specs.Reading.{Entry, comp-entry, act-entry, clk-entry, row-entry, Progress, current, turn, outOfTurn, outOfRange, lacks, outOfOrder}
+use Rattle.model.specs.Reading.{tooMany, faultOf, guardOf, rowOf, takeIn}
 use Rattle.model.specs.Faulty.{GuardIs, InTurn, InRange, Room}
 use Rattle.model.proofs.Reading.Tests.{turn-decided, range-decided, below-decided, room-decided}
 use Rattle.fields.specs.Resets.{summary}
@@ -40,7 +41,8 @@ pub record Bounded (m : List Comp) : Type 0 where
   pub states : current (record { comps = m; last = none }) .states ≤ maxStates
 
 -- ---- a line without a fault
-none-of-five : (a b c d f : Bool) → orElse {A = ℕ} (when a 3) (orElse (when b 4) (orElse (when c 5) (orElse (when d 6) (when f 7)))) ≡ none → (a ≡ false) × (b ≡ false) × (f ≡ false)
+none-of-five : (a b c d f : Bool) → orElse {A = ℕ} (when a 3) (orElse (when b 4) (orElse (when c 5) (orElse (when d 6) (when f 7)))) ≡ none
+    → (a ≡ false) × (b ≡ false) × (f ≡ false)
 none-of-five true b c d f h = absurd (no-some h refl)
 none-of-five false true c d f h = absurd (no-some h refl)
 none-of-five false false true d f h = absurd (no-some h refl)
@@ -83,7 +85,8 @@ bounded-more (d ∷ cs) c (act-entry a uout-kind) b r f = record { components = 
 bounded-more [] c (clk-entry x v) b r f = b
 bounded-more (d ∷ cs) c (clk-entry x v) b r f = record { components = b .components; rows = b .rows; states = b .states }
 bounded-more [] c (row-entry s g a u t) b r f = b
-bounded-more (d ∷ cs) c (row-entry s g a u t) b r f = record { components = b .components; rows = omega (arith, length-append (d .rows) (rowOf s g a u t ∷ []), f); states = b .states }
+bounded-more (d ∷ cs) c (row-entry s g a u t) b r f =
+    record { components = b .components; rows = omega (arith, length-append (d .rows) (rowOf s g a u t ∷ []), f); states = b .states }
 
 pub bounded-next : (q : Progress) (e : Entry) → Bounded (q .comps) → faultOf q e ≡ none → Bounded (takeIn (q .comps) e)
 bounded-next q e b h = let w = good q e h in bounded-more (q .comps) (current q) e b (w .in-range) (w .room)
@@ -93,9 +96,11 @@ abbrev at : List Comp → Option Entry → Progress
 at m l = record { comps = m; last = l }
 
 module _ (t : List ℕ) (l : Option Entry) (s : ℕ) (g : Option ℕ) (x : ℕ) (r : List ℕ) (to : ℕ) where
-  row-fits : (m : List Comp) → Laid t m → Bounded m → 1 ≤ length m → s < current (at m l) .states → rowCount m < maxRows → Fits t (standing (at m l)) (lineOf (row-entry s g x r to))
+  row-fits : (m : List Comp) → Laid t m → Bounded m → 1 ≤ length m → s < current (at m l) .states → rowCount m < maxRows
+      → Fits t (standing (at m l)) (lineOf (row-entry s g x r to))
   row-fits [] a b n f room = absurd (omega arith)
-  row-fits (c ∷ cs) a b n f room = (a .long, (n, b .components), b .states, f, room, λ j h k. firsts-below t c cs a (b .states) room j (omega arith) (omega arith))
+  row-fits (c ∷ cs) a b n f room =
+      (a .long, (n, b .components), b .states, f, room, λ j h k. firsts-below t c cs a (b .states) room j (omega arith) (omega arith))
 
 pub line-fits : (t : List ℕ) (q : Progress) (e : Entry) → Laid t (q .comps) → Begun q → Bounded (q .comps) → faultOf q e ≡ none → Fits t (standing q) (lineOf e)
 line-fits t q (comp-entry n s) a g b h = let w = good q (comp-entry n s) h in (a .long, w .room, w .in-range .1, b .rows)
@@ -177,7 +182,8 @@ kept t t′ p (OfLine.Clk x b) f c = kept-on (joined-kept (c .declared) (omega (
     go false e = record { rest = ap (drop imageWords) e; long = ap length e }
 kept t t′ p (OfLine.Row s g a r to) f c =
     let ws = a ∷ guardNumber g ∷ r .set ∷ to ∷ [] in
-    rw (c .words) (kept-on (raised-kept (c .firsts) (omega (arith, f .1, f .2))) (sets-kept imageWords (c .mid) (rowsAt + rowWords * p .rows) ws (omega (arith, f .4))))
+    rw (c .words) (kept-on (raised-kept (c .firsts) (omega (arith, f .1, f .2))) (sets-kept imageWords (c .mid) (rowsAt + rowWords * p .rows) ws
+    (omega (arith, f .4))))
 
 pub rest-kept : (t t′ : List ℕ) (p : CodeProgress) (l : Line) → Fits t p l → Change t p l t′ → (drop imageWords t′ ≡ drop imageWords t) × (length t′ ≡ length t)
 rest-kept t t′ p l f c = let k = kept t t′ p l f c in (k .rest, k .long)

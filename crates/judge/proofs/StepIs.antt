@@ -2,30 +2,31 @@
 use mathlib.Core.Path.{_≡_, refl, sym, _∙_, ap}
 use mathlib.Core.Option.{Option, none, some}
 use mathlib.Core.Bool.{Bool, true, false, _&&_, not, cond}
-use mathlib.Core.List.{List, [], _∷_, _++_}
-use Prim.Native.Nat.{ℕ, zero, suc, _+_, _≤_}
+use mathlib.Core.List.{List, [], _∷_}
+use Prim.Native.Nat.{ℕ, suc, _+_, _≤_}
 use native.Mathlib.Numerals.{add-one}
 use native.Mathlib.Omega.{arith}
 use lib.ListN.{length, length-append}
 use lib.Dec.{eqb, ltb, leb}
-use lib.Bits.{bitOr}
-use borrow.Author.Tests.{lt-ltb, le-ltb, le-leb, lt-leb, ltb-true, ltb-false}
-use Rattle.laws.specs.Sets.{bit, has, _∪_, within, only}
+use borrow.Author.Tests.{le-leb, ltb-true}
+use Rattle.laws.specs.Sets.{has, _∪_, only}
 use Rattle.laws.specs.Search.{when, orElse}
 use Rattle.laws.proofs.SetLaws.{bit-or, bit-ext, or-assoc}
 use Rattle.laws.proofs.TestLaws.{and-true}
 use Rattle.answer.specs.Limits.{maxComponents, maxRows, maxStates, maxActions, maxClocks}
 use Rattle.model.specs.Model.{Row, Comp, acts, rowCount}
 use Rattle.model.specs.Text.{Kind, in-kind, out-kind, uin-kind, uout-kind}
-use Rattle.model.specs.WellFormed.{before}
-use Rattle.model.specs.Reading.{Entry, comp-entry, act-entry, clk-entry, row-entry, Progress, current, turn, outOfTurn, outOfRange, lacks, follows, outOfOrder, tooMany, faultOf, guardBelow, guardIn, guardOf, rowOf, allBelow, allIn, ascending, setOf, withAct, withClk, withRow, newComp, takeIn}
+use Rattle.model.specs.Reading.{Entry, comp-entry, act-entry, clk-entry, row-entry, Progress, current, turn, outOfTurn, outOfRange, lacks, follows}
+use Rattle.model.specs.Reading.{outOfOrder, tooMany, faultOf, guardBelow, guardIn, guardOf, rowOf, allBelow, allIn, ascending, withAct}
+use Rattle.model.specs.Reading.{withClk, withRow, newComp, takeIn}
 use Rattle.lines.specs.Lines.{lineOf, guardIs}
 use Rattle.fields.specs.Resets.{summary}
 use Rattle.judge.specs.declared.Key.{Key}
 use Rattle.judge.specs.declared.Progress.{Progress as CodeProgress}
 use Rattle.judge.specs.declared.Judged.{Judged}
 use Rattle.judge.specs.declared.Judged.the-variants.{Fault, Taken}
-use Rattle.judge.specs.Judged.{lastOf, lastPlain, keyOf, standing, after, guardNumber, keyBefore, inRange, guardNamed, named, compStep, actStep, clkStep, rowStep, stepOf}
+use Rattle.judge.specs.Judged.{lastOf, lastPlain, keyOf, standing, after, guardNumber, keyBefore, inRange, guardNamed, named, compStep, actStep}
+use Rattle.judge.specs.Judged.{clkStep, rowStep, stepOf}
 use Rattle.judge.proofs.SummaryLaws.{summary-clocks, summary-ascend, summary-set, within-all, and-one}
 
 -- what stands behind a line that is taken in
@@ -45,7 +46,8 @@ abbrev chain : Bool → Bool → Bool → Bool → Bool → Judged → Judged
 chain t r n o m x = cond t (Fault 3) (cond r (cond n (cond o (cond m (Fault 7) x) (Fault 6)) (Fault 5)) (Fault 4))
 
 chain-is : (t r n o m : Bool) (q : Progress)
-    → chain t r n o m (Taken (standing q)) ≡ judgedOf (orElse (when t 3) (orElse (when (not r) 4) (orElse (when (not n) 5) (orElse (when (not o) 6) (when m 7))))) q
+    → chain t r n o m (Taken (standing q)) ≡ judgedOf
+    (orElse (when t 3) (orElse (when (not r) 4) (orElse (when (not n) 5) (orElse (when (not o) 6) (when m 7))))) q
 chain-is true r n o m q = refl
 chain-is false false n o m q = refl
 chain-is false true false o m q = refl
@@ -54,7 +56,8 @@ chain-is false true true true true q = refl
 chain-is false true true true false q = refl
 
 -- where a line is out of range nothing further is asked of it
-chain-same : (t r n o m n′ o′ : Bool) (x x′ : Judged) → (r ≡ true → n′ ≡ n) → (r ≡ true → o′ ≡ o) → (t ≡ false → r ≡ true → x′ ≡ x) → chain t r n′ o′ m x′ ≡ chain t r n o m x
+chain-same : (t r n o m n′ o′ : Bool) (x x′ : Judged) → (r ≡ true → n′ ≡ n) → (r ≡ true → o′ ≡ o) → (t ≡ false → r ≡ true → x′ ≡ x)
+    → chain t r n′ o′ m x′ ≡ chain t r n o m x
 chain-same true r n o m n′ o′ x x′ f g h = refl
 chain-same false false n o m n′ o′ x x′ f g h = refl
 chain-same false true n o m n′ o′ x x′ f g h =
@@ -244,7 +247,8 @@ module _ (m : List Comp) (l : Option Entry) where
       chain-same (ltb 1 (lastOf l .turn)) (ltb a maxActions) true (after (lastOf l) 1 a) false true (after (lastOf l) 1 a)
       (Taken (standing (next (at m l) (act-entry a k)))) (Taken (withAction (standing (at m l)) a))
       (λ _. refl) (λ _. refl) (λ h _. ap Taken (act-taken m l a k (begun 1 l m refl b h)))
-      ∙ rw (e, turn-act l a k) (chain-is (outOfTurn l (act-entry a k)) (ltb a maxActions) true (follows l (act-entry a k) && true) false (next (at m l) (act-entry a k)))
+      ∙ rw (e, turn-act l a k) (chain-is (outOfTurn l (act-entry a k)) (ltb a maxActions) true (follows l (act-entry a k) && true) false
+      (next (at m l) (act-entry a k)))
 
   clk-is : (x b : ℕ) → Begun (at m l) → clkStep (standing (at m l)) x b ≡ judgedOf (faultOf (at m l) (clk-entry x b)) (next (at m l) (clk-entry x b))
   unfolding clkStep faultOf outOfRange lacks outOfOrder tooMany
@@ -299,13 +303,15 @@ module _ (m : List Comp) (l : Option Entry) where
     unfolding rowStep faultOf outOfRange lacks outOfOrder tooMany
     row-is b =
         rw range-is
-        (chain-same (ltb 3 (lastOf l .turn)) ranged (guardIn k g && (has (acts (current (at m l))) a && allIn k r)) (follows l e && ascending r) (leb maxRows (rowCount m))
+        (chain-same (ltb 3 (lastOf l .turn)) ranged (guardIn k g && (has (acts (current (at m l))) a && allIn k r)) (follows l e && ascending r)
+        (leb maxRows (rowCount m))
         (named (standing (at m l)) key) (ordered key)
         (Taken (standing (next (at m l) e))) (Taken (withKey (standing (at m l)) key))
         named-is order-is
         (λ h c. ap (λ q. Taken (withKey (standing (at m l)) q)) (key-is c) ∙ ap Taken (row-taken m l s g a r t (begun 3 l m refl b h)))
         ∙ rw (turn-row l s g a r t)
-        (chain-is (outOfTurn l e) ranged (guardIn k g && (has (acts (current (at m l))) a && allIn k r)) (follows l e && ascending r) (leb maxRows (rowCount m)) (next (at m l) e)))
+        (chain-is (outOfTurn l e) ranged (guardIn k g && (has (acts (current (at m l))) a && allIn k r)) (follows l e && ascending r)
+        (leb maxRows (rowCount m)) (next (at m l) e)))
 
 -- judging a line by what the code keeps is judging it by the definition
 pub step-is : (q : Progress) (e : Entry) → Begun q → stepOf (standing q) (lineOf e) ≡ judgedOf (faultOf q e) (next q e)

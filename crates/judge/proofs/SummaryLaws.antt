@@ -7,7 +7,7 @@ use Prim.Native.Nat.{ℕ}
 use native.Mathlib.Omega.{arith}
 use lib.Dec.{ltb}
 use lib.Bits.{bitOr}
-use Rattle.laws.specs.Sets.{has, _∪_, within, only, _∈_, _⊆_}
+use Rattle.laws.specs.Sets.{has, _∪_, within, only, _⊆_}
 use Rattle.laws.proofs.SetLaws.{bit-or, bit-ext, bit-above, or-assoc, in-or, or-in-l, or-in-r, in-one, one-in, none-in, within-true, true-within}
 use Rattle.laws.proofs.TestLaws.{and-true}
 use Rattle.answer.specs.Limits.{maxClocks}

@@ -1,16 +1,15 @@
 -- The rows and the bytes of a repaired model: those of the model, and those of the rows that were added.
-use mathlib.Core.Path.{_≡_, refl, sym, _∙_, ap, ap₂}
-use mathlib.Core.Logic.{inl, ⊎-elim}
+use mathlib.Core.Path.{_≡_, refl, sym, _∙_, ap}
 use mathlib.Core.Bool.{Bool, true, false, cond}
 use mathlib.Core.List.{List, [], _∷_, _++_, List·Memᴰ as In}
-use Prim.Native.Nat.{ℕ, zero, suc, _+_, _*_, _≤_, _<_}
+use Prim.Native.Nat.{ℕ, zero, suc, _+_, _≤_, _<_}
 use native.Mathlib.Omega.{arith}
 use lib.ListN.{length, length-append}
 use Rattle.laws.specs.Fold.{tab, spread}
 use Rattle.laws.proofs.ListLaws.{at-in, in-spread, spread-in, pairwise-spread}
 use Rattle.answer.specs.Limits.{maxActions}
 use Rattle.model.specs.Model.{Row, Comp, Model, noRow, compAt, rowCount}
-use Rattle.model.specs.Text.{rowLine, rowLines, compText, textOf}
+use Rattle.model.specs.Text.{rowLines, compText, textOf}
 use Rattle.model.specs.WellFormed.{WellComp, WellFormed}
 use Rattle.iosa.specs.Checks.{lacksRow}
 use Rattle.merged.specs.Merge.{rowsBy}

@@ -1,8 +1,8 @@
 -- The inputs that a state of a table lacks, as a set: its members are the actions without a row, so the cells of a table are those of its model.
-use mathlib.Core.Path.{_≡_, refl, sym, _∙_, ap}
+use mathlib.Core.Path.{_≡_, sym, _∙_, ap}
 use mathlib.Core.Bool.{Bool, _&&_, not, cond}
 use mathlib.Core.List.{List, [], _∷_}
-use Prim.Native.Nat.{ℕ, suc, _+_, _-_, _<_}
+use Prim.Native.Nat.{ℕ, suc, _-_, _<_}
 use native.Mathlib.Omega.{arith}
 use native.Mathlib.Decide.{ℕ-discrete}
 use lib.ListN.{length}
@@ -17,7 +17,7 @@ use Rattle.laws.proofs.TabLaws.{spread-same}
 use Rattle.laws.proofs.TestLaws.{not-so}
 use Rattle.laws.proofs.UnionLaws.{has-joined}
 use Rattle.answer.specs.Limits.{maxActions}
-use Rattle.model.specs.Model.{compAt, inputs}
+use Rattle.model.specs.Model.{compAt}
 use Rattle.iosa.specs.Checks.{rowFor, lacksRow}
 use Rattle.layout.specs.Layout.{countOf, blockWord, firstOf, actionAt}
 use Rattle.layout.specs.Image.{compOf, rowIn, modelOf}

@@ -1,9 +1,9 @@
 -- A repaired model: component by component; a model that a text can state where it is small; never 12; and a second repair adds nothing.
-use mathlib.Core.Path.{_≡_, refl, sym, _∙_, ap, ap₂}
-use mathlib.Core.Logic.{_⊎_, inl, inr, ⊎-elim, _↔_}
+use mathlib.Core.Path.{_≡_, refl, sym, _∙_, ap}
+use mathlib.Core.Logic.{inl, ⊎-elim, _↔_}
 use mathlib.Core.Bool.{Bool, true, false, cond, true≢false}
-use mathlib.Core.Option.{Option, none, some, Option·some-inj}
-use mathlib.Core.List.{List, [], _∷_, _++_, map, List·Memᴰ as In, List·Memᴰ·not-nil as in-none}
+use mathlib.Core.Option.{some, Option·some-inj}
+use mathlib.Core.List.{List, [], _∷_, map, List·Memᴰ as In, List·Memᴰ·not-nil as in-none}
 use Prim.Native.Nat.{ℕ, zero, suc, _+_, _≤_, _<_}
 use native.Mathlib.Omega.{arith}
 use native.Mathlib.Decide.{decLt}
@@ -14,11 +14,11 @@ use Rattle.laws.proofs.FoldLaws.{tab-length, tab-at}
 use Rattle.laws.proofs.TabLaws.{spread-same}
 use Rattle.laws.proofs.GrowLaws.{spread-none}
 use Rattle.laws.proofs.TestLaws.{not-so}
-use Rattle.laws.proofs.ListLaws.{in-at, in-spread, spread-in, Pairwise, pairwise-spread, pairwise-next, pairwise-from}
+use Rattle.laws.proofs.ListLaws.{in-spread, spread-in, Pairwise, pairwise-spread, pairwise-next, pairwise-from}
 use Rattle.answer.specs.Limits.{maxActions}
 use Rattle.answer.specs.Told.{Told, tell}
-use Rattle.model.specs.Model.{Row, Comp, Model, noComp, compAt}
-use Rattle.model.specs.WellFormed.{lower, WellComp, WellFormed}
+use Rattle.model.specs.Model.{Comp, Model, noComp, compAt}
+use Rattle.model.specs.WellFormed.{lower, WellFormed}
 use Rattle.iosa.specs.Checks.{lacksRow, componentOf, acceptOf}
 use Rattle.iosa.specs.Faults.{Broken12, FaultAt, guarded, repeated, lacking, doubled, inactive, Fault, inside, output-shared, clock-shared, urgency-differs}
 use Rattle.iosa.proofs.Acceptance.Order.{lower-irreflexive, lower-transitive, lower-less, lower-same}
@@ -27,7 +27,7 @@ use Rattle.iosa.proofs.Acceptance.Check12.{lack-broken, broken-lack}
 use Rattle.iosa.proofs.Acceptance.Refused.{refused-exactly, component-refused-exactly}
 use Rattle.iosa.proofs.Acceptance.InHalves.{nowhere-25}
 use Rattle.lacking.specs.Repair.{repaired, repairedOf, cell, cellAt, cellsOf, addedTo}
-use Rattle.lacking.specs.Repaired.{RepairedComp, Added, Mended, MendedAs, Small}
+use Rattle.lacking.specs.Repaired.{Added, Mended, MendedAs, Small}
 use Rattle.lacking.proofs.SameMembers.{same-ascending}
 use Rattle.lacking.proofs.RepairedRows.{in-when, when-in, repaired-as, only-repaired, repaired-well, none-lacked}
 
@@ -137,8 +137,7 @@ module _ (m : Model) (w : WellFormed m) where
           state = q .0;
           action = q .1;
           inside = omega (arith, p .2);
-          lacked =
-              lack-broken (compAt m (p .0)) (q .0) (q .1) (q .2) (q .3);
+          lacked = lack-broken (compAt m (p .0)) (q .0) (q .1) (q .2) (q .3);
           bytes = q .4;
         },
     λ r.

@@ -1,20 +1,18 @@
 -- The rows of a repaired component: all old rows, and a self-loop exactly where an input lacked a row; they ascend.
-use mathlib.Core.Path.{_≡_, refl, sym, _∙_, ap, ap₂}
+use mathlib.Core.Path.{_≡_, refl, sym, _∙_, ap}
 use mathlib.Core.Logic.{_⊎_, inl, inr, ⊎-elim, _↔_}
 use mathlib.Core.Bool.{Bool, true, false, cond, true≢false, false≢true}
 use mathlib.Core.Option.{Option, none, some}
-use mathlib.Core.List.{List, [], _∷_, _++_, List·Memᴰ as In, List·Memᴰ·head as here, List·Memᴰ·tail as there, List·Memᴰ·not-nil as in-none, List·Memᴰ·append-cases as append-cases, Memᴰ·append-left as in-left, Memᴰ·append-right as in-right}
-use Prim.Native.Nat.{ℕ, zero, suc, _+_, _≤_, _<_}
+use mathlib.Core.List.{List, [], _∷_, _++_, List·Memᴰ as In, List·Memᴰ·head as here, List·Memᴰ·tail as there, List·Memᴰ·not-nil as in-none}
+use mathlib.Core.List.{List·Memᴰ·append-cases as append-cases, Memᴰ·append-left as in-left, Memᴰ·append-right as in-right}
+use Prim.Native.Nat.{ℕ, _<_}
 use native.Mathlib.Omega.{arith}
-use lib.ListN.{length}
-use Rattle.laws.specs.Sets.{_∈_}
 use Rattle.laws.specs.Fold.{spread}
 use Rattle.laws.proofs.SetLaws.{or-in-l, none-in}
-use Rattle.laws.proofs.ListLaws.{in-at, at-in, in-spread, spread-in, Pairwise, pairwise-append, pairwise-spread, pairwise-next, pairwise-from}
+use Rattle.laws.proofs.ListLaws.{in-at, at-in, in-spread, spread-in, pairwise-spread, pairwise-next, pairwise-from}
 use Rattle.answer.specs.Limits.{maxActions}
-use Rattle.model.specs.Model.{Row, Comp, noRow, rowAt, inputs, outputs, acts}
+use Rattle.model.specs.Model.{Row, Comp, noRow, rowAt, inputs, outputs}
 use Rattle.model.specs.WellFormed.{before, WellRow, WellComp}
-use Rattle.iosa.specs.Automaton.{Leads}
 use Rattle.iosa.specs.Checks.{rowFor, lacksRow}
 use Rattle.iosa.specs.Faults.{Broken12}
 use Rattle.merged.specs.Merge.{rowsBy}
@@ -105,8 +103,7 @@ module _ (c : Comp) where
             (λ l. let e = missing-in (p .0) (q .0) l in inr (record {
               state = p .0;
               action = q .0;
-              lacked =
-                  lack-broken c (p .0) (q .0) (omega (arith, p .2)) (e .0);
+              lacked = lack-broken c (p .0) (q .0) (omega (arith, p .2)) (e .0);
               row = e .1;
             }))
             (λ l. inl (rows-by-in (c .rows) (p .0) (q .0) l .0)) (append-cases (missingAt c (p .0) (q .0)) (q .3))

@@ -66,7 +66,8 @@ module _ {A : Type 0} where
   spread-same f g k (suc n) h = ap₂ {C = List A} (λ x y. x ++ y) (h k) (spread-same f g (suc k) n h)
 
   -- a list l at the place a, above which and at which f has nothing: it comes last
-  pub spread-added : (f g : ℕ → List A) (l : List A) (a k n : ℕ) → k ≤ a → a < k + n → ((j : ℕ) → a ≤ j → f j ≡ []) → g a ≡ l → ((j : ℕ) → (j ≡ a → ⊥) → g j ≡ f j)
+  pub spread-added : (f g : ℕ → List A) (l : List A) (a k n : ℕ) → k ≤ a → a < k + n → ((j : ℕ) → a ≤ j → f j ≡ []) → g a ≡ l
+      → ((j : ℕ) → (j ≡ a → ⊥) → g j ≡ f j)
       → spread g k n ≡ spread f k n ++ l
   spread-added f g l a k zero p q none here there = absurd (omega arith)
   spread-added f g l a k (suc n) p q none here there = by-cases (ℕ-discrete k a)

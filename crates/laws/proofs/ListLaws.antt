@@ -1,7 +1,9 @@
 -- Laws of lists: their members, lists in which every earlier member stands in a relation to every later one, and lists put together.
 use mathlib.Core.Path.{_≡_, refl, sym, _∙_, ap}
 use mathlib.Core.Logic.{_⊎_, inl, inr, ⊎-elim}
-use mathlib.Core.List.{List, [], _∷_, _++_, map, reverseAux, List·Memᴰ as In, List·Memᴰ·head as here, List·Memᴰ·tail as there, List·Memᴰ·not-nil as in-none, List·Memᴰ·append-cases as append-cases, Memᴰ·append-left as in-left, Memᴰ·append-right as in-right}
+use mathlib.Core.List.{List, [], _∷_, _++_, map, reverseAux, List·Memᴰ as In, List·Memᴰ·head as here, List·Memᴰ·tail as there}
+use mathlib.Core.List.{List·Memᴰ·not-nil as in-none, List·Memᴰ·append-cases as append-cases, Memᴰ·append-left as in-left}
+use mathlib.Core.List.{Memᴰ·append-right as in-right}
 use Prim.Native.Nat.{ℕ, zero, suc, _+_, _-_, _≤_, _<_}
 use native.Mathlib.Omega.{arith}
 use native.Mathlib.Decide.{ℕ-discrete}
@@ -55,7 +57,8 @@ Pairwise {A} R (x ∷ xs) = ((y : A) → In y xs → R x y) × Pairwise R xs
 module _ {A : Type 0} (R : A → A → Type 0) where
   pub pairwise-append : (xs ys : List A) → Pairwise R xs → Pairwise R ys → ((x y : A) → In x xs → In y ys → R x y) → Pairwise R (xs ++ ys)
   pairwise-append [] ys p q h = q
-  pairwise-append (x ∷ xs) ys p q h = (λ y m. ⊎-elim (p .0 y) (h x y (here refl)) (append-cases xs m), pairwise-append xs ys (p .1) q (λ z y m. h z y (there m)))
+  pairwise-append (x ∷ xs) ys p q h =
+      (λ y m. ⊎-elim (p .0 y) (h x y (here refl)) (append-cases xs m), pairwise-append xs ys (p .1) q (λ z y m. h z y (there m)))
 
   pub pairwise-spread : (f : ℕ → List A) (k n : ℕ) → ((j : ℕ) → k ≤ j → j < k + n → Pairwise R (f j))
       → ((i j : ℕ) (x y : A) → k ≤ i → i < j → j < k + n → In x (f i) → In y (f j) → R x y) → Pairwise R (spread f k n)
@@ -66,11 +69,13 @@ module _ {A : Type 0} (R : A → A → Type 0) where
       (λ x y m l. let r = spread-in f (suc k) n l in h k (r .0) x y (omega arith) (r .1) (omega (arith, r .2)) m (r .3))
 
   -- what holds of neighbours holds of all, if R goes on from one to the next
-  pub pairwise-from : (d : A) → ((x y z : A) → R x y → R y z → R x z) → (xs : List A) → ((k : ℕ) → suc k < length xs → R (getD xs k d) (getD xs (suc k) d)) → Pairwise R xs
+  pub pairwise-from : (d : A) → ((x y z : A) → R x y → R y z → R x z) → (xs : List A)
+      → ((k : ℕ) → suc k < length xs → R (getD xs k d) (getD xs (suc k) d)) → Pairwise R xs
   pairwise-from d tr [] h = tt
   pairwise-from d tr (x ∷ xs) h = go xs (λ k q. h (suc k) (omega arith)) (pairwise-from d tr xs (λ k q. h (suc k) (omega arith))) (h 0)
     where
-      go : (ys : List A) → ((k : ℕ) → suc k < length ys → R (getD ys k d) (getD ys (suc k) d)) → Pairwise R ys → (1 < suc (length ys) → R x (getD ys 0 d)) → Pairwise R (x ∷ ys)
+      go : (ys : List A) → ((k : ℕ) → suc k < length ys → R (getD ys k d) (getD ys (suc k) d)) → Pairwise R ys
+          → (1 < suc (length ys) → R x (getD ys 0 d)) → Pairwise R (x ∷ ys)
       go [] g p e = (λ y m. absurd (in-none m), tt)
       go (y ∷ ys) g p e = (λ z m. first z m, p)
         where
@@ -119,7 +124,8 @@ module _ {A : Type 0} (d x : A) (l : List A) (i : ℕ) (h : suc i < length l) wh
   joined-after j q =
       let e : j ≡ length (take i l) + suc (j - suc i) = omega (arith, front) in
       let f : suc (suc i) + (j - suc i) ≡ suc j = omega arith in
-      ap (λ n. getD joinedAt n d) e ∙ getD-append-add (take i l) (x ∷ drop (suc (suc i)) l) (suc (j - suc i)) d ∙ getD-drop (suc (suc i)) l (j - suc i) d ∙ ap (λ n. getD l n d) f
+      ap (λ n. getD joinedAt n d) e ∙ getD-append-add (take i l) (x ∷ drop (suc (suc i)) l) (suc (j - suc i)) d ∙ getD-drop (suc (suc i)) l
+      (j - suc i) d ∙ ap (λ n. getD l n d) f
 
   -- a count over the list, of f for each element
   pub joined-count : (f : A → ℕ) (count : List A → ℕ) → ((x : A) (xs : List A) → count (x ∷ xs) ≡ f x + count xs)

@@ -13,7 +13,8 @@ pub record Minimal (f : ℕ → Bool) (under : ℕ → ℕ → Bool) (n x : ℕ)
   pub here : f x ≡ true
   pub least : (y : ℕ) → y < n → f y ≡ true → under y x ≡ false
 
-module _ (f : ℕ → Bool) (under : ℕ → ℕ → Bool) (irr : (x : ℕ) → under x x ≡ false) (tr : (x y z : ℕ) → under x y ≡ true → under y z ≡ true → under x z ≡ true) where
+module _ (f : ℕ → Bool) (under : ℕ → ℕ → Bool) (irr : (x : ℕ) → under x x ≡ false) (tr : (x y z : ℕ) → under x y ≡ true → under y z ≡ true
+    → under x z ≡ true) where
   -- no number below n has the test, or one is minimal
   None : ℕ → Type 0
   None n = (k : ℕ) → k < n → f k ≡ false

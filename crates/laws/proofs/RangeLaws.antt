@@ -75,7 +75,8 @@ module _ {A : Type 0} where
 
 -- ---- ranges one after the other, from p 0 to p n
 module _ {A : Type 0} (g : ℕ → A → A) (p : ℕ → ℕ) where
-  nest-from : (n s : ℕ) (x : A) → ((u : ℕ) → s ≤ u → u < s + n → p u ≤ p (suc u)) → (p s ≤ p (s + n)) × (overFrom (λ u. over g (p u) (p (suc u))) n s x ≡ over g (p s) (p (s + n)) x)
+  nest-from : (n s : ℕ) (x : A) → ((u : ℕ) → s ≤ u → u < s + n → p u ≤ p (suc u))
+      → (p s ≤ p (s + n)) × (overFrom (λ u. over g (p u) (p (suc u))) n s x ≡ over g (p s) (p (s + n)) x)
   unfolding overFrom
   nest-from zero s x up =
       let e : s + 0 ≡ s = omega arith in
@@ -120,11 +121,13 @@ module _ {A B : Type 0} (g : A → B → B) where
       ∙ spread-still h (suc k) n (folded g (h k) x) (λ j y p q. e j y (omega arith) (omega arith))
       ∙ e k x (omega arith) (omega arith)
 
-  pub folded-spread : (h : ℕ → List A) (k n s : ℕ) (x : B) → k ≤ s → s < k + n → ((j : ℕ) (y : B) → (j ≡ s → ⊥) → folded g (h j) y ≡ y) → folded g (spread h k n) x ≡ folded g (h s) x
+  pub folded-spread : (h : ℕ → List A) (k n s : ℕ) (x : B) → k ≤ s → s < k + n → ((j : ℕ) (y : B) → (j ≡ s → ⊥) → folded g (h j) y ≡ y)
+      → folded g (spread h k n) x ≡ folded g (h s) x
   folded-spread h k zero s x p q e = absurd (omega arith)
   folded-spread h k (suc n) s x p q e = folded-append (h k) (spread h (suc k) n) x ∙ go (ℕ-discrete k s) (λ a b. folded-spread h (suc k) n s x a b e)
     where
-      go : Dec (k ≡ s) → (suc k ≤ s → s < suc k + n → folded g (spread h (suc k) n) x ≡ folded g (h s) x) → folded g (spread h (suc k) n) (folded g (h k) x) ≡ folded g (h s) x
+      go : Dec (k ≡ s) → (suc k ≤ s → s < suc k + n → folded g (spread h (suc k) n) x ≡ folded g (h s) x)
+          → folded g (spread h (suc k) n) (folded g (h k) x) ≡ folded g (h s) x
       go (yes w) ih = spread-still h (suc k) n (folded g (h k) x) (λ j y a b. e j y (λ v. omega arith)) ∙ ap (λ j. folded g (h j) x) w
       go (no w) ih = rw (e k x w) (ih (omega arith) (omega arith))
 
@@ -158,7 +161,8 @@ module _ {A : Type 0} where
   keep-first f zero k = refl
   keep-first f (suc n) k = go (f k) (keep-first f n (suc k))
     where
-      go : (o : Option A) → overFrom (keep f) n (suc k) none ≡ firstFrom f n (suc k) → overFrom (keep f) n (suc k) o ≡ (elim o as (λ p. Option A) [ none ↦ firstFrom f n (suc k) | some x ↦ some x ])
+      go : (o : Option A) → overFrom (keep f) n (suc k) none ≡ firstFrom f n (suc k) → overFrom (keep f) n (suc k) o
+          ≡ (elim o as (λ p. Option A) [ none ↦ firstFrom f n (suc k) | some x ↦ some x ])
       go none e = e
       go (some x) e = keep-some f n (suc k) x
 
@@ -211,7 +215,8 @@ some-map g none = refl
 some-map g (some x) = refl
 
 -- whether there is one does not depend on what is answered
-pub seek-any : {A B : Type 0} (p : ℕ → Bool) (g : ℕ → A) (h : ℕ → B) (lo hi : ℕ) → isSome (seek (λ k. when (p k) (g k)) lo hi) ≡ isSome (seek (λ k. when (p k) (h k)) lo hi)
+pub seek-any : {A B : Type 0} (p : ℕ → Bool) (g : ℕ → A) (h : ℕ → B) (lo hi : ℕ) → isSome (seek (λ k. when (p k) (g k)) lo hi)
+    ≡ isSome (seek (λ k. when (p k) (h k)) lo hi)
 seek-any p g h lo hi =
     ap isSome (seek-map p g lo hi)
     ∙ some-map g (seek (λ k. when (p k) k) lo hi)
@@ -232,6 +237,7 @@ map-seek {A} {B} g f lo hi = from (hi - lo) lo
     from (suc n) k = go (f k) (from n (suc k))
       where
         go : (o : Option A) → mapSome g (firstFrom f n (suc k)) ≡ firstFrom (λ k. mapSome g (f k)) n (suc k)
-            → mapSome g (elim o as (λ p. Option A) [ none ↦ firstFrom f n (suc k) | some x ↦ some x ]) ≡ (elim (mapSome g o) as (λ p. Option B) [ none ↦ firstFrom (λ k. mapSome g (f k)) n (suc k) | some x ↦ some x ])
+            → mapSome g (elim o as (λ p. Option A) [ none ↦ firstFrom f n (suc k) | some x ↦ some x ])
+            ≡ (elim (mapSome g o) as (λ p. Option B) [ none ↦ firstFrom (λ k. mapSome g (f k)) n (suc k) | some x ↦ some x ])
         go none e = e
         go (some x) e = refl

@@ -22,7 +22,8 @@ module _ {A : Type 0} (f : ℕ → Option A) where
   first-some zero k x e = absurd (no-some refl e)
   first-some (suc n) k x e = go (first-some n (suc k) x) (f k) refl e
     where
-      go : (firstFrom f n (suc k) ≡ some x → Found f (suc k) (suc k + n) x) → (o : Option A) → f k ≡ o → Else o (firstFrom f n (suc k)) ≡ some x → Found f k (k + suc n) x
+      go : (firstFrom f n (suc k) ≡ some x → Found f (suc k) (suc k + n) x) → (o : Option A) → f k ≡ o → Else o (firstFrom f n (suc k)) ≡ some x
+          → Found f k (k + suc n) x
       go ih (some y) h e = record { place = k; from = omega arith; below = omega arith; here = h ∙ e; least = λ j p q. absurd (omega arith) }
       go ih none h e =
           let r = ih e in
@@ -39,7 +40,8 @@ module _ {A : Type 0} (f : ℕ → Option A) where
   first-none zero k e j p q = absurd (omega arith)
   first-none (suc n) k e j p q = go (first-none n (suc k)) (f k) refl e
     where
-      go : (firstFrom f n (suc k) ≡ none → (i : ℕ) → suc k ≤ i → i < suc k + n → f i ≡ none) → (o : Option A) → f k ≡ o → Else o (firstFrom f n (suc k)) ≡ none → f j ≡ none
+      go : (firstFrom f n (suc k) ≡ none → (i : ℕ) → suc k ≤ i → i < suc k + n → f i ≡ none) → (o : Option A) → f k ≡ o
+          → Else o (firstFrom f n (suc k)) ≡ none → f j ≡ none
       go ih (some y) h e = absurd (no-some refl (sym e))
       go ih none h e = elim (ℕ-discrete j k) [ yes w ↦ ap f w ∙ h | no w ↦ ih e j (omega arith) (omega arith) ]
 
@@ -149,10 +151,21 @@ pub least-some : (f : ℕ → Bool) (n k : ℕ) → least f n ≡ some k → Lea
 least-some f n k e =
     let p = seek-some (λ k. when (f k) k) 0 n k e in
     let w = when-some (f (p .place)) (p .place) (p .here) in
-    record { below = omega (arith, w .1, p .below); here = rw (w .1) at (w .0); before = λ j h. when-none (f j) j (p .least j (omega arith) (omega (arith, w .1))) }
+    record {
+      below = omega (arith, w .1, p .below);
+      here = rw (w .1) at (w .0);
+      before = λ j h. when-none (f j) j (p .least j (omega arith) (omega (arith, w .1)));
+    }
 
 pub some-least : (f : ℕ → Bool) (n k : ℕ) → Least f n k → least f n ≡ some k
-some-least f n k l = some-seek (λ k. when (f k) k) 0 n (record { place = k; from = omega arith; below = l .below; here = rw (l .here); least = λ j p q. rw (l .before j q) })
+some-least f n k l =
+    some-seek (λ k. when (f k) k) 0 n (record {
+      place = k;
+      from = omega arith;
+      below = l .below;
+      here = rw (l .here);
+      least = λ j p q. rw (l .before j q);
+    })
 
 pub any-true : (f : ℕ → Bool) (n : ℕ) → any f n ≡ true → (k : ℕ) × (k < n) × (f k ≡ true)
 any-true f n e = go (least f n) refl e
@@ -216,7 +229,9 @@ module _ {A : Type 0} (f : ℕ → ℕ → Bool) (x : ℕ → ℕ → A) (n m : 
     place = s;
     from = omega arith;
     below = l .first;
-    here = some-seek (λ a. when (f s a) (x s a)) 0 m (record { place = a; from = omega arith; below = l .second; here = rw (l .here); least = λ b p q. rw (l .before b q) });
+    here =
+        some-seek (λ a. when (f s a) (x s a)) 0 m
+        (record { place = a; from = omega arith; below = l .second; here = rw (l .here); least = λ b p q. rw (l .before b q) });
     least = λ t p q. none-seek (λ a. when (f t a) (x t a)) 0 m (λ b u v. rw (l .lower t b q v));
   })
 

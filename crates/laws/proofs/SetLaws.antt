@@ -1,16 +1,18 @@
 -- Laws of sets as numbers: the digits of the operations, their members, and equality by members.
 use mathlib.Core.Path.{_≡_, refl, sym, _∙_, ap, ap₂}
-use mathlib.Core.Logic.{_↔_, _≢_, _⊎_, inl, inr, ⊎-elim, by-cases}
+use mathlib.Core.Logic.{_≢_, _⊎_, inl, inr, ⊎-elim, by-cases}
 use mathlib.Core.Bool.{Bool, true, false, _&&_, _||_, not, true≢false, false≢true}
-use Prim.Native.Nat.{ℕ, zero, suc, _+_, _-_, _*_, _/_, _%_, _^_, _≤_, _<_, min, max}
+use Prim.Native.Nat.{ℕ, zero, suc, _+_, _-_, _/_, _%_, _^_, _≤_, _<_, min, max}
 use native.Mathlib.Omega.{arith}
-use native.Mathlib.Nat.{div-one, mod-lt, div-div-eq-div-mul, div-eq-of-lt, div-self, mul-div-cancel, mul-mod-left, mod-eq-of-lt, pow-suc, lt-of-lt-of-le, pow-succ', le-refl, le-max-left, le-max-right}
-use lib.Arith.{bin-ind, half-le}
-use lib.Pow.{pow-mono, pow-lt, pow-pos, pow-add, shl-shr}
+use native.Mathlib.Nat.{div-one, div-div-eq-div-mul, div-eq-of-lt, div-self, mul-div-cancel, mul-mod-left, mod-eq-of-lt, pow-suc}
+use native.Mathlib.Nat.{lt-of-lt-of-le, pow-succ', le-max-left, le-max-right}
+use lib.Arith.{half-le}
+use lib.Pow.{pow-mono, pow-lt, pow-pos, pow-add}
 use native.Mathlib.Decide.{decLt, ℕ-discrete}
-use lib.Bits.{bitAnd, bitOr, bitXor, differ, and-step, or-step, xor-step, or-shr, and-shr, xor-shr, or-comm, and-comm, or-zero-r, and-zero-r, and-mask, and-le-l, and-le-r, or-add-and, xor-add-and}
+use lib.Bits.{bitAnd, bitOr, bitXor, differ, and-step, or-step, xor-step, or-shr, and-shr, xor-shr, or-comm, and-comm}
+use lib.Bits.{and-mask, and-le-l, and-le-r, or-add-and, xor-add-and}
 use lib.Dec.{eqb}
-use borrow.Author.Tests.{eqb-true, eq-eqb, ne-eqb, not-true}
+use borrow.Author.Tests.{eqb-true, eq-eqb, not-true}
 use Rattle.laws.proofs.TestLaws.{not-so, or-false, and-true}
 use Rattle.laws.specs.Sets.{bit, has, _∖_ as without, within, _∈_, _⊆_, Apart}
 
@@ -84,7 +86,9 @@ pub has-without : (s t x : ℕ) → has (without s t) x ≡ (has s x && not (has
 has-without s t x = rw bit-without (two (λ p q. eqb (p - q) 1 ≡ (eqb p 1 && not (eqb q 1))) refl refl refl refl (bit s x) (bit t x) (omega arith) (omega arith))
 
 pub has-ext : (s t : ℕ) → ((x : ℕ) → has s x ≡ has t x) → s ≡ t
-has-ext s t h = bit-ext s t (λ x. two (λ p q. eqb p 1 ≡ eqb q 1 → p ≡ q) (λ e. refl) (λ e. absurd (false≢true e)) (λ e. absurd (true≢false e)) (λ e. refl) (bit s x) (bit t x) (omega arith) (omega arith) (h x))
+has-ext s t h =
+    bit-ext s t (λ x. two (λ p q. eqb p 1 ≡ eqb q 1 → p ≡ q) (λ e. refl) (λ e. absurd (false≢true e)) (λ e. absurd (true≢false e)) (λ e. refl)
+    (bit s x) (bit t x) (omega arith) (omega arith) (h x))
 
 pub or-cases : (a b : Bool) → (a || b) ≡ true → (a ≡ true) ⊎ (b ≡ true)
 or-cases true b e = inl refl
@@ -195,7 +199,9 @@ without-lt k s t h = omega (arith, and-le-l s (bitXor s t))
 
 -- ---- sets regrouped
 pub or-regroup : (a b c d : ℕ) → bitOr (bitOr a b) (bitOr c d) ≡ bitOr (bitOr a c) (bitOr b d)
-or-regroup a b c d = or-assoc a b (bitOr c d) ∙ ap (bitOr a) (sym (or-assoc b c d) ∙ ap (λ n. bitOr n d) (or-comm b c) ∙ or-assoc c b d) ∙ sym (or-assoc a c (bitOr b d))
+or-regroup a b c d =
+    or-assoc a b (bitOr c d) ∙ ap (bitOr a) (sym (or-assoc b c d) ∙ ap (λ n. bitOr n d) (or-comm b c) ∙ or-assoc c b d)
+    ∙ sym (or-assoc a c (bitOr b d))
 
 pub without-or : (s t : ℕ) → bitOr (without s t) t ≡ bitOr s t
 without-or s t = has-ext (bitOr (without s t) t) (bitOr s t) (λ x. simp (has-or, has-without) (go (has s x) (has t x)))
@@ -211,8 +217,10 @@ without-regroup s t u v h = same-members (bitOr (without s t) (without u v)) (wi
   where
     to : bitOr (without s t) (without u v) ⊆ without (bitOr s u) (bitOr t v)
     to x m = ⊎-elim
-        (λ l. let p = in-without s t x l in without-in (bitOr s u) (bitOr t v) x (or-in-l s u x (p .0)) (or-not t v x (p .1) (not-so (has v x) (λ k. h x (or-in-l s t x (p .0)) (or-in-r u v x k)))))
-        (λ l. let p = in-without u v x l in without-in (bitOr s u) (bitOr t v) x (or-in-r s u x (p .0)) (or-not t v x (not-so (has t x) (λ k. h x (or-in-r s t x k) (or-in-l u v x (p .0)))) (p .1)))
+        (λ l. let p = in-without s t x l in without-in (bitOr s u) (bitOr t v) x (or-in-l s u x (p .0))
+        (or-not t v x (p .1) (not-so (has v x) (λ k. h x (or-in-l s t x (p .0)) (or-in-r u v x k)))))
+        (λ l. let p = in-without u v x l in without-in (bitOr s u) (bitOr t v) x (or-in-r s u x (p .0))
+        (or-not t v x (not-so (has t x) (λ k. h x (or-in-r s t x k) (or-in-l u v x (p .0)))) (p .1)))
         (in-or (without s t) (without u v) x m)
 
     from : without (bitOr s u) (bitOr t v) ⊆ bitOr (without s t) (without u v)

@@ -29,7 +29,8 @@ module _ (t : List ℕ) (i s : ℕ) (below : s < blockWord t i 0) where
   over-leaving g x still =
       over-list g noRow (compOf t i .rows) x
       ∙ folded-spread g (rowsLeaving t i) 0 (blockWord t i 0) s x (omega arith) (omega arith)
-      (λ j y ne. folded-tab g (rowIn t j) (firstOf t i j) (firstOf t i (suc j)) y ∙ over-still (λ r. g (rowIn t j r)) (firstOf t i j) (firstOf t i (suc j)) y (λ r z p q. still (rowIn t j r) z ne))
+      (λ j y ne. folded-tab g (rowIn t j) (firstOf t i j) (firstOf t i (suc j)) y ∙ over-still (λ r. g (rowIn t j r)) (firstOf t i j)
+      (firstOf t i (suc j)) y (λ r z p q. still (rowIn t j r) z ne))
       ∙ folded-tab g (rowIn t s) (firstOf t i s) (firstOf t i (suc s)) x
 
   -- a search for a row that leaves s
@@ -79,7 +80,8 @@ module _ (t : List ℕ) (i s : ℕ) (below : s < blockWord t i 0) where
   row-for a = row-by (λ r. eqb (r .action) a)
 
   -- the row that clock x guards
-  pub clock-row : (x : ℕ) → clockRow (compOf t i) s x ≡ mapSome (rowIn t s) (seek (λ r. when (eqb (guardAt t r) (suc x)) r) (firstOf t i s) (firstOf t i (suc s)))
+  pub clock-row : (x : ℕ) → clockRow (compOf t i) s x ≡ mapSome (rowIn t s) (seek (λ r. when (eqb (guardAt t r) (suc x)) r) (firstOf t i s)
+      (firstOf t i (suc s)))
   unfolding clockRow
   clock-row x = row-by (λ r. eqb (r .guard) (suc x))
 
@@ -103,4 +105,5 @@ module _ (t : List ℕ) (i s : ℕ) (below : s < blockWord t i 0) where
       sym (joined (compOf t i .rows) 0)
       ∙ sym (over-list (λ r y. y ∪ guards r) noRow (compOf t i .rows) 0)
       ∙ over-leaving (λ r y. y ∪ guards r) 0 (λ r y ne. rw (ne-eqb (r .from) s ne) (or-zero-r y))
-      ∙ over-ext (λ r y. y ∪ guards (rowIn t s r)) (λ r y. y ∪ guardSet (guardAt t r)) (firstOf t i s) (firstOf t i (suc s)) 0 (λ r y lo hi. rw (eq-eqb s s refl))
+      ∙ over-ext (λ r y. y ∪ guards (rowIn t s r)) (λ r y. y ∪ guardSet (guardAt t r)) (firstOf t i s) (firstOf t i (suc s)) 0
+      (λ r y lo hi. rw (eq-eqb s s refl))

@@ -41,7 +41,9 @@ row-of (c ∷ cs) r h = go (decLt r (length (c .rows))) (row-of cs (r - length (
   where
     go : Dec (r < length (c .rows)) → (r - length (c .rows) < rowCount cs → RowOf cs (r - length (c .rows))) → RowOf (c ∷ cs) r
     go (yes p) ih = record { comp = 0; row = r; inside = omega arith; below = p; place = omega arith }
-    go (no p) ih = let x = ih (omega arith) in record { comp = suc (x .comp); row = x .row; inside = omega (arith, x .inside); below = x .below; place = omega (arith, x .place) }
+    go (no p) ih =
+        let x = ih (omega arith) in
+        record { comp = suc (x .comp); row = x .row; inside = omega (arith, x .inside); below = x .below; place = omega (arith, x .place) }
 
 -- two tables that hold the words of one model
 module _ (m : Model) (t t′ : List ℕ) (a : Holds m t) (b : Holds m t′) where
@@ -53,7 +55,9 @@ module _ (m : Model) (t t′ : List ℕ) (a : Holds m t) (b : Holds m t′) wher
 
   row-same : (r v : ℕ) → r < maxRows → v < rowWords → rowWord t r v ≡ rowWord t′ r v
   row-same r v h q = elim (decLt r (rowCount m)) [
-    | yes p ↦ let x = row-of m r p in rw (x .place) (a .row (x .comp) (x .row) v (x .inside) (x .below) q ∙ sym (b .row (x .comp) (x .row) v (x .inside) (x .below) q))
+    | yes p ↦ let x =
+        row-of m r p in rw (x .place) (a .row (x .comp) (x .row) v (x .inside) (x .below) q
+        ∙ sym (b .row (x .comp) (x .row) v (x .inside) (x .below) q))
     | no p ↦ a .no-row r v (omega arith) h q ∙ sym (b .no-row r v (omega arith) h q)
   ]
 

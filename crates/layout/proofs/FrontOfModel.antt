@@ -67,23 +67,37 @@ module _ (t : List ℕ) (l : Laid t) (some : 1 ≤ countOf t) where
   laid-start zero h = sym (l .start)
   laid-start (suc i) h =
       let p : i < countOf t = omega arith in
-      omega
-      (arith, rows-next (modelOf t) i (omega (arith, model-length t)), laid-start i p, ap (λ c. length (c .rows)) (comp-at t i p), rows-to t i (upward i p), l .next i h)
+      omega (
+        arith,
+        rows-next (modelOf t) i (omega (arith, model-length t)),
+        laid-start i p,
+        ap (λ c. length (c .rows)) (comp-at t i p),
+        rows-to t i (upward i p),
+        l .next i h,
+      )
 
   -- and all of them
   pub laid-end : (i : ℕ) → suc i ≡ countOf t → rowCount (modelOf t) ≡ firstOf t i (blockWord t i 0)
   laid-end i e =
       let h : i < countOf t = omega arith in
       let f : take (suc i) (modelOf t) ≡ modelOf t = take-all (suc i) (modelOf t) (omega (arith, model-length t)) in
-      omega
-      (arith, ap rowCount f, rows-next (modelOf t) i (omega (arith, model-length t)), laid-start i h, ap (λ c. length (c .rows)) (comp-at t i h), rows-to t i (upward i h))
+      omega (
+        arith,
+        ap rowCount f,
+        rows-next (modelOf t) i (omega (arith, model-length t)),
+        laid-start i h,
+        ap (λ c. length (c .rows)) (comp-at t i h),
+        rows-to t i (upward i h),
+      )
 
   -- row k of component i
-  own-row : (i k v : ℕ) → i < countOf t → k < length (compOf t i .rows) → v < rowWords → rowWord t (firstOf t i 0 + k) v ≡ getD (wordsOf (rowAt (compOf t i) k)) v 0
+  own-row : (i k v : ℕ) → i < countOf t → k < length (compOf t i .rows) → v < rowWords → rowWord t (firstOf t i 0 + k) v
+      ≡ getD (wordsOf (rowAt (compOf t i) k)) v 0
   own-row i k v h p q =
       let x = range-of-row t i (upward i h) k p in
       let e : firstOf t i 0 + k - firstOf t i 0 ≡ k = omega arith in
-      let f : rowAt (compOf t i) k ≡ rowIn t (x .0) (firstOf t i 0 + k) = rw e at (row-of-range t i (upward i h) (x .0) (firstOf t i 0 + k) (x .1) (x .2) (x .3)) in
+      let f : rowAt (compOf t i) k ≡ rowIn t (x .0) (firstOf t i 0 + k) = rw e at (row-of-range t i (upward i h) (x .0) (firstOf t i 0 + k) (x .1)
+      (x .2) (x .3)) in
       row-own t (x .0) (firstOf t i 0 + k) v q ∙ ap (λ r. getD (wordsOf r) v 0) (sym f)
 
   -- it holds the words of its own model

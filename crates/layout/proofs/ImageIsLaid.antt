@@ -23,8 +23,14 @@ module _ (t : List ℕ) (im : Image t) where
   rows-last i e =
       let h : i < countOf t = omega arith in
       let f : take (suc i) (modelOf t) ≡ modelOf t = take-all (suc i) (modelOf t) (omega (arith, model-length t)) in
-      omega
-      (arith, ap rowCount f, rows-next (modelOf t) i (omega (arith, model-length t)), first-start t im i h, ap (λ c. length (c .rows)) (comp-at t i h), rows-end t im i h)
+      omega (
+        arith,
+        ap rowCount f,
+        rows-next (modelOf t) i (omega (arith, model-length t)),
+        first-start t im i h,
+        ap (λ c. length (c .rows)) (comp-at t i h),
+        rows-end t im i h,
+      )
 
   pub image-is-laid : Laid t
   image-is-laid = record {

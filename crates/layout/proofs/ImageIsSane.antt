@@ -76,7 +76,10 @@ module _ (t : List ℕ) (im : Image t) where
     ];
     firsts = λ i s h q. elim (decLt i (countOf t)) [
       | yes p ↦ firsts i s p q
-      | no p ↦ unfold firstOf in omega (arith, no-block (modelOf t) t (well-formed t im) (image-front t im) i (headWords + s) (omega (arith, model-length t)) h (omega arith))
+      | no p ↦ unfold firstOf in omega (
+        arith,
+        no-block (modelOf t) t (well-formed t im) (image-front t im) i (headWords + s) (omega (arith, model-length t)) h (omega arith),
+      )
     ];
   }
     where

@@ -7,7 +7,7 @@ use lib.Bits.{or-zero-l, or-zero-r}
 use Rattle.laws.specs.Sets.{_∪_}
 use Rattle.laws.specs.Fold.{overFrom, over, tab}
 use Rattle.laws.proofs.SetLaws.{or-assoc}
-use Rattle.model.specs.Model.{Comp, Model, declared}
+use Rattle.model.specs.Model.{Model, declared}
 use Rattle.iosa.specs.Start.{startedAll}
 use Rattle.layout.specs.Layout.{countOf, blockWord, joinedWord}
 use Rattle.layout.specs.Image.{compOf, modelOf}

@@ -1,7 +1,7 @@
 -- Rows ascend by action within the range of a state, so the first row with an action of a set has the lowest such action that leaves the state.
 use mathlib.Core.Path.{_≡_, refl, sym, _∙_, ap}
 use mathlib.Core.Option.{Option, none, some}
-use mathlib.Core.Bool.{Bool, true, false, _&&_, false≢true}
+use mathlib.Core.Bool.{true, false, false≢true}
 use mathlib.Core.List.{List}
 use Prim.Native.Nat.{ℕ, suc, _-_, _≤_, _<_}
 use native.Mathlib.Omega.{arith}
@@ -49,13 +49,16 @@ module _ (t : List ℕ) (im : Image t) (i s : ℕ) (h : i < countOf t) (below : 
   -- ---- the row by which an action leaves s
   pub row-for-some : (a : ℕ) → isSome (rowFor (compOf t i) s a) ≡ true → (r : ℕ) × InRange r × (actionAt t r ≡ a)
   row-for-some a e =
-      let o = is-some (seek (λ r. when (eqb (actionAt t r) a) r) (firstOf t i s) (firstOf t i (suc s))) (some-of (rowIn t s) (seek (λ r. when (eqb (actionAt t r) a) r) (firstOf t i s) (firstOf t i (suc s))) (ap isSome (sym (row-for t i s below a)) ∙ e)) in
+      let o = is-some (seek (λ r. when (eqb (actionAt t r) a) r) (firstOf t i s) (firstOf t i (suc s)))
+      (some-of (rowIn t s) (seek (λ r. when (eqb (actionAt t r) a) r) (firstOf t i s) (firstOf t i (suc s))) (ap isSome (sym (row-for t i s below a))
+      ∙ e)) in
       let f = seek-some (λ r. when (eqb (actionAt t r) a) r) (firstOf t i s) (firstOf t i (suc s)) (o .0) (o .1) in
       let w = when-some (eqb (actionAt t (f .place)) a) (f .place) (f .here) in
       (f .place, (f .from, f .below), eqb-true (actionAt t (f .place)) a (w .0))
 
   -- the first row with action a
-  pub row-for-first : (r : ℕ) → InRange r → ((q : ℕ) → firstOf t i s ≤ q → q < r → actionAt t q ≡ actionAt t r → ⊥) → rowFor (compOf t i) s (actionAt t r) ≡ some (rowIn t s r)
+  pub row-for-first : (r : ℕ) → InRange r → ((q : ℕ) → firstOf t i s ≤ q → q < r → actionAt t q ≡ actionAt t r → ⊥)
+      → rowFor (compOf t i) s (actionAt t r) ≡ some (rowIn t s r)
   row-for-first r p l =
       row-for t i s below (actionAt t r)
       ∙ ap (mapSome (rowIn t s)) (some-seek (λ q. when (eqb (actionAt t q) (actionAt t r)) q) (firstOf t i s) (firstOf t i (suc s)) (record {
@@ -71,7 +74,8 @@ module _ (t : List ℕ) (im : Image t) (i s : ℕ) (h : i < countOf t) (below : 
     pub lowest-none : firstBy t i s S ≡ none → least (leavesBy t i s S) maxActions ≡ none
     lowest-none e = none-least (leavesBy t i s S) maxActions (λ a p. and-not-both (has S a) (isSome (rowFor (compOf t i) s a)) (λ u v.
         let r = row-for-some a v in
-        let n = when-none (has S (actionAt t (r .0))) (r .0) (seek-none (λ r. when (has S (actionAt t r)) r) (firstOf t i s) (firstOf t i (suc s)) e (r .0) (r .1 .0) (r .1 .1)) in
+        let n = when-none (has S (actionAt t (r .0))) (r .0) (seek-none (λ r. when (has S (actionAt t r)) r) (firstOf t i s) (firstOf t i (suc s)) e
+        (r .0) (r .1 .0) (r .1 .1)) in
         false≢true (sym n ∙ ap (has S) (r .2) ∙ u)))
 
     module _ (r : ℕ) (e : firstBy t i s S ≡ some r) where

@@ -16,7 +16,8 @@ use Rattle.layout.proofs.ReadBack.{length-of-image, count-is, block-is,
 use Rattle.layout.proofs.RowsAscend.{froms-ascend, below-le, none-below, all-below, below-up, below-leaves, leaves-below}
 
 -- a part of a list, and what comes after it
-tab-drop : {A : Type 0} (g : ℕ → A) (d : A) (l : List A) (n j f : ℕ) → f + j ≤ length l → ((k : ℕ) → f ≤ k → k < f + j → g (n + k) ≡ getD l k d) → tab g (n + f) j ++ drop (f + j) l ≡ drop f l
+tab-drop : {A : Type 0} (g : ℕ → A) (d : A) (l : List A) (n j f : ℕ) → f + j ≤ length l → ((k : ℕ) → f ≤ k → k < f + j → g (n + k) ≡ getD l k d)
+    → tab g (n + f) j ++ drop (f + j) l ≡ drop f l
 tab-drop g d l n zero f h e = let p : f + 0 ≡ f = omega arith in rw p
 tab-drop {A} g d l n (suc j) f h e =
     let p : suc (n + f) ≡ n + suc f = omega arith in
@@ -83,8 +84,17 @@ module _ (m : Model) (t : List ℕ) (w : WellFormed m) (front : take imageWords 
   pub comp-is : compOf t i ≡ compAt m i
   unfolding compOf blockOf
   comp-is =
-      rw
-      (word 0 (omega arith), word 1 (omega arith), word 2 (omega arith), word 3 (omega arith), word 4 (omega arith), word 5 (omega arith), word 6 (omega arith), word 7 (omega arith), rows-are)
+      rw (
+        word 0 (omega arith),
+        word 1 (omega arith),
+        word 2 (omega arith),
+        word 3 (omega arith),
+        word 4 (omega arith),
+        word 5 (omega arith),
+        word 6 (omega arith),
+        word 7 (omega arith),
+        rows-are,
+      )
 
 -- the table's model is the one its front was made from
 pub model-is : (m : Model) (t : List ℕ) → WellFormed m → take imageWords t ≡ imageOf m → modelOf t ≡ m

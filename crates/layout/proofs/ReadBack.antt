@@ -33,7 +33,8 @@ block-length n c = omega (arith, tab-length (firstWord n c) 0 (suc maxStates))
 pub blocks-length : (n : ℕ) (m : Model) → length (blocksOf n m) ≡ blockWords * length m
 unfolding blocksOf
 blocks-length n [] = refl
-blocks-length n (c ∷ cs) = omega (arith, length-append (blockOf n c) (blocksOf (n + length (c .rows)) cs), block-length n c, blocks-length (n + length (c .rows)) cs)
+blocks-length n (c ∷ cs) =
+    omega (arith, length-append (blockOf n c) (blocksOf (n + length (c .rows)) cs), block-length n c, blocks-length (n + length (c .rows)) cs)
 
 pub rows-length : (rs : List Row) → length (rowsOf rs) ≡ rowWords * length rs
 unfolding rowsOf
@@ -55,8 +56,12 @@ rowPart m = allRowsOf m ++ zeros (rowWords * (maxRows - rowCount m))
 block-part-length : (m : Model) → length m ≤ maxComponents → length (blockPart m) ≡ blockWords * maxComponents
 unfolding blockPart
 block-part-length m h =
-    omega
-    (arith, length-append (blocksOf 0 m) (zeros (blockWords * (maxComponents - length m))), blocks-length 0 m, zeros-length (blockWords * (maxComponents - length m)))
+    omega (
+      arith,
+      length-append (blocksOf 0 m) (zeros (blockWords * (maxComponents - length m))),
+      blocks-length 0 m,
+      zeros-length (blockWords * (maxComponents - length m)),
+    )
 
 row-part-length : (m : Model) → rowCount m ≤ maxRows → length (rowPart m) ≡ rowWords * maxRows
 unfolding rowPart
@@ -73,7 +78,8 @@ length-of-image m w =
     ap length (image-parts m) ∙ omega (arith, length-append (blockPart m) (rowPart m), block-part-length m (w .components), row-part-length m (w .rows))
 
 -- ---- what stands in the parts
-block-at : (n : ℕ) (m : Model) (i k : ℕ) → i < length m → k < blockWords → getD (blocksOf n m) (blockWords * i + k) 0 ≡ getD (blockOf (n + rowCount (take i m)) (compAt m i)) k 0
+block-at : (n : ℕ) (m : Model) (i k : ℕ) → i < length m → k < blockWords → getD (blocksOf n m) (blockWords * i + k) 0
+    ≡ getD (blockOf (n + rowCount (take i m)) (compAt m i)) k 0
 unfolding blocksOf rowCount
 block-at n [] i k h q = absurd (omega arith)
 block-at n (c ∷ cs) zero k h q =
@@ -83,7 +89,8 @@ block-at n (c ∷ cs) zero k h q =
 block-at n (c ∷ cs) (suc i) k h q =
     let e : blockWords * suc i + k ≡ length (blockOf n c) + (blockWords * i + k) = omega (arith, block-length n c) in
     let z : n + (length (c .rows) + rowCount (take i cs)) ≡ n + length (c .rows) + rowCount (take i cs) = omega arith in
-    rw (e, z) (getD-append-add (blockOf n c) (blocksOf (n + length (c .rows)) cs) (blockWords * i + k) 0 ∙ block-at (n + length (c .rows)) cs i k (omega arith) q)
+    rw (e, z) (getD-append-add (blockOf n c) (blocksOf (n + length (c .rows)) cs) (blockWords * i + k) 0 ∙ block-at (n + length (c .rows)) cs i k
+    (omega arith) q)
 
 row-at : (rs : List Row) (k w : ℕ) → k < length rs → w < rowWords → getD (rowsOf rs) (rowWords * k + w) 0 ≡ getD (wordsOf (getD rs k noRow)) w 0
 unfolding rowsOf
@@ -101,7 +108,8 @@ rows-at (c ∷ cs) zero k w h p q =
     let e : rowWords * (0 + k) + w ≡ rowWords * k + w = omega arith in
     rw e (List·getD-append (rowsOf (c .rows)) (allRowsOf cs) 0 (rowWords * k + w) (omega (arith, rows-length (c .rows))) ∙ row-at (c .rows) k w p q)
 rows-at (c ∷ cs) (suc i) k w h p q =
-    let e : rowWords * (length (c .rows) + rowCount (take i cs) + k) + w ≡ length (rowsOf (c .rows)) + (rowWords * (rowCount (take i cs) + k) + w) = omega (arith, rows-length (c .rows)) in
+    let e : rowWords * (length (c .rows) + rowCount (take i cs) + k) + w ≡ length (rowsOf (c .rows)) + (rowWords * (rowCount (take i cs) + k) + w) =
+    omega (arith, rows-length (c .rows)) in
     rw e (getD-append-add (rowsOf (c .rows)) (allRowsOf cs) (rowWords * (rowCount (take i cs) + k) + w) 0 ∙ rows-at cs i k w (omega arith) p q)
 
 -- the rows of a component stand within those of the system
@@ -127,12 +135,14 @@ module _ (m : Model) (t : List ℕ) (w : WellFormed m) (front : take imageWords 
   unfolding blockWord
   in-blocks i k h q =
       let e : 1 + blockWords * i + k ≡ suc (blockWords * i + k) = omega arith in
-      rw e (word-at (suc (blockWords * i + k)) (omega arith) ∙ List·getD-append (blockPart m) (rowPart m) 0 (blockWords * i + k) (omega (arith, block-part-length m (w .components))))
+      rw e (word-at (suc (blockWords * i + k)) (omega arith) ∙ List·getD-append (blockPart m) (rowPart m) 0 (blockWords * i + k)
+      (omega (arith, block-part-length m (w .components))))
 
   in-rows : (r v : ℕ) → r < maxRows → v < rowWords → rowWord t r v ≡ getD (rowPart m) (rowWords * r + v) 0
   in-rows r v h q =
       let e : rowsAt + rowWords * r + v ≡ suc (length (blockPart m) + (rowWords * r + v)) = omega (arith, block-part-length m (w .components)) in
-      rw e (word-at (suc (length (blockPart m) + (rowWords * r + v))) (omega (arith, block-part-length m (w .components))) ∙ getD-append-add (blockPart m) (rowPart m) (rowWords * r + v) 0)
+      rw e (word-at (suc (length (blockPart m) + (rowWords * r + v))) (omega (arith, block-part-length m (w .components)))
+      ∙ getD-append-add (blockPart m) (rowPart m) (rowWords * r + v) 0)
 
   pub count-is : countOf t ≡ length m
   unfolding countOf
@@ -182,7 +192,8 @@ module _ (m : Model) (t : List ℕ) (w : WellFormed m) (front : take imageWords 
   row-word i k v h p q =
       let b = rows-before m i h in
       in-rows (rowCount (take i m) + k) v (omega (arith, w .rows)) q
-      ∙ List·getD-append (allRowsOf m) (zeros (rowWords * (maxRows - rowCount m))) 0 (rowWords * (rowCount (take i m) + k) + v) (omega (arith, all-rows-length m))
+      ∙ List·getD-append (allRowsOf m) (zeros (rowWords * (maxRows - rowCount m))) 0 (rowWords * (rowCount (take i m) + k) + v)
+      (omega (arith, all-rows-length m))
       ∙ rows-at m i k v h p q
 
   pub action-is : (i k : ℕ) → i < length m → k < length (compAt m i .rows) → actionAt t (rowCount (take i m) + k) ≡ rowAt (compAt m i) k .action

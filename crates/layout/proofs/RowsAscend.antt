@@ -62,7 +62,8 @@ unfolding leaveBelow
 below-up [] s u h = omega arith
 below-up (r ∷ rs) s u h = go (ltb (r .from) s) refl (ltb (r .from) u) refl (below-up rs s u h)
   where
-    go : (b : Bool) → ltb (r .from) s ≡ b → (d : Bool) → ltb (r .from) u ≡ d → leaveBelow rs s ≤ leaveBelow rs u → cond b 1 0 + leaveBelow rs s ≤ cond d 1 0 + leaveBelow rs u
+    go : (b : Bool) → ltb (r .from) s ≡ b → (d : Bool) → ltb (r .from) u ≡ d → leaveBelow rs s ≤ leaveBelow rs u
+        → cond b 1 0 + leaveBelow rs s ≤ cond d 1 0 + leaveBelow rs u
     go true p true q ih = omega arith
     go true p false q ih = absurd (omega (arith, ltb-true (r .from) s p, ltb-false (r .from) u q))
     go false p true q ih = omega arith
@@ -77,11 +78,19 @@ unfolding leaveBelow
 below-leaves [] s up k h = absurd (omega arith)
 below-leaves (r ∷ rs) s up k h = go (ltb (r .from) s) refl k (below-leaves rs s (λ i j p q. up (suc i) (suc j) (omega arith) (omega arith))) h
   where
-    go : (b : Bool) → ltb (r .from) s ≡ b → (k : ℕ) → ((j : ℕ) → j < leaveBelow rs s → getD rs j noRow .from < s) → k < cond b 1 0 + leaveBelow rs s → getD (r ∷ rs) k noRow .from < s
+    go : (b : Bool) → ltb (r .from) s ≡ b → (k : ℕ) → ((j : ℕ) → j < leaveBelow rs s → getD rs j noRow .from < s) → k < cond b 1 0 + leaveBelow rs s
+        → getD (r ∷ rs) k noRow .from < s
     go true e zero ih h = ltb-true (r .from) s e
     go true e (suc k) ih h = ih k (omega arith)
     go false e k ih h =
-        absurd (omega (arith, ltb-false (r .from) s e, none-below rs s (λ j p. let a : r .from ≤ getD rs j noRow .from = up 0 (suc j) (omega arith) (omega arith) in omega (arith, ltb-false (r .from) s e))))
+        absurd (omega (
+          arith,
+          ltb-false (r .from) s e,
+          none-below rs s (λ j p. let a : r .from ≤ getD rs j noRow .from = up 0 (suc j) (omega arith) (omega arith) in omega (
+            arith,
+            ltb-false (r .from) s e,
+          )),
+        ))
 
 pub leaves-below : (rs : List Row) (s : ℕ) → Ascends rs → (k : ℕ) → k < length rs → getD rs k noRow .from < s → k < leaveBelow rs s
 unfolding leaveBelow

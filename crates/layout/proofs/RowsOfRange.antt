@@ -36,7 +36,9 @@ module _ (t : List ℕ) (im : Image t) where
     -- the rows of the components before stand before first[0]
     first-below : (s : ℕ) → s ≤ blockWord t i 0 → firstOf t i s ≡ rowCount (take i (modelOf t)) + leaveBelow (compOf t i .rows) s
     unfolding compOf
-    first-below s p = first-is (modelOf t) t well-formed image-front i s inside (rw (comp-at t i h) p) ∙ ap (λ c. rowCount (take i (modelOf t)) + leaveBelow (c .rows) s) (comp-at t i h)
+    first-below s p =
+        first-is (modelOf t) t well-formed image-front i s inside (rw (comp-at t i h) p)
+        ∙ ap (λ c. rowCount (take i (modelOf t)) + leaveBelow (c .rows) s) (comp-at t i h)
 
     pub first-over : (s : ℕ) → blockWord t i 0 < s → s ≤ maxStates → firstOf t i s ≡ 0
     unfolding compOf
@@ -102,7 +104,8 @@ module _ (t : List ℕ) (im : Image t) where
       pub range-row : rowIn t s r ≡ rowAt (compOf t i) (r - firstOf t i 0)
       range-row =
           let e : firstOf t i 0 + (r - firstOf t i 0) ≡ r = omega (arith, range-from) in
-          let f : rowIn t s (firstOf t i 0 + (r - firstOf t i 0)) ≡ rowAt (compOf t i) (r - firstOf t i 0) = rw range-leaves at (row-there (r - firstOf t i 0) range-to) in
+          let f : rowIn t s (firstOf t i 0 + (r - firstOf t i 0)) ≡ rowAt (compOf t i) (r - firstOf t i 0) = rw range-leaves at
+          (row-there (r - firstOf t i 0) range-to) in
           ap (rowIn t s) (sym e) ∙ f
 
       pub well-row : WellRow (compOf t i) (rowIn t s r)

@@ -48,7 +48,13 @@ module _ {A : Type 0} (g : ℕ → ℕ → A) (p : ℕ → ℕ) where
   parts-length zero s up = let e : s + 0 ≡ s = omega arith in rw e (omega arith)
   parts-length (suc n) s up =
       let e : s + suc n ≡ suc s + n = omega arith in
-      rw e (omega (arith, length-append (part s) (spread part (suc s) n), tab-length (g s) (p s) (p (suc s) - p s), up s (omega arith) (omega arith), parts-length n (suc s) (λ u a b. up u (omega arith) (omega arith))))
+      rw e (omega (
+        arith,
+        length-append (part s) (spread part (suc s) n),
+        tab-length (g s) (p s) (p (suc s) - p s),
+        up s (omega arith) (omega arith),
+        parts-length n (suc s) (λ u a b. up u (omega arith) (omega arith)),
+      ))
 
   parts-at : (d : A) (n s u r : ℕ) → Upward p s n → s ≤ u → u < s + n → p u ≤ r → r < p (suc u) → getD (spread part s n) (r - p s) d ≡ g u r
   parts-at d zero s u r up a b c e = absurd (omega arith)
@@ -57,7 +63,8 @@ module _ {A : Type 0} (g : ℕ → ℕ → A) (p : ℕ → ℕ) where
       l : length (part s) ≡ p (suc s) - p s
       l = tab-length (g s) (p s) (p (suc s) - p s)
 
-      go : Dec (s ≡ u) → (suc s ≤ u → u < suc s + n → p u ≤ r → r < p (suc u) → getD (spread part (suc s) n) (r - p (suc s)) d ≡ g u r) → getD (spread part s (suc n)) (r - p s) d ≡ g u r
+      go : Dec (s ≡ u) → (suc s ≤ u → u < suc s + n → p u ≤ r → r < p (suc u) → getD (spread part (suc s) n) (r - p (suc s)) d ≡ g u r)
+          → getD (spread part s (suc n)) (r - p s) d ≡ g u r
       go (yes w) ih =
           let c′ : p s ≤ r = rw w c in
           let e′ : r < p (suc s) = rw w e in
@@ -131,7 +138,8 @@ module _ (t : List ℕ) (i : ℕ) where
     row-of-range s r h a b = parts-at (rowIn t) (firstOf t i) noRow (blockWord t i 0) 0 s r all-up (omega arith) (omega arith) a b
 
     -- row k of the component lies in the range of some state
-    pub range-of-row : (k : ℕ) → k < length (compOf t i .rows) → (s : ℕ) × (s < blockWord t i 0) × (firstOf t i s ≤ firstOf t i 0 + k) × (firstOf t i 0 + k < firstOf t i (suc s))
+    pub range-of-row : (k : ℕ) → k < length (compOf t i .rows) → (s : ℕ) × (s < blockWord t i 0) × (firstOf t i s ≤ firstOf t i 0 + k)
+        × (firstOf t i 0 + k < firstOf t i (suc s))
     range-of-row k h =
         let e : 0 + blockWord t i 0 ≡ blockWord t i 0 = omega arith in
         let x = locate (firstOf t i) (blockWord t i 0) 0 (firstOf t i 0 + k) (omega arith) (rw e (omega (arith, rows-to))) in

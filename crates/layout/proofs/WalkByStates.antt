@@ -27,7 +27,8 @@ module _ (t : List ℕ) (im : Image t) (i : ℕ) (h : i < countOf t) where
       let e : lo + 0 ≡ lo = omega arith in
       over-ext (λ k. g k (rowAt (compOf t i) k)) (λ k. g (lo + k - lo) (rowAt (compOf t i) (lo + k - lo))) 0 n x (λ k y a b. rw (back lo k))
       ∙ sym (over-shift (λ r. g (r - lo) (rowAt (compOf t i) (r - lo))) lo 0 n x)
-      ∙ rw (e, ← rows-end t im i h) (sym (over-nest (λ r. g (r - lo) (rowAt (compOf t i) (r - lo))) (firstOf t i) (blockWord t i 0) x (λ s b. first-up t im i h s (suc s) (omega arith) b)))
+      ∙ rw (e, ← rows-end t im i h) (sym (over-nest (λ r. g (r - lo) (rowAt (compOf t i) (r - lo))) (firstOf t i) (blockWord t i 0) x
+      (λ s b. first-up t im i h s (suc s) (omega arith) b)))
       ∙ over-ext
       (λ s. over (λ r. g (r - lo) (rowAt (compOf t i) (r - lo))) (firstOf t i s) (firstOf t i (suc s)))
       (λ s. over (λ r. g (r - lo) (rowIn t s r)) (firstOf t i s) (firstOf t i (suc s))) 0 (blockWord t i 0) x

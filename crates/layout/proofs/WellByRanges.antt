@@ -15,7 +15,8 @@ use Rattle.layout.proofs.UpwardRanges.{firsts-up, row-of-range, range-o
 
 -- first goes upward to states
 module _ (t : List ℕ) (i : ℕ) (up : (s : ℕ) → s < blockWord t i 0 → firstOf t i s ≤ firstOf t i (suc s)) where
-  row-in : (k s : ℕ) → s < blockWord t i 0 → firstOf t i s ≤ firstOf t i 0 + k → firstOf t i 0 + k < firstOf t i (suc s) → rowAt (compOf t i) k ≡ rowIn t s (firstOf t i 0 + k)
+  row-in : (k s : ℕ) → s < blockWord t i 0 → firstOf t i s ≤ firstOf t i 0 + k → firstOf t i 0 + k < firstOf t i (suc s)
+      → rowAt (compOf t i) k ≡ rowIn t s (firstOf t i 0 + k)
   row-in k s h a b = let e : firstOf t i 0 + k - firstOf t i 0 ≡ k = omega arith in rw e at (row-of-range t i up s (firstOf t i 0 + k) h a b)
 
   pub rows-well : ((s r : ℕ) → s < blockWord t i 0 → firstOf t i s ≤ r → r < firstOf t i (suc s) → WellRow (compOf t i) (rowIn t s r))

@@ -6,7 +6,8 @@ use mathlib.Core.Bool.{Bool, true, false}
 use Prim.Native.Nat.{ℕ}
 use lib.Dec.{eqb}
 use Rattle.model.specs.Text.{lf, compWord, actWord, clkWord, rowWord}
-use Rattle.model.specs.Reading.{Scan, is, stops, got, then, shorter, exactly, theByte, number, guardOrDash, numbersOrDash, Entry, row-entry, field, ended, compEntry, actEntry, clkEntry, rowEntry, entry}
+use Rattle.model.specs.Reading.{Scan, is, stops, got, then, shorter, exactly, theByte, number, guardOrDash, numbersOrDash, Entry, row-entry, field}
+use Rattle.model.specs.Reading.{ended, compEntry, actEntry, clkEntry, rowEntry, entry}
 use Rattle.model.proofs.Reading.Scans.{is-inj, stops-inj, no-is}
 use Rattle.fields.specs.declared.Guard.{Guard}
 use Rattle.fields.specs.declared.Guard.the-variants as OfGuard

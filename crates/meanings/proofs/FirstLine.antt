@@ -1,4 +1,5 @@
--- The first line that is left, as the code has it: an element with as many inputs as it may have, and every number below 64; and there are no more than 64 lines.
+-- The first line that is left, as the code has it: an element with as many inputs as it may have, and every number below 64; and there are no more
+-- than 64 lines.
 use mathlib.Core.Path.{_≡_, refl, sym, _∙_, ap, ap₂, subst}
 use mathlib.Core.List.{List, [], _∷_, List·Memᴰ as In, List·Memᴰ·head as here, List·Memᴰ·tail as there}
 use Prim.Native.Nat.{ℕ, zero, suc, _+_, _≤_, _<_}
@@ -9,7 +10,7 @@ use Rattle.laws.specs.Fold.{tab}
 use Rattle.answer.specs.Limits.{maxElements, maxInputs}
 use Rattle.trees.specs.Tree.{Sort, Element as TheElement, Tree}
 use Rattle.trees.specs.TreeText.{fewest, atMostMore}
-use Rattle.trees.specs.TreeFaults.{InRange, Ascending, no-line, line}
+use Rattle.trees.specs.TreeFaults.{InRange, Ascending, line}
 use Rattle.treelines.specs.declared.Inputs.{Inputs}
 use Rattle.treelines.specs.declared.Element.{Element}
 use Rattle.treelines.specs.Elements.{sortIs, elementIs}

@@ -1,8 +1,8 @@
 -- The loops over inputs and lines: what is gathered so far, with what is left, is the whole.
-use mathlib.Core.Path.{_≡_, refl, sym, _∙_, ap, ap₂, subst}
+use mathlib.Core.Path.{_≡_, refl, sym, _∙_, ap, ap₂}
 use mathlib.Core.Bool.{Bool, true, false, cond}
-use mathlib.Core.List.{List, [], _∷_, _++_}
-use Prim.Native.Nat.{ℕ, zero, suc, _+_, _*_, _-_, _≤_, _<_}
+use mathlib.Core.List.{List, _++_}
+use Prim.Native.Nat.{ℕ, _+_, _*_, _-_, _≤_, _<_}
 use native.Mathlib.Omega.{arith}
 use lib.ListN.{length, length-append}
 use lib.Seq.{sets, length-sets}
@@ -16,7 +16,7 @@ use Rattle.laws.proofs.FoldLaws.{tab-length}
 use Rattle.laws.proofs.TabLaws.{tab-next, tab-done}
 use Rattle.fill.proofs.FillLaws.{sets-append}
 use Rattle.answer.specs.Limits.{maxActions, maxElements}
-use Rattle.trees.specs.Tree.{Sort, be-sort, and-sort, or-sort, pand-sort, rbox-sort, Element as TheElement, Tree, meanings}
+use Rattle.trees.specs.Tree.{Sort, be-sort, and-sort, or-sort, pand-sort, rbox-sort, Element as TheElement, Tree}
 use Rattle.treelines.specs.declared.Inputs.{Inputs}
 use Rattle.treelines.specs.declared.Element.{Element}
 use Rattle.treelines.specs.Elements.{sortIs}
@@ -42,7 +42,11 @@ module _ (i : Inputs) where
 
   pub some-begins : Some 0 0
   unfolding insIn
-  some-begins = record { same = none-first (setOf (tab (inputAt i) 0 (i .count - 0))) ∙ ap (λ n. setOf (tab (inputAt i) 0 n)) (let z : i .count - 0 ≡ i .count = omega arith in z) }
+  some-begins =
+      record {
+        same = none-first (setOf (tab (inputAt i) 0 (i .count - 0))) ∙ ap (λ n. setOf (tab (inputAt i) 0 n))
+            (let z : i .count - 0 ≡ i .count = omega arith in z);
+      }
 
   pub some-on : (set j : ℕ) → Some set j → j < i .count → (x s r : ℕ) → x ≡ inputAt i j → s ≡ only x → r ≡ (set ∪ s) → Some r (j + 1)
   unfolding setOf
@@ -130,9 +134,20 @@ pub record Naming (text : List ℕ) (boxed : ℕ) (old : List ℕ) (components a
   pub long : length new ≡ maxActions
   pub same : length (wordsFrom boxed (treeIn text)) ≤ maxActions → sets new actions (wordsFrom boxed rest) ≡ sets old 0 (wordsFrom boxed (treeIn text))
 
-pub naming-begins : (text : List ℕ) (boxed : ℕ) (old : List ℕ) → LinesOf text (treeIn text) → boxed ≡ boxedIn (treeIn text) → length old ≡ maxActions → Naming text boxed old 0 0 0 old
+pub naming-begins : (text : List ℕ) (boxed : ℕ) (old : List ℕ) → LinesOf text (treeIn text) → boxed ≡ boxedIn (treeIn text) → length old ≡ maxActions
+    → Naming text boxed old 0 0 0 old
 naming-begins text boxed old h b l =
-    record { lines = h; set = b; rest = treeIn text; left = all-left text (treeIn text) h; count = omega arith; few = omega arith; acts = omega arith; long = l; same = λ _. refl }
+    record {
+      lines = h;
+      set = b;
+      rest = treeIn text;
+      left = all-left text (treeIn text) h;
+      count = omega arith;
+      few = omega arith;
+      acts = omega arith;
+      long = l;
+      same = λ _. refl;
+    }
 
 module _ (text : List ℕ) (boxed : ℕ) (old : List ℕ) (components actions at : ℕ) (new : List ℕ) (c : Naming text boxed old components actions at new) where
   pub lines-low : components ≤ maxElements
@@ -156,7 +171,8 @@ module _ (text : List ℕ) (boxed : ℕ) (old : List ℕ) (components actions at
     abbrev ws : List ℕ
     ws = wordsFor boxed (elementOf e)
 
-    pub naming-on : (n w : ℕ) (next : List ℕ) (b : Bool) (k : ℕ) → b ≡ has boxed (e .number) → n ≡ signalCount (sortIs (e .sort)) b → k ≡ firstSignal (sortIs (e .sort)) → w ≡ e .number * 8 + k
+    pub naming-on : (n w : ℕ) (next : List ℕ) (b : Bool) (k : ℕ) → b ≡ has boxed (e .number) → n ≡ signalCount (sortIs (e .sort)) b
+        → k ≡ firstSignal (sortIs (e .sort)) → w ≡ e .number * 8 + k
         → next ≡ putAt actions (tab (λ j. w + j) 0 n) new → Naming text boxed old (components + 1) (actions + n) to next
     unfolding wordsFrom wordsFor
     naming-on n w next b k eb en ek ew ex =
@@ -165,7 +181,8 @@ module _ (text : List ℕ) (boxed : ℕ) (old : List ℕ) (components actions at
         let split : wordsFrom boxed (c .rest) ≡ ws ++ wordsFrom boxed (q .more) =
         ap (wordsFrom boxed) (q .lines) ∙ ap (λ (x : TheElement). wordsFor boxed x ++ wordsFrom boxed (q .more)) (sym (it-is text (c .rest) e to q)) in
         let many : length (wordsFrom boxed (c .rest)) ≡ n + length (wordsFrom boxed (q .more)) =
-        ap length split ∙ length-append ws (wordsFrom boxed (q .more)) ∙ ap (λ m. m + length (wordsFrom boxed (q .more))) (ap length (sym own) ∙ tab-length (λ j. w + j) 0 n) in
+        ap length split ∙ length-append ws (wordsFrom boxed (q .more)) ∙ ap (λ m. m + length (wordsFrom boxed (q .more)))
+        (ap length (sym own) ∙ tab-length (λ j. w + j) 0 n) in
         let fewer = few-signals (sortIs (e .sort)) b in
         let line = ap length (q .lines) in
         let here : length (tab (λ j. w + j) 0 n) ≡ n = tab-length (λ j. w + j) 0 n in
@@ -179,7 +196,8 @@ module _ (text : List ℕ) (boxed : ℕ) (old : List ℕ) (components actions at
           acts = omega (arith, many, c .acts);
           long = ap length ex ∙ length-put actions (tab (λ j. w + j) 0 n) new ∙ c .long;
           same = λ l.
-              ap (λ x. sets x (actions + n) (wordsFrom boxed (q .more))) (ex ∙ put-some actions (tab (λ j. w + j) 0 n) new (omega (arith, l, c .acts, many, here)))
+              ap (λ x. sets x (actions + n) (wordsFrom boxed (q .more)))
+              (ex ∙ put-some actions (tab (λ j. w + j) 0 n) new (omega (arith, l, c .acts, many, here)))
               ∙ ap (λ m. sets (sets new actions (tab (λ j. w + j) 0 n)) (actions + m) (wordsFrom boxed (q .more))) (sym here)
               ∙ sym (sets-append new (tab (λ j. w + j) 0 n) (wordsFrom boxed (q .more)) actions)
               ∙ ap (λ x. sets new actions (x ++ wordsFrom boxed (q .more))) own ∙ ap (sets new actions) (sym split) ∙ c .same l;

@@ -2,18 +2,19 @@
 use mathlib.Core.Path.{_≡_, refl, sym, _∙_, ap, ap₂}
 use mathlib.Core.Bool.{Bool, true, false, _&&_, _||_, cond}
 use mathlib.Core.List.{List, [], _∷_, _++_, map}
-use Prim.Native.Nat.{ℕ, zero, suc, _+_, _*_, _/_, _%_, _≤_, _<_}
+use Prim.Native.Nat.{ℕ, suc, _+_, _*_, _<_}
 use native.Mathlib.Omega.{arith}
 use native.Mathlib.Decide.{ℕ-discrete}
-use lib.ListN.{length, length-append}
+use lib.ListN.{length}
 use lib.Arith.{digits-div, digits-mod}
 use lib.Dec.{eqb}
 use borrow.Author.Tests.{eq-eqb, ne-eqb}
-use Rattle.laws.specs.Sets.{bit, has, _∪_, only}
+use Rattle.laws.specs.Sets.{bit, has, only}
 use Rattle.laws.specs.Fold.{tab}
 use Rattle.laws.proofs.SetLaws.{has-or, in-one, bit-one-other, none-in}
 use Rattle.laws.proofs.TestLaws.{not-so}
-use Rattle.trees.specs.Tree.{Sort, be-sort, and-sort, or-sort, pand-sort, rbox-sort, Element, Tree, isBox, among, boxed, Meaning, signalsOf, meant, meaningsFrom, meanings}
+use Rattle.trees.specs.Tree.{Sort, be-sort, and-sort, or-sort, pand-sort, rbox-sort, Element, Tree, isBox, among, boxed, Meaning, signalsOf, meant}
+use Rattle.trees.specs.Tree.{meaningsFrom, meanings}
 use Rattle.elements.specs.Parts.{signalNo, meaningAt}
 use Rattle.meanings.specs.Words.{setOf, boxSet, boxedIn, firstSignal, signalCount, wordsFor, wordsFrom, wordsOf}
 
@@ -85,7 +86,8 @@ unfolding wordsFrom wordsFor meaningsFrom
 all-words t [] = refl
 all-words t (e ∷ es) =
     map-join (wordsFor (boxedIn t) e) (wordsFrom (boxedIn t) es)
-    ∙ ap₂ _++_ (line-words (e .sort) (e .number) (has (boxedIn t) (e .number)) ∙ ap (λ b. meant (e .number) (signalsOf (e .sort) b)) (has-boxed t (e .number))) (all-words t es)
+    ∙ ap₂ _++_ (line-words (e .sort) (e .number) (has (boxedIn t) (e .number)) ∙ ap (λ b. meant (e .number) (signalsOf (e .sort) b))
+    (has-boxed t (e .number))) (all-words t es)
 
 -- an action's number is the place of its signal
 pub words-mean : (t : Tree) → map meaningAt (wordsOf t) ≡ meanings t

@@ -67,11 +67,13 @@ module _ (t : List ℕ) (ok : Sane t) where
   unfolding modelOf
   text-most = omega (arith, comps-most 0 (countOf t) (omega (arith, ok .count)), ok .count)
 
-pub leaving-is : (t : List ℕ) (i s lo hi : ℕ) → lo ≡ firstOf t i s → hi ≡ firstOf t i (s + 1) → length (rowLines (tab (rowIn t s) lo (hi - lo))) ≡ length (rowLines (rowsLeaving t i s))
+pub leaving-is : (t : List ℕ) (i s lo hi : ℕ) → lo ≡ firstOf t i s → hi ≡ firstOf t i (s + 1) → length (rowLines (tab (rowIn t s) lo (hi - lo)))
+    ≡ length (rowLines (rowsLeaving t i s))
 unfolding rowsLeaving
 leaving-is t i s lo hi p q = rw (p, q, add-one)
 
-pub all-leaving : (t : List ℕ) (i states : ℕ) → states ≡ blockWord t i 0 → length (rowLines (spread (rowsLeaving t i) 0 (states - 0))) ≡ length (rowLines (compOf t i .rows))
+pub all-leaving : (t : List ℕ) (i states : ℕ) → states ≡ blockWord t i 0 → length (rowLines (spread (rowsLeaving t i) 0 (states - 0)))
+    ≡ length (rowLines (compOf t i .rows))
 unfolding compOf
 all-leaving t i states p = let e : states - 0 ≡ blockWord t i 0 = omega arith in rw e
 
@@ -80,7 +82,8 @@ unfolding modelOf
 all-comps t count p = let e : count - 0 ≡ countOf t = omega arith in rw e
 
 pub comp-counted : (t : List ℕ) (i p q ins outs uins uouts r n m : ℕ)
-    → p ≡ blockWord t i 0 → q ≡ blockWord t i 1 → ins ≡ blockWord t i 2 → outs ≡ blockWord t i 3 → uins ≡ blockWord t i 4 → uouts ≡ blockWord t i 5 → r ≡ blockWord t i 6
+    → p ≡ blockWord t i 0 → q ≡ blockWord t i 1 → ins ≡ blockWord t i 2 → outs ≡ blockWord t i 3 → uins ≡ blockWord t i 4 → uouts ≡ blockWord t i 5
+    → r ≡ blockWord t i 6
     → n ≡ length (compText (bare p q ins outs uins uouts r)) → m ≡ length (rowLines (compOf t i .rows)) → n + m ≡ length (compText (compOf t i))
 unfolding compOf
 comp-counted t i p q ins outs uins uouts r n m hp hq hi ho hu hv hr hn hm = rw (hn, hm, hp, hq, hi, ho, hu, hv, hr) (sym (comp-by-head (compOf t i)))

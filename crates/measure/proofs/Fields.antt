@@ -1,7 +1,7 @@
 -- The lengths of the text's fields (01, "The model text").
 use mathlib.Core.Path.{_≡_, refl, sym, _∙_, ap}
 use mathlib.Core.Bool.{Bool, true, false, cond}
-use mathlib.Core.List.{List, [], _∷_, _++_}
+use mathlib.Core.List.{List, [], _∷_}
 use Prim.Native.Nat.{ℕ, zero, suc, _+_, _*_, _-_, _/_, _^_, _≤_, _<_}
 use native.Mathlib.Omega.{arith}
 use native.Mathlib.Nat.{mul-le-mul-right, div-lt-iff-lt-mul, pow-suc}
@@ -106,7 +106,8 @@ pub members-sized : (s e : ℕ) → perMember s e + sizeOf (bitAnd s low) ≡ (e
 unfolding perMember sizeOf
 members-sized s e =
     sym (sum-add (λ x. cond (has s x) (e + length (decimal x)) 0) (λ x. cond (has (bitAnd s low) x) 1 0) 0 wordBits)
-    ∙ ap sum (tab-same (λ x. cond (has s x) (e + length (decimal x)) 0 + cond (has (bitAnd s low) x) 1 0) (λ x. (e + 2) * cond (has s x) 1 0) 0 wordBits (λ x p q. each-member s e x (omega arith) (has s x) refl))
+    ∙ ap sum (tab-same (λ x. cond (has s x) (e + length (decimal x)) 0 + cond (has (bitAnd s low) x) 1 0) (λ x. (e + 2) * cond (has s x) 1 0) 0
+    wordBits (λ x p q. each-member s e x (omega arith) (has s x) refl))
     ∙ sum-scale (e + 2) (λ x. cond (has s x) 1 0) 0 wordBits
 
 pub size-most : (s : ℕ) → sizeOf s ≤ wordBits
@@ -150,7 +151,8 @@ members-commas s zero k = refl
 members-commas s (suc n) k = go (has s k) (members-commas s n (suc k))
   where
     go : (b : Bool) → commas (members s n (suc k)) ≡ sum (tab (λ x. cond (has s x) (1 + length (decimal x)) 0) (suc k) n)
-        → commas (cond b (k ∷ members s n (suc k)) (members s n (suc k))) ≡ cond b (1 + length (decimal k)) 0 + sum (tab (λ x. cond (has s x) (1 + length (decimal x)) 0) (suc k) n)
+        → commas (cond b (k ∷ members s n (suc k)) (members s n (suc k))) ≡ cond b (1 + length (decimal k)) 0 + sum
+        (tab (λ x. cond (has s x) (1 + length (decimal x)) 0) (suc k) n)
     go true e = omega (arith, e)
     go false e = omega (arith, e)
 
@@ -163,12 +165,15 @@ unfolding members
 no-members s zero k e x p q = absurd (omega arith)
 no-members s (suc n) k e x p q = go (no-members s n (suc k)) (has s k) refl e
   where
-    go : (members s n (suc k) ≡ [] → (y : ℕ) → suc k ≤ y → y < suc k + n → has s y ≡ false) → (b : Bool) → has s k ≡ b → cond b (k ∷ members s n (suc k)) (members s n (suc k)) ≡ [] → has s x ≡ false
+    go : (members s n (suc k) ≡ [] → (y : ℕ) → suc k ≤ y → y < suc k + n → has s y ≡ false) → (b : Bool) → has s k ≡ b
+        → cond b (k ∷ members s n (suc k)) (members s n (suc k)) ≡ [] → has s x ≡ false
     go ih true h e = absurd (let z : _≡_ {A = ℕ} 0 1 = cc in omega arith)
     go ih false h e = by-cases (ℕ-discrete x k) (λ w. ap (has s) w ∙ h) (λ w. ih e x (omega arith) (omega arith))
 
 set-nonempty : (s : ℕ) → 0 < s → s < 2 ^ wordBits → members s maxClocks 0 ≡ [] → ⊥
-set-nonempty s h k e = absurd (let z : s ≡ 0 = has-ext s 0 (λ x. by-cases (decLt x wordBits) (λ p. no-members s maxClocks 0 e x (omega arith) (omega arith) ∙ sym (none x)) (λ p. beyond x (omega arith) ∙ sym (none x))) in omega arith)
+set-nonempty s h k e =
+    absurd (let z : s ≡ 0 = has-ext s 0 (λ x. by-cases (decLt x wordBits) (λ p. no-members s maxClocks 0 e x (omega arith) (omega arith)
+    ∙ sym (none x)) (λ p. beyond x (omega arith) ∙ sym (none x))) in omega arith)
   where
     none : (x : ℕ) → has 0 x ≡ false
     none x = ap (λ n. eqb n 1) (bit-above 0 0 x (omega arith) (omega arith))

@@ -12,7 +12,8 @@ use Rattle.laws.proofs.FoldLaws.{tab-length}
 use Rattle.laws.proofs.TabLaws.{tab-same, tab-next, tab-done, spread-next, spread-done, spread-length, sum-add}
 use Rattle.answer.specs.Limits.{maxActions, maxClocks}
 use Rattle.model.specs.Model.{Row, Comp, Model}
-use Rattle.model.specs.Text.{Kind, in-kind, out-kind, uin-kind, uout-kind, kindWord, decimal, guardField, setField, fieldsAfter, compLine, actLine, clkLine, rowLine, kindOf, actPart, clkPart, rowLines, compText, textOf}
+use Rattle.model.specs.Text.{Kind, in-kind, out-kind, uin-kind, uout-kind, kindWord, decimal, guardField, setField, fieldsAfter, compLine, actLine}
+use Rattle.model.specs.Text.{clkLine, rowLine, kindOf, actPart, clkPart, rowLines, compText, textOf}
 use Rattle.measure.specs.Measure.{actLines, clkLines, perMember, kindsWidth, bare}
 use Rattle.measure.proofs.Fields.{width-1, width-most, set-most, guard-most}
 
@@ -42,7 +43,8 @@ clk-line x b = simp (fields-more, fields-end) (omega (arith, width-1 (cond b 1 0
     one false = omega arith
 
 pub row-line : (r : Row) → length (rowLine r)
-    ≡ 9 + length (decimal (r .from)) + length (guardField (r .guard)) + length (decimal (r .action)) + length (setField (r .resets)) + length (decimal (r .target))
+    ≡ 9 + length (decimal (r .from)) + length (guardField (r .guard)) + length (decimal (r .action)) + length (setField (r .resets)) + length
+    (decimal (r .target))
 unfolding rowLine
 row-line r = simp (fields-more, fields-end) (omega arith)
 
@@ -53,7 +55,9 @@ row-most r =
 -- ---- the lines of one kind
 pub clks-width : (c : Comp) → length (clkLines c) ≡ perMember (c .clocks) 7
 unfolding perMember clkPart clkLines
-clks-width c = spread-length (clkPart c) 0 maxClocks ∙ ap sum (tab-same (λ x. length (clkPart c x)) (λ x. cond (has (c .clocks) x) (7 + length (decimal x)) 0) 0 maxClocks (λ x p q. go x (has (c .clocks) x)))
+clks-width c =
+    spread-length (clkPart c) 0 maxClocks ∙ ap sum (tab-same (λ x. length (clkPart c x)) (λ x. cond (has (c .clocks) x) (7 + length (decimal x)) 0) 0
+    maxClocks (λ x p q. go x (has (c .clocks) x)))
   where
     go : (x : ℕ) (b : Bool) → length (cond b (clkLine x (has (c .started) x)) []) ≡ cond b (7 + length (decimal x)) 0
     go x true = clk-line x (has (c .started) x)
@@ -64,7 +68,8 @@ abbrev kind : Bool → Bool → Bool → Kind
 kind i o u = cond i in-kind (cond o out-kind (cond u uin-kind uout-kind))
 
 act-cases : (a : ℕ) (i o u v : Bool) → length (cond ((i || u) || (o || v)) (actLine a (kind i o u)) [])
-    ≡ cond i (8 + length (decimal a)) 0 + cond (o && not i) (9 + length (decimal a)) 0 + cond (u && not (i || o)) (9 + length (decimal a)) 0 + cond (v && not ((i || o) || u)) (10 + length (decimal a)) 0
+    ≡ cond i (8 + length (decimal a)) 0 + cond (o && not i) (9 + length (decimal a)) 0 + cond (u && not (i || o)) (9 + length (decimal a)) 0 + cond
+    (v && not ((i || o) || u)) (10 + length (decimal a)) 0
 act-cases a true true true true = omega (arith, act-line a in-kind)
 act-cases a true true true false = omega (arith, act-line a in-kind)
 act-cases a true true false true = omega (arith, act-line a in-kind)
@@ -104,16 +109,28 @@ module _ (i o u v : ℕ) where
 
   each-act : (a : ℕ) → length (cond (has (i ∪ u ∪ (o ∪ v)) a) (actLine a (kind (has i a) (has o a) (has u a))) []) ≡ ins a + outs a + uins a + uouts a
   each-act a =
-      rw (has-or (i ∪ u) (o ∪ v) a, has-or i u a, has-or o v a, has-without o i a, has-without u (i ∪ o) a, has-without v (i ∪ o ∪ u) a, has-or (i ∪ o) u a, has-or i o a)
+      rw (
+        has-or (i ∪ u) (o ∪ v) a,
+        has-or i u a,
+        has-or o v a,
+        has-without o i a,
+        has-without u (i ∪ o) a,
+        has-without v (i ∪ o ∪ u) a,
+        has-or (i ∪ o) u a,
+        has-or i o a,
+      )
       (act-cases a (has i a) (has o a) (has u a) (has v a))
 
 pub acts-width : (c : Comp) → length (actLines c) ≡ kindsWidth (c .ins) (c .outs) (c .uins) (c .uouts)
 unfolding actPart kindOf actLines
 acts-width c =
-    spread-length (actPart c) 0 maxActions ∙ ap sum (tab-same (λ a. length (actPart c a)) each 0 maxActions (λ a p q. each-act (c .ins) (c .outs) (c .uins) (c .uouts) a)) ∙ four-sums (c .ins) (c .outs) (c .uins) (c .uouts)
+    spread-length (actPart c) 0 maxActions ∙ ap sum (tab-same (λ a. length (actPart c a)) each 0 maxActions
+    (λ a p q. each-act (c .ins) (c .outs) (c .uins) (c .uouts) a)) ∙ four-sums (c .ins) (c .outs) (c .uins) (c .uouts)
   where
     each : ℕ → ℕ
-    each a = ins (c .ins) (c .outs) (c .uins) (c .uouts) a + outs (c .ins) (c .outs) (c .uins) (c .uouts) a + uins (c .ins) (c .outs) (c .uins) (c .uouts) a + uouts (c .ins) (c .outs) (c .uins) (c .uouts) a
+    each a =
+        ins (c .ins) (c .outs) (c .uins) (c .uouts) a + outs (c .ins) (c .outs) (c .uins) (c .uouts) a + uins (c .ins) (c .outs) (c .uins) (c .uouts)
+        a + uouts (c .ins) (c .outs) (c .uins) (c .uouts) a
 
 -- ---- the rows
 pub rows-more : (r : Row) (rs : List Row) → length (rowLines (r ∷ rs)) ≡ length (rowLine r) + length (rowLines rs)
@@ -150,7 +167,8 @@ module _ (states start ins outs uins uouts clocks : ℕ) where
       omega (arith, comp-width c, comp-line c, acts-width c, clks-width c, no-rows)
 
 -- a component is its lines beside the rows, and its rows
-pub comp-by-head : (c : Comp) → length (compText c) ≡ length (compText (bare (c .states) (c .start) (c .ins) (c .outs) (c .uins) (c .uouts) (c .clocks))) + length (rowLines (c .rows))
+pub comp-by-head : (c : Comp) → length (compText c)
+    ≡ length (compText (bare (c .states) (c .start) (c .ins) (c .outs) (c .uins) (c .uouts) (c .clocks))) + length (rowLines (c .rows))
 comp-by-head c =
     omega (arith, bare-width (c .states) (c .start) (c .ins) (c .outs) (c .uins) (c .uouts) (c .clocks), comp-width c, comp-line c, acts-width c, clks-width c)
 

@@ -19,7 +19,7 @@ use Rattle.table.proofs.ImageExactly.{image-exactly}
 use Rattle.lacking.specs.Repair.{repairedOf}
 use Rattle.lacking.specs.Repaired.{Mended}
 use Rattle.lacking.specs.Walk.{cellBytes, mostCells}
-use Rattle.repair.specs.Repairing.{repairOf, repairOn, numberIn, tableWith, Repairing}
+use Rattle.repair.specs.Repairing.{repairOf, repairOn, numberIn, Repairing}
 use Rattle.repair.proofs.Exactly.{Done, repair-done, answered-is}
 use Rattle.table.proofs.OnImageExactly.{held-model}
 use Rattle.mend.specs.Mended.{repairedText, mendedText}

@@ -1,11 +1,11 @@
 -- What stands in a list after a run of words was written into it, and after one word was raised.
-use mathlib.Core.Path.{_≡_, refl, sym, _∙_, ap}
+use mathlib.Core.Path.{_≡_, refl, _∙_}
 use mathlib.Core.List.{List, [], _∷_}
 use Prim.Native.Nat.{ℕ, zero, suc, _+_, _*_, _-_, _≤_, _<_}
 use native.Mathlib.Omega.{arith}
-use native.Mathlib.Decide.{decLt, ℕ-discrete}
+use native.Mathlib.Decide.{ℕ-discrete}
 use lib.ListN.{length, getD, set, length-set}
-use lib.Seq.{sets, length-sets, getD-set-same, getD-set-other}
+use lib.Seq.{sets, getD-set-same, getD-set-other}
 use Rattle.laws.specs.Fold.{tab}
 use Rattle.layout.specs.Layout.{rowWords, rowsAt, actionAt, guardAt, resetsAt, targetAt}
 use Rattle.layout.specs.Image.{rowIn, rowsOf}

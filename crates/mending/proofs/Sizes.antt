@@ -1,12 +1,12 @@
 -- A set and its lowest member: without it the set has one member less.
 use mathlib.Core.Path.{_≡_, refl, sym, _∙_, ap}
 use mathlib.Core.Bool.{Bool, true, false, _&&_, not, cond, true≢false}
-use Prim.Native.Nat.{ℕ, zero, suc, _+_, _*_, _^_, _≤_, _<_}
+use Prim.Native.Nat.{ℕ, zero, suc, _+_, _^_, _≤_, _<_}
 use native.Mathlib.Omega.{arith}
-use native.Mathlib.Decide.{ℕ-discrete, decLt}
+use native.Mathlib.Decide.{ℕ-discrete}
 use lib.Dec.{eqb}
 use borrow.Author.Tests.{eqb-true, eq-eqb, ne-eqb}
-use Rattle.laws.specs.Sets.{has, _∖_, only, _∈_}
+use Rattle.laws.specs.Sets.{has, only, _∈_}
 use Rattle.laws.specs.Search.{Least}
 use Rattle.laws.specs.Fold.{tab, sum}
 use Rattle.laws.proofs.SetLaws.{has-without, in-without, without-in, one-in, in-one, none-in, in-below, same-members}

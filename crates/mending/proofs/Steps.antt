@@ -1,47 +1,43 @@
 -- The work in the table, state by state: between an old image and the image of the repaired model.
 use mathlib.Core.Path.{_≡_, refl, sym, _∙_, ap, ap₂}
 use mathlib.Core.Logic.{_⊎_, inl, inr, ⊎-elim}
-use mathlib.Core.Bool.{Bool, true, false, true≢false}
-use mathlib.Core.List.{List, [], _∷_, List·Memᴰ as In, List·Memᴰ·head as here, List·Memᴰ·tail as there, List·Memᴰ·not-nil as in-none}
+use mathlib.Core.List.{List, List·Memᴰ as In, List·Memᴰ·head as here, List·Memᴰ·tail as there, List·Memᴰ·not-nil as in-none}
 use Prim.Native.Nat.{ℕ, zero, suc, _+_, _*_, _-_, _≤_, _<_}
 use native.Mathlib.Omega.{arith}
 use native.Mathlib.Decide.{ℕ-discrete, decLt}
 use lib.ListN.{length, getD, set, length-set}
 use lib.Seq.{sets, length-sets, getD-set-same, getD-set-other}
 use Rattle.laws.specs.Sets.{has, _∪_, _∖_, only, _∈_}
-use Rattle.laws.specs.Fold.{tab, spread, over}
-use Rattle.laws.proofs.FoldLaws.{tab-length, tab-at}
-use Rattle.laws.proofs.SetLaws.{in-without}
-use Rattle.laws.proofs.ListLaws.{in-spread, spread-in, in-at, at-in, Pairwise, pairwise-from}
+use Rattle.laws.specs.Fold.{tab, over}
+use Rattle.laws.proofs.FoldLaws.{tab-length}
+use Rattle.laws.proofs.ListLaws.{in-spread, spread-in}
 use Rattle.laws.proofs.RangeLaws.{over-shift, over-ext}
 use Rattle.laws.proofs.TestLaws.{not-so}
-use Rattle.answer.specs.Limits.{maxActions, maxRows, maxComponents, maxStates}
-use Rattle.sets.specs.Members.{wordBits, sizeOf}
-use Rattle.model.specs.Model.{Row, Comp, noRow, compAt, rowCount, inputs}
+use Rattle.answer.specs.Limits.{maxRows}
+use Rattle.sets.specs.Members.{sizeOf}
+use Rattle.model.specs.Model.{Row, Comp, compAt, rowCount}
 use Rattle.model.specs.WellFormed.{WellComp}
-use Rattle.iosa.specs.Checks.{lacksRow}
 use Rattle.iosa.specs.Faults.{Broken12}
-use Rattle.iosa.proofs.Acceptance.Order.{before-transitive}
 use Rattle.iosa.proofs.Acceptance.Rows.{input-below}
 use Rattle.iosa.proofs.Acceptance.Check12.{lack-broken, broken-lack}
 use Rattle.merged.proofs.Merging.Rows.{rows-by-lead, in-rows-by}
 use Rattle.merged.proofs.Merging.Ascend.{Before, Ascending}
-use Rattle.layout.specs.Layout.{headWords, blockWords, rowWords, rowsAt, imageWords, countOf, blockWord, firstOf, actionAt}
+use Rattle.layout.specs.Layout.{headWords, blockWords, rowWords, rowsAt, countOf, blockWord, firstOf, actionAt}
 use Rattle.layout.specs.Image.{Image, rowIn, rowsOf, rowsLeaving, compOf, modelOf}
 use Rattle.layout.proofs.ModelOf.{model-length, comp-at}
 use Rattle.layout.proofs.ReadBack.{rows-length, rows-before}
-use Rattle.layout.proofs.RowsOfRange.{well-formed, well-comp, first-up, first-next, first-over, first-start, rows-end}
+use Rattle.layout.proofs.RowsOfRange.{well-formed, well-comp, first-up, first-next, first-start, rows-end}
 use Rattle.layout.proofs.ImageIsSane.{image-long, count-below, comp-ranges, row-ranges}
-use Rattle.layout.proofs.ImageIsLaid.{rows-last, image-is-laid}
+use Rattle.layout.proofs.ImageIsLaid.{rows-last}
 use Rattle.layout.proofs.LowestAction.{range-ascends}
-use Rattle.lacking.specs.Repair.{loopAt, repaired, repairedOf}
+use Rattle.lacking.specs.Repair.{loopAt, repaired}
 use Rattle.lacking.specs.Repaired.{SelfLoop}
 use Rattle.lacking.specs.Walk.{actionsFrom, lackIn, lackOf}
 use Rattle.lacking.proofs.RepairedRows.{same-rows, repaired-has}
 use Rattle.lacking.proofs.RepairedModels.{repaired-length, repaired-at}
 use Rattle.lacking.proofs.LackLaws.{lacks-is}
 use Rattle.mending.specs.Weave.{woven}
-use Rattle.mending.specs.Standing.{Working, Stage, blockAt, firstAt}
+use Rattle.mending.specs.Standing.{Working, Stage, firstAt}
 use Rattle.mending.proofs.SetsAt.{sets-below, sets-above, sets-inside, rows-of-tab, same-row}
 use Rattle.mending.proofs.Woven.{Ready, woven-length, woven-in, old-in, new-in, woven-ascends}
 
@@ -203,16 +199,14 @@ module _ (T X : List ℕ) (n : ℕ) (k : Working T X n) where
                   q .0 + n,
                   omega (arith, q .1),
                   omega (arith, q .2),
-                  q .3
-                      ∙ sym (old (q .0) (q .1) (q .2)),
+                  q .3 ∙ sym (old (q .0) (q .1) (q .2)),
                 ))
                 (λ l.
                 let e : l .state ≡ s = sym (ap (λ r. r .from) (l .row)) ∙ p .1 in
                 new-in g s (hi + n) many (lo + n) L state-ready refl (
                   l .action,
                   lacked (l .action) (rw e at (l .lacked)),
-                  l .row
-                      ∙ ap (λ x. loopAt x (l .action)) e,
+                  l .row ∙ ap (λ x. loopAt x (l .action)) e,
                 ))
                 (repaired-has c w z .0 (rw comp-new at (p .0)))
 

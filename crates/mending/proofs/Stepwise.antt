@@ -1,10 +1,9 @@
 -- One row of a state's walk at a time.
-use mathlib.Core.Path.{_≡_, refl, sym, _∙_, ap}
-use mathlib.Core.Bool.{Bool, true, false, _&&_, cond}
+use mathlib.Core.Path.{_≡_, refl}
+use mathlib.Core.Bool.{Bool, true, false, cond}
 use mathlib.Core.List.{List, [], _∷_}
-use Prim.Native.Nat.{ℕ, zero, suc, _+_, _*_, _-_, _≤_, _<_}
+use Prim.Native.Nat.{ℕ, suc, _+_, _*_, _-_, _≤_, _<_}
 use native.Mathlib.Omega.{arith}
-use lib.ListN.{length}
 use lib.Seq.{sets}
 use lib.Dec.{ltb}
 use borrow.Author.Tests.{ltb-true, ltb-false, lt-ltb, le-ltb}
@@ -16,7 +15,7 @@ use Rattle.layout.specs.Image.{rowIn}
 use Rattle.lacking.specs.Repair.{loopAt}
 use Rattle.mending.specs.declared.Next.{Next}
 use Rattle.mending.specs.Weave.{takes, later, putRow, weave}
-use Rattle.mending.specs.Next.{nextOf, Put}
+use Rattle.mending.specs.Next.{Put}
 
 -- ---- whether a row comes first
 pub takes-below : (g : ℕ → Row) (hi left r : ℕ) → takes g hi left r ≡ true → r < hi

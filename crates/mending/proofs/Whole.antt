@@ -1,33 +1,34 @@
 -- The work in the table, from its start over every state and component to its end.
 use mathlib.Core.Path.{_≡_, refl, sym, _∙_, ap, ap₂}
-use mathlib.Core.List.{List, [], _∷_, _++_}
-use Prim.Native.Nat.{ℕ, zero, suc, _+_, _*_, _-_, _/_, _%_, _≤_, _<_}
+use mathlib.Core.List.{List, _++_}
+use Prim.Native.Nat.{ℕ, suc, _+_, _*_, _-_, _/_, _%_, _≤_, _<_}
 use native.Mathlib.Omega.{arith}
 use native.Mathlib.Numerals.{add-one}
 use native.Mathlib.Decide.{ℕ-discrete, decLt}
-use lib.ListN.{length, getD, set, take, drop, length-set, length-append, length-drop, List·getD-append}
+use lib.ListN.{length, getD, set, take, drop, length-set, length-append, length-drop}
 use lib.Seq.{sets, ext-getD, getD-set-same, getD-set-other, take-at, take-all, getD-append-add, getD-drop}
 use Rattle.answer.specs.Limits.{maxComponents, maxStates, maxRows}
 use Rattle.sets.specs.Members.{wordBits, sizeOf}
 use Rattle.model.specs.Model.{rowCount}
 use Rattle.model.specs.WellFormed.{WellFormed}
-use Rattle.layout.specs.Layout.{headWords, blockWords, rowWords, rowsAt, imageWords, countOf, blockWord, firstOf, actionAt}
-use Rattle.layout.specs.Image.{Image, rowIn, rowsOf, rowsLeaving, imageOf, compOf, modelOf}
+use Rattle.layout.specs.Layout.{blockWords, rowWords, rowsAt, imageWords, countOf, blockWord, firstOf, actionAt}
+use Rattle.layout.specs.Image.{Image, rowIn, rowsOf, rowsLeaving, imageOf, modelOf}
 use Rattle.layout.proofs.ModelOf.{model-length, comp-at}
 use Rattle.layout.proofs.ReadBack.{length-of-image, rows-next}
 use Rattle.layout.proofs.RowsOfRange.{well-formed, first-start, first-over, rows-end}
 use Rattle.layout.proofs.ModelOfImage.{model-is}
-use Rattle.layout.proofs.ImageIsSane.{image-long, count-below, comp-ranges, row-ranges}
+use Rattle.layout.proofs.ImageIsSane.{image-long, count-below, comp-ranges}
 use Rattle.layout.proofs.ImageIsLaid.{image-is-laid, rows-last}
 use Rattle.lacking.specs.Repair.{repairedOf, addedTo}
 use Rattle.lacking.specs.Walk.{lackIn, lackOf}
 use Rattle.lacking.proofs.Counts.{repaired-row-count}
-use Rattle.mending.specs.Weave.{weave, woven}
+use Rattle.mending.specs.Weave.{weave}
 use Rattle.mending.specs.Raised.{Raised}
 use Rattle.mending.specs.Standing.{Working, Stage, blockAt, firstAt, AtState, AtComp, After, Behind, AtStart, Reached}
 use Rattle.mending.proofs.Woven.{Ready}
 use Rattle.mending.proofs.Weaving.{weave-is}
-use Rattle.mending.proofs.Steps.{same-count, head-same, next-first, state-ready, woven-is, room, all-fit, total-over, first-here, first-there, raised-row, lack-read, state-put}
+use Rattle.mending.proofs.Steps.{same-count, head-same, next-first, state-ready, woven-is, room, all-fit, total-over, first-here, first-there}
+use Rattle.mending.proofs.Steps.{raised-row, lack-read, state-put}
 
 weave-same : (s w : ℕ) (u : List ℕ) {hi hi′ k k′ left left′ r r′ : ℕ} → hi ≡ hi′ → k ≡ k′ → left ≡ left′ → r ≡ r′
     → weave s hi k w left r u ≡ weave s hi′ k′ w left′ r′ u

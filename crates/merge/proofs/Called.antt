@@ -87,10 +87,12 @@ module _ (t : List ℕ) (i : ℕ) (was : List ℕ) where
     unfolding mergeOn
     on = on-image t (λ m. mergeOf m i (roomFault was)) (image-exactly t .1 im)
 
-    pub is-short : length was < imageWords → (r : Checked) → r ≡ Refused (record { number = 24; place = Bytes (imageWords * wordBytes) }) → Merging t i was r was
+    pub is-short : length was < imageWords → (r : Checked) → r ≡ Refused (record { number = 24; place = Bytes (imageWords * wordBytes) })
+        → Merging t i was r was
     unfolding told
     is-short h r e =
-        rw e (refuses (tableTooShort) (on ∙ no-room (modelOf t) i (roomFault was) _ acc (room-short was h)) (record { number = 24; place = Bytes (imageWords * wordBytes) }) refl)
+        rw e (refuses (tableTooShort) (on ∙ no-room (modelOf t) i (roomFault was) _ acc (room-short was h))
+        (record { number = 24; place = Bytes (imageWords * wordBytes) }) refl)
 
     module _ (room : imageWords ≤ length was) where
       roomy : mergeOn t i was ≡ mergeOf (modelOf t) i none
@@ -99,7 +101,8 @@ module _ (t : List ℕ) (i : ℕ) (was : List ℕ) where
       pub is-alone : (suc i < countOf t → ⊥) → (r : Checked) → r ≡ Refused (record { number = 25; place = Whole }) → Merging t i was r was
       unfolding told
       is-alone n r e =
-          rw e (refuses (tell 25 (0 ∷ [])) (roomy ∙ merge-exactly (modelOf t) i acc _ .1 (no-neighbour (λ h. n (omega (arith, model-length t))))) (record { number = 25; place = Whole }) refl)
+          rw e (refuses (tell 25 (0 ∷ [])) (roomy ∙ merge-exactly (modelOf t) i acc _ .1 (no-neighbour (λ h. n (omega (arith, model-length t)))))
+          (record { number = 25; place = Whole }) refl)
 
       module _ (next : suc i < countOf t) where
         inside : suc i < length (modelOf t)

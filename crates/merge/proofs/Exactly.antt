@@ -53,6 +53,8 @@ module _ (t : List ℕ) (i : ℕ) (was into : List ℕ) (g : Merging t i was Fin
         image = some-image;
         again = image-exactly into .0 (w .0);
         model = rw (w .1) r;
-        accepted = rw (w .1) (merging-keeps-acceptance (modelOf t) i (roomFault was) n (well-formed t some-image) (sym (on-image t (λ m. mergeOf m i (roomFault was)) (image-exactly t .1 some-image)) ∙ e));
+        accepted =
+            rw (w .1) (merging-keeps-acceptance (modelOf t) i (roomFault was) n (well-formed t some-image)
+            (sym (on-image t (λ m. mergeOf m i (roomFault was)) (image-exactly t .1 some-image)) ∙ e));
         rest = merge-leaves-the-rest t some-image i was Fine into g n e;
       }

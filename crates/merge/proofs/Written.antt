@@ -1,4 +1,5 @@
--- What the contract of `merge` says where it answers: the front of the buffer is the image of the model with the product in the place of the two, and the rest is as it was.
+-- What the contract of `merge` says where it answers: the front of the buffer is the image of the model with the product in the place of the two, and
+-- the rest is as it was.
 use mathlib.Core.Path.{_≡_, sym, _∙_, ap}
 use mathlib.Core.List.{List, _++_}
 use Prim.Native.Nat.{ℕ}
@@ -25,7 +26,8 @@ unfolding mergeOn
 merged-answered t im i was n e =
     merging-is-exact (modelOf t) i (roomFault was) n (well-formed t im) (sym (on-image t (λ m. mergeOf m i (roomFault was)) (image-exactly t .1 im)) ∙ e)
 
-module _ (t : List ℕ) (im : Image t) (i : ℕ) (was : List ℕ) (r : Checked) (into : List ℕ) (g : Merging t i was r into) (n : Model) (e : mergeOn t i was ≡ answered n) where
+module _ (t : List ℕ) (im : Image t) (i : ℕ) (was : List ℕ) (r : Checked) (into : List ℕ) (g : Merging t i was r into) (n : Model)
+    (e : mergeOn t i was ≡ answered n) where
   written : into ≡ imageOf n ++ drop imageWords was
   written = g .table ∙ ap (λ a. tableAfter a was) e
 

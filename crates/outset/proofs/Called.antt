@@ -1,34 +1,31 @@
 -- The answer of `start`, by whether the table was recognised; and the words of a table that it is made of.
-use mathlib.Core.Path.{_≡_, refl, sym, _∙_, ap}
+use mathlib.Core.Path.{_≡_, sym, _∙_, ap}
 use mathlib.Core.Bool.{Bool, true, false, not}
 use mathlib.Core.Option.{some}
 use mathlib.Core.List.{List}
-use Prim.Native.Nat.{ℕ, _≤_, _<_}
+use Prim.Native.Nat.{ℕ, _<_}
 use native.Mathlib.Omega.{arith}
 use native.Mathlib.Decide.{decLt}
 use lib.ListN.{length, getD, List·getD-eq-default}
 use borrow.Author.Tests.{not-true, not-false}
 use Rattle.answer.specs.Limits.{maxComponents, maxStates, noState}
-use Rattle.answer.specs.Told.{answered, refused, doneOf, told, saysChecked}
+use Rattle.answer.specs.Told.{answered, doneOf, told, saysChecked}
 use Rattle.answer.specs.declared.Checked.the-variants.{Fine, Refused}
 use Rattle.answer.specs.declared.Place.the-variants.{Whole}
 use Rattle.answer.specs.declared.State.{State}
-use Rattle.model.specs.Model.{Model, compAt}
-use Rattle.iosa.specs.Start.{startAll, startedAll, Beginning, startOf}
+use Rattle.iosa.specs.Start.{startAll, startedAll, startOf}
 use Rattle.iosa.proofs.Settling.Start.{start-length, start-at}
 use Rattle.layout.specs.Layout.{countOf, blockWord}
-use Rattle.layout.specs.Image.{Image, compOf, modelOf, noImage}
+use Rattle.layout.specs.Image.{Image, compOf, modelOf}
 use Rattle.layout.proofs.ModelOf.{model-length, comp-at}
 use Rattle.layout.proofs.ReadBack.{no-block}
 use Rattle.layout.proofs.RowsOfRange.{well-formed, image-front}
 use Rattle.layout.proofs.ImageIsSane.{comp-ranges}
 use Rattle.table.specs.IsImage.{isImage}
-use Rattle.table.specs.OnTable.{onTable}
 use Rattle.table.proofs.OnTableLaws.{on-image, on-no-image}
 use Rattle.table.proofs.ImageExactly.{image-exactly}
 use Rattle.words.specs.Bytes.{stateOf}
-use Rattle.outset.specs.declared.Outset.{Outset}
-use Rattle.outset.specs.Start.{startOn, startedIn, stateIn, StartCall}
+use Rattle.outset.specs.Start.{startedIn, stateIn, StartCall}
 
 module _ (t : List ℕ) (im : Image t) where
   -- as many numbers as components
@@ -57,13 +54,15 @@ module _ (t : List ℕ) (w : Bool) (e : w ≡ isImage t) where
   is-image f = image-exactly t .0 (sym e ∙ not-false w f)
 
   -- 20, and zeros
-  pub refused-20 : not w ≡ true → (x : State) → x ≡ noState → StartCall t (record { checked = Refused (record { number = 20; place = Whole }); started = 0; state = x })
+  pub refused-20 : not w ≡ true → (x : State) → x ≡ noState
+      → StartCall t (record { checked = Refused (record { number = 20; place = Whole }); started = 0; state = x })
   unfolding saysChecked told
   refused-20 f x q =
       let o = on-no-image t (λ m. answered (startOf m)) (sym e ∙ not-true w f) in
       record { checked = ap (λ v. some (doneOf v)) (sym o); started = ap startedIn (sym o); state = q ∙ ap stateIn (sym o) }
 
-  pub begins : not w ≡ false → (s : ℕ) (x : State) → s ≡ startedAll (modelOf t) → x ≡ stateOf (startAll (modelOf t)) → StartCall t (record { checked = Fine; started = s; state = x })
+  pub begins : not w ≡ false → (s : ℕ) (x : State) → s ≡ startedAll (modelOf t) → x ≡ stateOf (startAll (modelOf t))
+      → StartCall t (record { checked = Fine; started = s; state = x })
   unfolding saysChecked
   begins f s x p q =
       let o = on-image t (λ m. answered (startOf m)) (sym e ∙ not-false w f) in

@@ -67,7 +67,9 @@ module _ (t : List ℕ) (r : Outset) (says : StartCall t r) where
           first = c;
           others = cs;
           model = e;
-          start = start-exactly c cs (rw e at (well-formed t im)) (record { state = partsOf (r .state); started = r .started }) .1 (λ i. record { state = s i; started = k i });
+          start =
+              start-exactly c cs (rw e at (well-formed t im)) (record { state = partsOf (r .state); started = r .started }) .1
+              (λ i. record { state = s i; started = k i });
           places = state ∙ ap stateOf (sym numbers);
         }
 

@@ -1,14 +1,13 @@
 -- 15 to 17 by sets: the set of what some two components clash by, its lowest member, and the first pair that clashes by that.
 use mathlib.Core.Path.{_≡_, refl, sym, _∙_, ap, ap₂}
-use mathlib.Core.Logic.{_⊎_, inl, inr, ⊎-elim}
+use mathlib.Core.Logic.{⊎-elim}
 use mathlib.Core.Bool.{Bool, true, false, _&&_, _||_, true≢false}
 use mathlib.Core.Option.{Option, none, some}
 use mathlib.Core.List.{List, [], _∷_}
-use Prim.Native.Nat.{ℕ, zero, suc, _+_, _≤_, _<_}
+use Prim.Native.Nat.{ℕ, _+_, _<_}
 use native.Mathlib.Omega.{arith}
 use native.Mathlib.Numerals.{add-one}
-use lib.ListN.{length}
-use Rattle.laws.specs.Sets.{has, _∪_, _∩_, _∈_}
+use Rattle.laws.specs.Sets.{has, _∩_, _∈_}
 use Rattle.laws.specs.Search.{seek, when, isSome, mapSome, least}
 use Rattle.laws.specs.Fold.{over}
 use Rattle.laws.proofs.SetLaws.{has-or, has-and, in-or, or-in-l, or-in-r, in-and, and-in, none-in, in-below}
@@ -17,7 +16,7 @@ use Rattle.laws.proofs.RangeLaws.{seek-ext, seek-map}
 use Rattle.laws.proofs.TestLaws.{not-so}
 use Rattle.laws.proofs.UnionLaws.{joinAll, has-joined}
 use Rattle.answer.specs.Limits.{maxActions, maxClocks}
-use Rattle.answer.specs.Told.{Told, tell}
+use Rattle.answer.specs.Told.{tell}
 use Rattle.sets.specs.Members.{wordBits, lowestOf}
 use Rattle.sets.proofs.MemberLaws.{lowest-found}
 use Rattle.model.specs.Model.{Comp, Model, compAt}
@@ -57,9 +56,12 @@ twice-or true true = refl
 twice-or true false = refl
 twice-or false b = refl
 
-by-members : (k : Shared) (x : ℕ) (c d : Comp) → has (clashOf k c d) x ≡ ((has (leftOf k c) x && has (rightOf k d) x) || (has (rightOf k c) x && has (leftOf k d) x))
+by-members : (k : Shared) (x : ℕ) (c d : Comp)
+    → has (clashOf k c d) x ≡ ((has (leftOf k c) x && has (rightOf k d) x) || (has (rightOf k c) x && has (leftOf k d) x))
 unfolding clashOf
-by-members k x c d = has-or (leftOf k c ∩ rightOf k d) (rightOf k c ∩ leftOf k d) x ∙ ap₂ _||_ (has-and (leftOf k c) (rightOf k d) x) (has-and (rightOf k c) (leftOf k d) x)
+by-members k x c d =
+    has-or (leftOf k c ∩ rightOf k d) (rightOf k c ∩ leftOf k d) x ∙ ap₂ _||_ (has-and (leftOf k c) (rightOf k d) x)
+    (has-and (rightOf k c) (leftOf k d) x)
 
 test-is : (k : Shared) (x : ℕ) (c d : Comp) → testOf k x c d ≡ has (clashOf k c d) x
 unfolding leftOf rightOf
@@ -108,14 +110,18 @@ module _ (k : Shared) (t : List ℕ) (im : Image t) where
         second = j .0;
         order = i .1;
         inside = j .1;
-        clash = or-in-l (leftOf k (at (i .0)) ∩ rightOf k (at (j .0))) (rightOf k (at (i .0)) ∩ leftOf k (at (j .0))) x (and-in (leftOf k (at (i .0))) (rightOf k (at (j .0))) x (i .2) (q .1));
+        clash =
+            or-in-l (leftOf k (at (i .0)) ∩ rightOf k (at (j .0))) (rightOf k (at (i .0)) ∩ leftOf k (at (j .0))) x
+            (and-in (leftOf k (at (i .0))) (rightOf k (at (j .0))) x (i .2) (q .1));
       })
       (λ p. let q = in-and (rightBelow k t (j .0)) (leftOf k (at (j .0))) x p in let i = joined-in (λ i. rightOf k (at i)) (j .0) x (q .0) in record {
         first = i .0;
         second = j .0;
         order = i .1;
         inside = j .1;
-        clash = or-in-r (leftOf k (at (i .0)) ∩ rightOf k (at (j .0))) (rightOf k (at (i .0)) ∩ leftOf k (at (j .0))) x (and-in (rightOf k (at (i .0))) (leftOf k (at (j .0))) x (i .2) (q .1));
+        clash =
+            or-in-r (leftOf k (at (i .0)) ∩ rightOf k (at (j .0))) (rightOf k (at (i .0)) ∩ leftOf k (at (j .0))) x
+            (and-in (rightOf k (at (i .0))) (leftOf k (at (j .0))) x (i .2) (q .1));
       })
       (in-or (leftBelow k t (j .0) ∩ rightOf k (at (j .0))) (rightBelow k t (j .0) ∩ leftOf k (at (j .0))) x (j .2))
 
@@ -126,9 +132,11 @@ module _ (k : Shared) (t : List ℕ) (im : Image t) where
       let j = r .second in
       in-joined (clashAt k t) (countOf t) j x (r .inside) (⊎-elim
       (λ p. let q = in-and (leftOf k (at i)) (rightOf k (at j)) x p in
-      or-in-l (leftBelow k t j ∩ rightOf k (at j)) (rightBelow k t j ∩ leftOf k (at j)) x (and-in (leftBelow k t j) (rightOf k (at j)) x (in-joined (λ i. leftOf k (at i)) j i x (r .order) (q .0)) (q .1)))
+      or-in-l (leftBelow k t j ∩ rightOf k (at j)) (rightBelow k t j ∩ leftOf k (at j)) x
+      (and-in (leftBelow k t j) (rightOf k (at j)) x (in-joined (λ i. leftOf k (at i)) j i x (r .order) (q .0)) (q .1)))
       (λ p. let q = in-and (rightOf k (at i)) (leftOf k (at j)) x p in
-      or-in-r (leftBelow k t j ∩ rightOf k (at j)) (rightBelow k t j ∩ leftOf k (at j)) x (and-in (rightBelow k t j) (leftOf k (at j)) x (in-joined (λ i. rightOf k (at i)) j i x (r .order) (q .0)) (q .1)))
+      or-in-r (leftBelow k t j ∩ rightOf k (at j)) (rightBelow k t j ∩ leftOf k (at j)) x
+      (and-in (rightBelow k t j) (leftOf k (at j)) x (in-joined (λ i. rightOf k (at i)) j i x (r .order) (q .0)) (q .1)))
       (in-or (leftOf k (at i) ∩ rightOf k (at j)) (rightOf k (at i) ∩ leftOf k (at j)) x (r .clash)))
 
   set-below : (x : ℕ) → x ∈ clashSet k t → x < wordBits
@@ -149,13 +157,15 @@ module _ (k : Shared) (t : List ℕ) (im : Image t) where
   unfolding partnerOf
   partners x i h =
       ap₂ (seek (λ j. when (testOf k x (compAt (modelOf t) i) (compAt (modelOf t) j)) (x ∷ i ∷ j ∷ []))) (sym (add-one i)) (model-length t)
-      ∙ seek-ext (λ j. when (testOf k x (compAt (modelOf t) i) (compAt (modelOf t) j)) (x ∷ i ∷ j ∷ [])) (λ j. when (has (clashOf k (at i) (at j)) x) (x ∷ i ∷ j ∷ [])) (i + 1) (countOf t)
+      ∙ seek-ext (λ j. when (testOf k x (compAt (modelOf t) i) (compAt (modelOf t) j)) (x ∷ i ∷ j ∷ []))
+      (λ j. when (has (clashOf k (at i) (at j)) x) (x ∷ i ∷ j ∷ [])) (i + 1) (countOf t)
       (λ j p q. ap (λ v. when v (x ∷ i ∷ j ∷ [])) (ap₂ (testOf k x) (comp-at t i h) (comp-at t j q) ∙ test-is k x (at i) (at j)))
       ∙ seek-map (λ j. has (clashOf k (at i) (at j)) x) (λ j. x ∷ i ∷ j ∷ []) (i + 1) (countOf t)
 
   none-partner : (x i : ℕ) → i < countOf t → (Pair x → ⊥) → pairsFrom x i ≡ none
   unfolding partnerOf
-  none-partner x i h f = partners x i h ∙ ap (mapSome (λ j. x ∷ i ∷ j ∷ [])) (none-seek (λ j. when (has (clashOf k (at i) (at j)) x) j) (i + 1) (countOf t) (λ j p q.
+  none-partner x i h f =
+      partners x i h ∙ ap (mapSome (λ j. x ∷ i ∷ j ∷ [])) (none-seek (λ j. when (has (clashOf k (at i) (at j)) x) j) (i + 1) (countOf t) (λ j p q.
       ap (λ v. when v j) (not-so (has (clashOf k (at i) (at j)) x) (λ e. f (record { first = i; second = j; order = omega arith; inside = q; clash = e })))))
 
   none-pairs : (x : ℕ) → (Pair x → ⊥) → seek (pairsFrom x) 0 (countOf t) ≡ none
@@ -170,7 +180,10 @@ module _ (k : Shared) (t : List ℕ) (im : Image t) where
       go (partnerOf k t x i) refl z
     where
       go : (o : Option ℕ) → partnerOf k t x (r .first) ≡ o → mapSome (λ j. x ∷ r .first ∷ j ∷ []) o ≡ none → ⊥
-      go none h z = true≢false (sym (r .clash) ∙ when-none (has (clashOf k (at (r .first)) (at (r .second))) x) (r .second) (seek-none (λ j. when (has (clashOf k (at (r .first)) (at j)) x) j) (r .first + 1) (countOf t) h (r .second) (omega (arith, r .order)) (r .inside)))
+      go none h z =
+          true≢false (sym (r .clash) ∙ when-none (has (clashOf k (at (r .first)) (at (r .second))) x) (r .second)
+          (seek-none (λ j. when (has (clashOf k (at (r .first)) (at j)) x) j) (r .first + 1) (countOf t) h (r .second) (omega (arith, r .order))
+          (r .inside)))
       go (some j) h z = no-some z refl
 
   -- ---- the whole search
@@ -179,7 +192,9 @@ module _ (k : Shared) (t : List ℕ) (im : Image t) where
   search-is = fault-is k (modelOf t) ∙ ap (λ n. mapSome (tell (numberOf k)) (seek (λ x. seek (pairsFrom x) 0 n) 0 wordBits)) (model-length t)
 
   pub none-shared : clashSet k t ≡ 0 → sharedFault k (modelOf t) ≡ none
-  none-shared z = search-is ∙ ap (mapSome (tell (numberOf k))) (none-seek (λ x. seek (pairsFrom x) 0 (countOf t)) 0 wordBits (λ x p q. none-pairs x (λ r. none-in x (rw z at (pair-set x r)))))
+  none-shared z =
+      search-is ∙ ap (mapSome (tell (numberOf k))) (none-seek (λ x. seek (pairsFrom x) 0 (countOf t)) 0 wordBits
+      (λ x p q. none-pairs x (λ r. none-in x (rw z at (pair-set x r)))))
 
   module _ (x : ℕ) (lowest : x ≡ lowestOf (clashSet k t)) (ne : clashSet k t ≡ 0 → ⊥) where
     found : least (has (clashSet k t)) wordBits ≡ some x
@@ -194,7 +209,8 @@ module _ (k : Shared) (t : List ℕ) (im : Image t) where
     pub lowest-shared : sharedFault k (modelOf t) ≡ mapSome (tell (numberOf k)) (seek (pairsFrom x) 0 (countOf t))
     lowest-shared = search-is ∙ ap (mapSome (tell (numberOf k))) (go (seek (pairsFrom x) 0 (countOf t)) refl)
       where
-        go : (o : Option (List ℕ)) → seek (pairsFrom x) 0 (countOf t) ≡ o → seek (λ x. seek (pairsFrom x) 0 (countOf t)) 0 wordBits ≡ seek (pairsFrom x) 0 (countOf t)
+        go : (o : Option (List ℕ)) → seek (pairsFrom x) 0 (countOf t) ≡ o → seek (λ x. seek (pairsFrom x) 0 (countOf t)) 0 wordBits
+            ≡ seek (pairsFrom x) 0 (countOf t)
         go none e = absurd (lowest-pairs e)
         go (some v) e = some-seek (λ x. seek (pairsFrom x) 0 (countOf t)) 0 wordBits (record {
           place = x;

@@ -1,25 +1,25 @@
 -- 13 in a state: rows ascend by action, so the first row with the action of the row before it has the lowest action that leaves the state twice.
-use mathlib.Core.Path.{_≡_, refl, sym, _∙_, ap, ap₂}
-use mathlib.Core.Bool.{Bool, true, false, _&&_, true≢false, false≢true}
+use mathlib.Core.Path.{_≡_, sym, _∙_, ap, ap₂}
+use mathlib.Core.Bool.{true, _&&_, true≢false}
 use mathlib.Core.Option.{Option, none, some}
 use mathlib.Core.List.{List, [], _∷_}
-use Prim.Native.Nat.{ℕ, zero, suc, _+_, _-_, _≤_, _<_}
+use Prim.Native.Nat.{ℕ, suc, _+_, _-_, _≤_, _<_}
 use native.Mathlib.Omega.{arith}
 use native.Mathlib.Decide.{decLt}
 use lib.ListN.{length}
 use lib.Dec.{eqb}
 use borrow.Author.Tests.{eqb-true, eq-eqb}
 use Rattle.laws.specs.Sets.{has, _∈_}
-use Rattle.laws.specs.Search.{seek, when, any, Found}
+use Rattle.laws.specs.Search.{seek, when, any}
 use Rattle.laws.proofs.SearchLaws.{seek-some, seek-none, some-seek, none-seek, when-some, when-none, any-true, true-any}
 use Rattle.laws.proofs.TestLaws.{and-true, not-so}
 use Rattle.answer.specs.Limits.{maxActions}
-use Rattle.answer.specs.Told.{Told, tell}
-use Rattle.model.specs.Model.{Row, Comp, rowAt}
+use Rattle.answer.specs.Told.{tell}
+use Rattle.model.specs.Model.{Comp, rowAt}
 use Rattle.iosa.specs.Checks.{leaves, unclocked, twice}
 use Rattle.iosa.proofs.Acceptance.Rows.{leaves-true, leaves-parts}
 use Rattle.layout.specs.Layout.{countOf, blockWord, firstOf, actionAt}
-use Rattle.layout.specs.Image.{Image, compOf, rowIn}
+use Rattle.layout.specs.Image.{Image, compOf}
 use Rattle.layout.proofs.RowsOfRange.{row-there, row-from, row-to, range-from, range-to, range-row}
 use Rattle.layout.proofs.ImageIsSane.{row-ranges}
 use Rattle.layout.proofs.LowestAction.{actions-ascend}
@@ -39,7 +39,8 @@ pub record Two (c : Comp) (s a : ℕ) : Type 0 where
 pub two-twice : (c : Comp) (s a : ℕ) → Two c s a → twice c s a ≡ true
 unfolding twice
 two-twice c s a w =
-    let inner : any (λ j. leaves (rowAt c j) s a) (w .later) ≡ true = true-any (λ j. leaves (rowAt c j) s a) (w .later) (w .earlier) (w .above) (leaves-true (rowAt c (w .earlier)) s a (w .first .0) (w .first .1)) in
+    let inner : any (λ j. leaves (rowAt c j) s a) (w .later) ≡ true = true-any (λ j. leaves (rowAt c j) s a) (w .later) (w .earlier) (w .above)
+    (leaves-true (rowAt c (w .earlier)) s a (w .first .0) (w .first .1)) in
     let outer : any (λ k. leaves (rowAt c k) s a && any (λ j. leaves (rowAt c j) s a) k) (length (c .rows)) ≡ true =
     true-any (λ k. leaves (rowAt c k) s a && any (λ j. leaves (rowAt c j) s a) k) (length (c .rows)) (w .later) (w .inside)
     (ap₂ _&&_ (leaves-true (rowAt c (w .later)) s a (w .second .0) (w .second .1)) inner) in
@@ -113,9 +114,12 @@ module _ (t : List ℕ) (im : Image t) (i : ℕ) (h : i < countOf t) (s : ℕ) (
 
   pub none-again : firstAgain ≡ none → stateFault Single t i s ≡ none
   unfolding stateFault
-  none-again e = none-seek (λ a. when (twice c s a) (tell 13 (i ∷ s ∷ a ∷ []))) 0 maxActions (λ a p q. ap (λ v. when v (tell 13 (i ∷ s ∷ a ∷ []))) (not-so (twice c s a) (λ w.
+  none-again e =
+      none-seek (λ a. when (twice c s a) (tell 13 (i ∷ s ∷ a ∷ []))) 0 maxActions
+      (λ a p q. ap (λ v. when v (tell 13 (i ∷ s ∷ a ∷ []))) (not-so (twice c s a) (λ w.
       let r = two-again a (twice-two c s a w) in
-      true≢false (sym (r .2 .2) ∙ when-none (againAt t (unclocked c) (r .0)) (r .0) (seek-none (λ r. when (againAt t (unclocked c) r) r) (firstOf t i s + 1) (firstOf t i (suc s)) e (r .0) (r .2 .0) (r .2 .1))))))
+      true≢false (sym (r .2 .2) ∙ when-none (againAt t (unclocked c) (r .0)) (r .0)
+      (seek-none (λ r. when (againAt t (unclocked c) r) r) (firstOf t i s + 1) (firstOf t i (suc s)) e (r .0) (r .2 .0) (r .2 .1))))))
 
   pub some-again : (r : ℕ) → firstAgain ≡ some r → stateFault Single t i s ≡ some (tell 13 (i ∷ s ∷ actionAt t r ∷ []))
   unfolding stateFault
@@ -134,6 +138,9 @@ module _ (t : List ℕ) (im : Image t) (i : ℕ) (h : i < countOf t) (s : ℕ) (
             let u = two-again a (twice-two c s a v) in
             elim (decLt (u .0) r) [
               | yes l ↦ true≢false (sym (u .2 .2) ∙ when-none (againAt t (unclocked c) (u .0)) (u .0) (f .least (u .0) (u .2 .0) (omega (arith, w .1))))
-              | no l ↦ let up : actionAt t r ≤ actionAt t (u .0) = actions-ascend t im i s h b r (u .0) (omega arith, hi) (omega (arith, u .2 .0), u .2 .1) (omega arith) in omega (arith, u .1)
+              | no l ↦ let up : actionAt t r ≤ actionAt t (u .0) = actions-ascend t im i s h b r (u .0) (omega arith, hi) (
+                omega (arith, u .2 .0),
+                u .2 .1,
+              ) (omega arith) in omega (arith, u .1)
             ]));
       })

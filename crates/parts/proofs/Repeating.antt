@@ -1,29 +1,26 @@
 -- 11 in a state: a row of its range repeats a clock exactly where the set of the guards before it, from the range's start on, has its clock.
-use mathlib.Core.Path.{_≡_, refl, sym, _∙_, ap, ap₂}
-use mathlib.Core.Bool.{Bool, true, false, _&&_, not, true≢false, false≢true}
+use mathlib.Core.Path.{_≡_, refl, sym, _∙_, ap}
+use mathlib.Core.Bool.{Bool, true, false, true≢false}
 use mathlib.Core.Option.{Option, none, some}
-use mathlib.Core.List.{List, [], _∷_}
-use Prim.Native.Nat.{ℕ, zero, suc, _+_, _-_, _≤_, _<_}
+use mathlib.Core.List.{List}
+use Prim.Native.Nat.{ℕ, suc, _+_, _-_, _≤_, _<_}
 use native.Mathlib.Omega.{arith}
-use native.Mathlib.Decide.{ℕ-discrete}
 use lib.ListN.{length}
-use lib.Dec.{eqb}
-use borrow.Author.Tests.{eqb-true, eqb-false, eq-eqb, ne-eqb, not-true}
 use Rattle.laws.specs.Sets.{has, _∪_, _∩_, _∈_}
-use Rattle.laws.specs.Search.{seek, when, isSome, any}
+use Rattle.laws.specs.Search.{seek, when, isSome}
 use Rattle.laws.specs.Fold.{over}
 use Rattle.laws.proofs.SetLaws.{in-and, and-in, same-members, none-in}
-use Rattle.laws.proofs.SearchLaws.{is-some, seek-some, seek-none, is-none, when-some, when-none, any-true, true-any}
-use Rattle.laws.proofs.TestLaws.{and-true, not-so}
+use Rattle.laws.proofs.SearchLaws.{is-some, seek-some, seek-none, when-some, when-none}
+use Rattle.laws.proofs.TestLaws.{not-so}
 use Rattle.laws.proofs.UnionLaws.{joinAll, has-joined, over-last}
 use Rattle.laws.proofs.FoldLaws.{over-end}
-use Rattle.model.specs.Model.{Row, Comp, rowAt, guardSet}
-use Rattle.iosa.specs.Checks.{sameClock, repeats}
+use Rattle.model.specs.Model.{rowAt, guardSet}
+use Rattle.iosa.specs.Checks.{repeats}
 use Rattle.iosa.specs.Faults.{Broken11}
 use Rattle.iosa.proofs.Acceptance.Check11.{repeat-broken, broken-repeat}
 use Rattle.layout.specs.Layout.{countOf, blockWord, firstOf, guardAt}
 use Rattle.layout.specs.Image.{Image, compOf, rowIn}
-use Rattle.layout.proofs.RowsOfRange.{row-there, row-from, row-to, range-from, range-to, range-row}
+use Rattle.layout.proofs.RowsOfRange.{row-there, row-from, range-from, range-to, range-row}
 
 -- the guards of lo .. k, as a set
 unfoldable pub guardsIn : List ℕ → ℕ → ℕ → ℕ
@@ -42,7 +39,9 @@ unfolding guardsIn
 in-guards t lo k j x p q m = has-joined (λ r. guardSet (guardAt t r)) x lo k ∙ go (seek (λ r. when (has (guardSet (guardAt t r)) x) r) lo k) refl
   where
     go : (o : Option ℕ) → seek (λ r. when (has (guardSet (guardAt t r)) x) r) lo k ≡ o → isSome o ≡ true
-    go none e = absurd (true≢false (sym m ∙ when-none (has (guardSet (guardAt t j)) x) j (seek-none (λ r. when (has (guardSet (guardAt t r)) x) r) lo k e j p q)))
+    go none e =
+        absurd (true≢false (sym m ∙ when-none (has (guardSet (guardAt t j)) x) j (seek-none (λ r. when (has (guardSet (guardAt t r)) x) r) lo k e j p
+        q)))
     go (some y) e = refl
 
 guards-in : (t : List ℕ) (lo k x : ℕ) → x ∈ guardsIn t lo k → (j : ℕ) × (lo ≤ j) × (j < k) × (x ∈ guardSet (guardAt t j))

@@ -1,6 +1,6 @@
 -- What an answer says of a fault: fine exactly where there is none, and a refusal of the first of two faults is one of both.
 use mathlib.Core.Path.{_≡_, refl, sym, _∙_, ap}
-use mathlib.Core.Option.{Option, none, some, Option·some-inj}
+use mathlib.Core.Option.{Option, none, some}
 use Prim.Native.Nat.{ℕ}
 use native.Mathlib.Omega.{arith}
 use Rattle.laws.specs.Search.{orElse}

@@ -34,7 +34,8 @@ row-enables [] s x r e = absurd (no-some refl e)
 row-enables (c ∷ cs) [] x r e = absurd (no-some refl e)
 row-enables (c ∷ cs) (s ∷ ss) x r e = go (clockRow c s x) refl e (row-enables cs ss x r)
   where
-    go : (o : Option Row) → clockRow c s x ≡ o → orElse o (clockRowOf cs ss x) ≡ some r → (clockRowOf cs ss x ≡ some r → EnablesIn cs ss x) → EnablesIn (c ∷ cs) (s ∷ ss) x
+    go : (o : Option Row) → clockRow c s x ≡ o → orElse o (clockRowOf cs ss x) ≡ some r → (clockRowOf cs ss x ≡ some r → EnablesIn cs ss x)
+        → EnablesIn (c ∷ cs) (s ∷ ss) x
     go none f e ih = inr (ih e)
     go (some q) f e ih = inl (record { guard = only x; action = _; resets = _; target = _; guards = in-one x; row = clock-row-leads c s x q f })
 
@@ -48,7 +49,8 @@ calm-some m s a x r g st f q e =
     ∙ ap (λ b. onlyIf b (afterOf (fireAll m s x a))) (eq-eqb (r .action) a q)
     ∙ ap afterOf e
 
-module _ (c : Comp) (cs : List Comp) (well : WellFormed (c ∷ cs)) (conf : Conforming (c ∷ cs)) (join : Joinable (c ∷ cs)) (s : List ℕ) (w : Within (c ∷ cs) s) where
+module _ (c : Comp) (cs : List Comp) (well : WellFormed (c ∷ cs)) (conf : Conforming (c ∷ cs)) (join : Joinable (c ∷ cs)) (s : List ℕ)
+    (w : Within (c ∷ cs) s) where
   abbrev m : Model
   m = c ∷ cs
 
@@ -135,7 +137,8 @@ module _ (c : Comp) (cs : List Comp) (well : WellFormed (c ∷ cs)) (conf : Conf
       let r = row-is-a-step c cs well conf join s w y u in
       record { after = r .after; step = ap afterOf (r .step); within = r .within; state = r .state }
   step-back a (suc k) y (calmly {R = R} o n st row) =
-      let en = product-enables c cs (system-own c cs well) s w k (record { guard = only k; action = a; resets = R; target = y; guards = in-one k; row = row }) in
+      let en = product-enables c cs (system-own c cs well) s w k
+      (record { guard = only k; action = a; resets = R; target = y; guards = in-one k; row = row }) in
       let f = fired k en in
       let same = system-is-an-automaton c cs well conf join .condC .same k (in-one k) (in-one k) (f .step) row in
       let st? : isStable m s ≡ true = stable-exactly c cs well conf join s w .1 st in

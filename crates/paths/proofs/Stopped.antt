@@ -24,7 +24,8 @@ module _ (c : Comp) (cs : List Comp) (well : WellFormed (c ∷ cs)) (conf : Conf
   abbrev told : ℕ → ℕ → Told
   told i k = tell 46 ((i + k) ∷ [])
 
-  walk-stops : (i : ℕ) (l s : List ℕ) (t : Told) → Within m s → walk m i l s ≡ refused t → (k : ℕ) × (t ≡ told i k) × StopsAt (product c cs) (stateOf c cs s) l k
+  walk-stops : (i : ℕ) (l s : List ℕ) (t : Told) → Within m s → walk m i l s ≡ refused t
+      → (k : ℕ) × (t ≡ told i k) × StopsAt (product c cs) (stateOf c cs s) l k
   unfolding walk
   walk-stops i [] s t w e = absurd (no-answer (sym e))
   walk-stops i (a ∷ []) s t w e = (0, sym (same-refusal e) ∙ ap (λ n. tell 46 (n ∷ [])) (omega arith), no-guard)
@@ -54,7 +55,8 @@ module _ (c : Comp) (cs : List Comp) (well : WellFormed (c ∷ cs)) (conf : Conf
       go (some u) f = absurd (never (stateOf c cs u) (rw e (step-there c cs well conf join s w a g u f .0)))
   stops-walk i s w e (later {y = y} {a = a} {g = g} {i = k} {l = l} u more) =
       let p = step-back c cs well conf join s w a g y (rw e at u) in
-      ap (walkOn (walk m (suc i) l) i) (p .step) ∙ stops-walk (suc i) (p .after) (p .within) (p .state) more ∙ ap (λ n. refused (tell 46 (n ∷ []))) (omega arith)
+      ap (walkOn (walk m (suc i) l) i) (p .step) ∙ stops-walk (suc i) (p .after) (p .within) (p .state) more ∙ ap (λ n. refused (tell 46 (n ∷ [])))
+      (omega arith)
 
   -- from the start
   pub stopped-exactly : (l : List ℕ) (t : Told)

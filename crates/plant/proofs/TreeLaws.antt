@@ -91,7 +91,8 @@ module _ (t old : List ℕ) where
         long : length mid ≡ length old
         long = ap (λ (l : List ℕ). length l) same
 
-        pub no-room : (n : ℕ) → n ≡ imageWords * wordBytes → length mid < imageWords → ReadTreeCall t old mid (Refused (record { number = 24; place = Bytes n }))
+        pub no-room : (n : ℕ) → n ≡ imageWords * wordBytes → length mid < imageWords
+            → ReadTreeCall t old mid (Refused (record { number = 24; place = Bytes n }))
         unfolding readTreeOn
         no-room n p q =
             let k = long in

@@ -3,7 +3,7 @@ use mathlib.Core.Path.{_≡_, refl, sym, _∙_, ap, ap₂}
 use mathlib.Core.Option.{Option, none, some}
 use mathlib.Core.Bool.{Bool, true, false, cond}
 use mathlib.Core.List.{List, [], _∷_, _++_, append-assoc}
-use Prim.Native.Nat.{ℕ, zero, suc, _+_, _*_, _-_, _≤_, _<_}
+use Prim.Native.Nat.{ℕ, zero, suc, _+_, _-_, _≤_, _<_}
 use native.Mathlib.Omega.{arith}
 use lib.ListN.{length, getD, length-append}
 use lib.Seq.{sets}
@@ -47,11 +47,13 @@ unfolding leaveBelow
 row-below none s a x = none-of (ltb s x)
 row-below (some v) s a x = omega arith
 
-spread-below : (g : ℕ → List Row) (s x k n : ℕ) → ((a : ℕ) → leaveBelow (g a) x ≡ cond (ltb s x) (length (g a)) 0) → leaveBelow (spread g k n) x ≡ cond (ltb s x) (length (spread g k n)) 0
+spread-below : (g : ℕ → List Row) (s x k n : ℕ) → ((a : ℕ) → leaveBelow (g a) x ≡ cond (ltb s x) (length (g a)) 0) → leaveBelow (spread g k n) x
+    ≡ cond (ltb s x) (length (spread g k n)) 0
 unfolding leaveBelow
 spread-below g s x k zero e = none-of (ltb s x)
 spread-below g s x k (suc n) e =
-    below-append (g k) (spread g (suc k) n) x ∙ ap₂ _+_ (e k) (spread-below g s x (suc k) n e) ∙ all-or-none (ltb s x) (length (g k)) (length (spread g (suc k) n))
+    below-append (g k) (spread g (suc k) n) x ∙ ap₂ _+_ (e k) (spread-below g s x (suc k) n e) ∙ all-or-none (ltb s x) (length (g k))
+    (length (spread g (suc k) n))
     ∙ ap (λ m. cond (ltb s x) m 0) (sym (length-append (g k) (spread g (suc k) n)))
 
 module _ (base : ℕ) (words : List ℕ) (count : ℕ) (e : Element) (k : ℕ) where
@@ -64,7 +66,13 @@ module _ (base : ℕ) (words : List ℕ) (count : ℕ) (e : Element) (k : ℕ) w
   start-next s =
       let g = stateRows words count e k in
       let z : 0 + s ≡ s = omega arith in
-      omega (arith, ap length (spread-append g 0 s 1), length-append (spread g 0 s) (spread g (0 + s) 1), ap (λ j. length (spread g j 1)) z, length-append (g s) [])
+      omega (
+        arith,
+        ap length (spread-append g 0 s 1),
+        length-append (spread g 0 s) (spread g (0 + s) 1),
+        ap (λ j. length (spread g j 1)) z,
+        length-append (g s) [],
+      )
 
   -- no state's rows begin past the end of all
   pub start-most : (s : ℕ) → s ≤ statesBy e → startOf base words count e k s ≤ base + length (elementRows words count e k)
@@ -87,7 +95,8 @@ module _ (base : ℕ) (words : List ℕ) (count : ℕ) (e : Element) (k : ℕ) w
   unfolding elementRows
   states-below s h =
       let z : s - 0 ≡ s = omega arith in
-      below-spread (stateRows words count e k) state-below 0 (statesBy e) s (omega arith) (omega (arith, h)) ∙ ap (λ n. length (spread (stateRows words count e k) 0 n)) z
+      below-spread (stateRows words count e k) state-below 0 (statesBy e) s (omega arith) (omega (arith, h))
+      ∙ ap (λ n. length (spread (stateRows words count e k) 0 n)) z
 
   first-start : (s : ℕ) → s ≤ statesBy e → startOf base words count e k s ≡ firstWord base (plantOf words count e k) s
   unfolding firstWord plantOf startOf
@@ -105,7 +114,8 @@ module _ (base : ℕ) (words : List ℕ) (count : ℕ) (e : Element) (k : ℕ) w
       same-zeros i j (suc n) = ap (λ l. 0 ∷ l) (same-zeros (suc i) (suc j) n)
 
   firsts-are : (states : ℕ) → states ≡ statesBy e → states ≤ maxStates
-      → (tab (startOf base words count e k) 0 states ++ startOf base words count e k states ∷ []) ++ zerosOf (maxStates - states) ≡ firstsOf base (plantOf words count e k)
+      → (tab (startOf base words count e k) 0 states ++ startOf base words count e k states ∷ []) ++ zerosOf (maxStates - states)
+      ≡ firstsOf base (plantOf words count e k)
   unfolding zerosOf firstsOf
   firsts-are states q h =
       let g = startOf base words count e k in
@@ -114,13 +124,15 @@ module _ (base : ℕ) (words : List ℕ) (count : ℕ) (e : Element) (k : ℕ) w
       let w : suc maxStates ≡ states + suc n = omega (arith, h) in
       let z : 0 + states ≡ states = omega arith in
       append-assoc (tab g 0 states) (g states ∷ []) (tab (λ j. 0) 0 n)
-      ∙ ap₂ _++_ (tab-same g f 0 states (λ j p r. first-start j (omega (arith, q, r)))) (ap₂ _∷_ (first-start states (omega (arith, q))) (zeros-from (suc states) n (omega (arith, q))))
+      ∙ ap₂ _++_ (tab-same g f 0 states (λ j p r. first-start j (omega (arith, q, r))))
+      (ap₂ _∷_ (first-start states (omega (arith, q))) (zeros-from (suc states) n (omega (arith, q))))
       ∙ ap (λ j. tab f 0 states ++ tab f j (suc n)) (sym z)
       ∙ sym (tab-append f 0 states (suc n))
       ∙ ap (tab f 0) (sym w)
 
   -- as they are written: the starts, the end, the zeros
-  pub firsts-written : (l l′ l″ : List ℕ) (at states n : ℕ) → states ≡ statesBy e → states ≤ maxStates → l′ ≡ sets l at (tab (startOf base words count e k) 0 states)
+  pub firsts-written : (l l′ l″ : List ℕ) (at states n : ℕ) → states ≡ statesBy e → states ≤ maxStates
+      → l′ ≡ sets l at (tab (startOf base words count e k) 0 states)
       → n ≡ startOf base words count e k states → l″ ≡ sets (sets l′ (at + states) (n ∷ [])) (at + states + 1) (zerosOf (maxStates - states))
       → l″ ≡ sets l at (firstsOf base (plantOf words count e k))
   firsts-written l l′ l″ at states n q h el en e″ =
@@ -133,12 +145,14 @@ module _ (base : ℕ) (words : List ℕ) (count : ℕ) (e : Element) (k : ℕ) w
       ∙ ap (sets l at) (firsts-are states q h)
 
   -- a state's rows are counted: nothing is written, and the next state's begin behind them
-  pub state-next : (s n : ℕ) (l l′ : List ℕ) (m : Tally) → n ≡ startOf base words count e k s → outOf m l′ ≡ listed 0 (stateRows words count e k s) (outOf (record { rows = n; bytes = 0 }) l)
+  pub state-next : (s n : ℕ) (l l′ : List ℕ) (m : Tally) → n ≡ startOf base words count e k s
+      → outOf m l′ ≡ listed 0 (stateRows words count e k s) (outOf (record { rows = n; bytes = 0 }) l)
       → (l′ ≡ l) × (m .rows ≡ startOf base words count e k (s + 1))
   state-next s n l l′ m en q =
       let rs = stateRows words count e k s in
       let o = outOf (record { rows = n; bytes = 0 }) l in
       (ap (λ x. x .words) q ∙ listed-dry rs o, omega (arith, ap (λ x. x .rows) q, listed-rows 0 rs o, en, start-next s))
 
-  pub start-low : (s n states : ℕ) → n ≡ startOf base words count e k s → s ≤ states → states ≡ statesBy e → base + length (elementRows words count e k) ≤ maxRows → n ≤ maxRows
+  pub start-low : (s n states : ℕ) → n ≡ startOf base words count e k s → s ≤ states → states ≡ statesBy e
+      → base + length (elementRows words count e k) ≤ maxRows → n ≤ maxRows
   start-low s n states en h q b = omega (arith, en, start-most s (omega (arith, h, q)), b)

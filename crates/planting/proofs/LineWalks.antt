@@ -2,7 +2,7 @@
 use mathlib.Core.Path.{_≡_, refl, sym, _∙_, ap, ap₂}
 use mathlib.Core.Bool.{true}
 use mathlib.Core.List.{List, [], _∷_, _++_}
-use Prim.Native.Nat.{ℕ, zero, suc, _+_, _*_, _-_, _≤_, _<_}
+use Prim.Native.Nat.{ℕ, suc, _+_, _*_, _-_, _≤_, _<_}
 use native.Mathlib.Omega.{arith}
 use lib.ListN.{length, set, length-append}
 use lib.Seq.{sets, length-sets}
@@ -20,7 +20,7 @@ use Rattle.merging.specs.Starts.{firstsOf, headOf}
 use Rattle.merging.specs.Parts.{frontPart, rowPart}
 use Rattle.merging.proofs.MovedBlocks.{head-length, block-parts}
 use Rattle.merging.proofs.ImageParts.{front-length, image-parts}
-use Rattle.trees.specs.Tree.{Element as TheElement, Tree, bes, meanings}
+use Rattle.trees.specs.Tree.{Element as TheElement, Tree, bes}
 use Rattle.trees.specs.Modules.{componentsFrom, treeModel}
 use Rattle.trees.specs.ReadTree.{fitting}
 use Rattle.trees.proofs.Answers.{limits-exactly}
@@ -74,11 +74,13 @@ module _ (text words : List ℕ) (count n k at : ℕ) (c : Walked text words cou
     line-more j ej =
         let t = treeIn text in
         ap (componentsFrom t k) line-is
-        ∙ ap₂ (λ (x : Comp) (y : Model). x ∷ y) (plant-is t words (c .plan .hold) k (elementOf e) ∙ ap (λ x. plantOf words x (elementOf e) k) (sym (c .plan .all)))
+        ∙ ap₂ (λ (x : Comp) (y : Model). x ∷ y) (plant-is t words (c .plan .hold) k (elementOf e) ∙ ap (λ x. plantOf words x (elementOf e) k)
+        (sym (c .plan .all)))
         (ap (λ x. componentsFrom t x (q .more)) (be-next (sortIs (e .sort)) k ∙ sym ej))
 
     rows-split : (j : ℕ) → j ≡ nextBe (sortIs (e .sort)) k
-        → rowCount (componentsFrom (treeIn text) k (c .rest)) ≡ length (elementRows words count (elementOf e) k) + rowCount (componentsFrom (treeIn text) j (q .more))
+        → rowCount (componentsFrom (treeIn text) k (c .rest)) ≡ length (elementRows words count (elementOf e) k) + rowCount
+        (componentsFrom (treeIn text) j (q .more))
     unfolding rowCount plantOf
     rows-split j ej = ap rowCount (line-more j ej)
 
@@ -110,7 +112,8 @@ pub record Blocking (text words : List ℕ) (count : ℕ) (into₀ into : List �
   pub walked : Walked text words count n k at
   pub index : i ≡ walked .done
   pub long : length into ≡ length into₀
-  pub written : sets into (1 + blockWords * i) (blocksOf n (componentsFrom (treeIn text) k (walked .rest))) ≡ sets into₀ 1 (blocksOf 0 (treeModel (treeIn text)))
+  pub written : sets into (1 + blockWords * i) (blocksOf n (componentsFrom (treeIn text) k (walked .rest)))
+      ≡ sets into₀ 1 (blocksOf 0 (treeModel (treeIn text)))
 
 pub blocking-begins : (text words : List ℕ) (count : ℕ) (into : List ℕ) → Plantable text words count → Blocking text words count into into 0 0 0 0
 unfolding treeModel walked-begins
@@ -154,7 +157,8 @@ module _ (text words : List ℕ) (count : ℕ) (into₀ into : List ℕ) (n k i 
 pub record Rowing (text words : List ℕ) (count : ℕ) (into₀ into : List ℕ) (n k at : ℕ) : Type 0 where
   pub walked : Walked text words count n k at
   pub long : length into ≡ length into₀
-  pub written : sets into (rowsAt + rowWords * n) (allRowsOf (componentsFrom (treeIn text) k (walked .rest))) ≡ sets into₀ rowsAt (allRowsOf (treeModel (treeIn text)))
+  pub written : sets into (rowsAt + rowWords * n) (allRowsOf (componentsFrom (treeIn text) k (walked .rest)))
+      ≡ sets into₀ rowsAt (allRowsOf (treeModel (treeIn text)))
 
 pub rowing-begins : (text words : List ℕ) (count : ℕ) (into : List ℕ) → Plantable text words count → Rowing text words count into into 0 0 0
 unfolding treeModel walked-begins
@@ -169,7 +173,8 @@ module _ (text words : List ℕ) (count : ℕ) (into₀ into : List ℕ) (n k at
       (ap (λ x. sets into (rowsAt + rowWords * n) (allRowsOf (componentsFrom (treeIn text) k x))) (sym z) ∙ c .written, omega (arith, r, c .walked .rows))
 
   module _ (e : Element) (to : ℕ) (q : First text (c .walked .rest) e to) where
-    pub rowing-on : (l : List ℕ) (m : Tally) (j : ℕ) → outOf m l ≡ listed maxRows (elementRows words count (elementOf e) k) (outOf (record { rows = n; bytes = 0 }) into)
+    pub rowing-on : (l : List ℕ) (m : Tally) (j : ℕ) → outOf m l ≡ listed maxRows (elementRows words count (elementOf e) k)
+        (outOf (record { rows = n; bytes = 0 }) into)
         → j ≡ nextBe (sortIs (e .sort)) k → Rowing text words count into₀ l (m .rows) j to
     unfolding allRowsOf plantOf walked-on
     rowing-on l m j f ej =
@@ -195,7 +200,8 @@ module _ (text words : List ℕ) (count : ℕ) (into₀ into : List ℕ) (n k at
 
 -- ---- the parts
 pub block-written : (l l′ l″ : List ℕ) (at n : ℕ) (c : Comp) → l′ ≡ sets l at (headOf c) → l″ ≡ sets l′ (at + 8) (firstsOf n c) → l″ ≡ sets l at (blockOf n c)
-block-written l l′ l″ at n c e f = then-sets l l′ l″ (headOf c) (firstsOf n c) at (at + 8) e (omega (arith, head-length c)) f ∙ ap (sets l at) (sym (block-parts n c))
+block-written l l′ l″ at n c e f =
+    then-sets l l′ l″ (headOf c) (firstsOf n c) at (at + 8) e (omega (arith, head-length c)) f ∙ ap (sets l at) (sym (block-parts n c))
 
 components-many : (t : Tree) (k : ℕ) (es : Tree) → length (componentsFrom t k es) ≡ length es
 unfolding componentsFrom
@@ -232,13 +238,15 @@ module _ (t : Tree) where
       ∙ ap (λ x. sets l rowsAt (R ++ x)) (zeros-are (rowWords * (maxRows - n)))
       ∙ ap (λ x. sets l rowsAt (R ++ zeros (rowWords * (maxRows - x)))) en
 
-  pub image-written : (l l′ l″ : List ℕ) → length t ≤ maxComponents → l′ ≡ sets l 0 (frontPart (treeModel t)) → l″ ≡ sets l′ rowsAt (rowPart (treeModel t)) → l″ ≡ sets l 0 (imageOf (treeModel t))
+  pub image-written : (l l′ l″ : List ℕ) → length t ≤ maxComponents → l′ ≡ sets l 0 (frontPart (treeModel t))
+      → l″ ≡ sets l′ rowsAt (rowPart (treeModel t)) → l″ ≡ sets l 0 (imageOf (treeModel t))
   image-written l l′ l″ h e f =
       let m = treeModel t in
       then-sets l l′ l″ (frontPart m) (rowPart m) 0 rowsAt e (omega (arith, front-length m (omega (arith, many, h)))) f ∙ ap (sets l 0) (sym (image-parts m))
 
 -- ---- what the names of the actions are known to be
-pub plantable : (text old new : List ℕ) (r : Named) → LinesOf text (treeIn text) → fitting (treeIn text) ≡ true → NamedBy (treeIn text) old r new → length old ≡ maxActions → Plantable text new (r .actions)
+pub plantable : (text old new : List ℕ) (r : Named) → LinesOf text (treeIn text) → fitting (treeIn text) ≡ true → NamedBy (treeIn text) old r new
+    → length old ≡ maxActions → Plantable text new (r .actions)
 plantable text old new r h f n l =
     let i = limits-exactly (treeIn text) .0 f in
     record {

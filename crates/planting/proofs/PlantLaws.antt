@@ -3,16 +3,13 @@ use mathlib.Core.Path.{_≡_, refl}
 use mathlib.Core.List.{List}
 use Prim.Native.Nat.{ℕ}
 use lib.ListN.{length}
-use Rattle.answer.specs.Limits.{maxActions}
-use Rattle.model.specs.Model.{Comp}
-use Rattle.trees.specs.Module.{Module, those, isIn, isOut, isUin, isUout, allRows, compBy}
+use Rattle.trees.specs.Module.{isIn, isOut, isUin, isUout, compBy}
 use Rattle.trees.specs.Tree.{Sort, be-sort, and-sort, or-sort, pand-sort, rbox-sort, Element, Tree, meanings}
 use Rattle.trees.specs.Modules.{beModule, countModule, pandModule, boxModule, clockless, moduleFor}
 use Rattle.elements.specs.Parts.{statesBy}
 use Rattle.merging.specs.declared.Head.{Head}
 use Rattle.merging.specs.Heads.{asHead}
 use Rattle.treerows.specs.declared.Kinds.{Kinds}
-use Rattle.treerows.specs.Rows.{elementRows}
 use Rattle.treerows.specs.KindSets.{kindsBelow, wordKind}
 use Rattle.treerows.proofs.ModuleLaws.{module-states, element-rows}
 use Rattle.treesize.specs.Size.{clocksFor, Hold}
@@ -43,8 +40,19 @@ module _ (t : Tree) (words : List ℕ) (h : Hold t words) (k : ℕ) (e : Element
       )
 
 -- beside its rows, as the code has it
-pub head-by : (words : List ℕ) (count : ℕ) (e : Element) (k : ℕ) (h : Kinds) (states clocks started : ℕ) → h ≡ kindsBelow (wordKind words e) count → states ≡ statesBy e → clocks ≡ clocksFor (e .sort) k
+pub head-by : (words : List ℕ) (count : ℕ) (e : Element) (k : ℕ) (h : Kinds) (states clocks started : ℕ) → h ≡ kindsBelow (wordKind words e) count
+    → states ≡ statesBy e → clocks ≡ clocksFor (e .sort) k
     → started ≡ startedFor (e .sort) k
-    → _≡_ {A = Head} (record { states = states; start = 0; ins = h .ins; outs = h .outs; uins = h .uins; uouts = h .uouts; clocks = clocks; started = started }) (asHead (plantOf words count e k))
+    → _≡_ {A =
+    Head} (record {
+      states = states;
+      start = 0;
+      ins = h .ins;
+      outs = h .outs;
+      uins = h .uins;
+      uouts = h .uouts;
+      clocks = clocks;
+      started = started;
+    }) (asHead (plantOf words count e k))
 unfolding asHead plantOf
 head-by words count e k h states clocks started p q r s = rw (p, q, r, s)

@@ -1,7 +1,7 @@
 -- Putting bytes one after the other is putting them joined: the one law by which a text is put together from its fields, its lines and its parts.
 use mathlib.Core.Path.{_≡_, refl, sym, _∙_, ap, ap₂}
 use mathlib.Core.List.{List, [], _∷_, _++_, append-assoc, append-nil}
-use Prim.Native.Nat.{ℕ, suc, _+_, _≤_, _<_}
+use Prim.Native.Nat.{ℕ, suc, _+_, _<_}
 use native.Mathlib.Omega.{arith}
 use lib.ListN.{length, take, drop, set, length-append, length-drop, take-append-drop}
 use lib.Seq.{length-take-le, take-at, drop-at, drop-drop, set-split}
@@ -38,13 +38,17 @@ pub stored : (old : List ℕ) (at v next : ℕ) → at < length old → next ≡
 unfolding laid
 stored old at v next h e =
     let n : suc at ≡ at + 1 = omega arith in
-    record { buffer = set-split old at v h ∙ ap (λ k. take at old ++ v ∷ drop k old) n ∙ sym (append-assoc (take at old) (v ∷ []) (drop (at + 1) old)); place = e }
+    record {
+      buffer = set-split old at v h ∙ ap (λ k. take at old ++ v ∷ drop k old) n ∙ sym (append-assoc (take at old) (v ∷ []) (drop (at + 1) old));
+      place = e;
+    }
 
 pub nothing-put : (old : List ℕ) (at : ℕ) → Put old at [] old at
 nothing-put old at = record { buffer = sym (laid-none old at); place = omega arith }
 
 -- in whatever way the bytes are written
-pub put-as : {old : List ℕ} {at : ℕ} {bytes new : List ℕ} {next : ℕ} → Put old at bytes new next → (other : List ℕ) → bytes ≡ other → Put old at other new next
+pub put-as : {old : List ℕ} {at : ℕ} {bytes new : List ℕ} {next : ℕ}
+    → Put old at bytes new next → (other : List ℕ) → bytes ≡ other → Put old at other new next
 put-as p other e = rw e at p
 
 -- ---- what is left to put: with the rest put here, the whole is put where it began
@@ -61,7 +65,8 @@ left-all old at whole h = record { room = h; same = refl; end = refl; long = ref
 pub record Next (old : List ℕ) (at : ℕ) (whole now : List ℕ) (here : ℕ) (a b : List ℕ) : Type 0 where
   pub both : Left old at whole now here (a ++ b)
 
-pub left-as : {old : List ℕ} {at : ℕ} {whole now : List ℕ} {here : ℕ} {rest : List ℕ} → Left old at whole now here rest → (a b : List ℕ) → rest ≡ a ++ b → Next old at whole now here a b
+pub left-as : {old : List ℕ} {at : ℕ} {whole now : List ℕ} {here : ℕ} {rest : List ℕ}
+    → Left old at whole now here rest → (a b : List ℕ) → rest ≡ a ++ b → Next old at whole now here a b
 left-as l a b e = record { both = rw e at l }
 
 module _ {old : List ℕ} {at : ℕ} {whole now : List ℕ} {here : ℕ} {a b : List ℕ} (l : Next old at whole now here a b) where
@@ -77,13 +82,34 @@ module _ {old : List ℕ} {at : ℕ} {whole now : List ℕ} {here : ℕ} {a b : 
         long = ap length (p .buffer) ∙ laid-length now here a left-room ∙ l .both .long;
       }
 
-pub left-none : {old : List ℕ} {at : ℕ} {whole now : List ℕ} {here : ℕ} {rest : List ℕ} → Left old at whole now here rest → rest ≡ [] → Put old at whole now here
+pub left-none : {old : List ℕ} {at : ℕ} {whole now : List ℕ} {here : ℕ} {rest : List ℕ}
+    → Left old at whole now here rest → rest ≡ [] → Put old at whole now here
 left-none {old} {at} {whole} {now} {here} {rest} l e =
     record { buffer = sym (laid-none now here) ∙ ap (laid now here) (sym e) ∙ l .same; place = omega (arith, l .end, ap length e) }
 
 -- what is left is the last part
-pub left-last : {old : List ℕ} {at : ℕ} {whole now : List ℕ} {here : ℕ} {a : List ℕ} → Left old at whole now here a → {new : List ℕ} {next : ℕ} → Put now here a new next → Put old at whole new next
+pub left-last : {old : List ℕ} {at : ℕ} {whole now : List ℕ} {here : ℕ} {a : List ℕ}
+    → Left old at whole now here a → {new : List ℕ} {next : ℕ} → Put now here a new next → Put old at whole new next
 left-last {a = a} l p = left-none (left-next (left-as l a [] (sym (append-nil a))) p) refl
 
 pub last-room : {old : List ℕ} {at : ℕ} {whole now : List ℕ} {here : ℕ} {a : List ℕ} → Left old at whole now here a → Room now here a
 last-room l = omega (arith, l .room, l .end, l .long)
+
+-- ---- parts put one after the other: what is left is a part and what stands behind it
+pub left-is : {old : List ℕ} {at : ℕ} {whole now : List ℕ} {here : ℕ} {rest : List ℕ}
+    → Left old at whole now here rest → (other : List ℕ) → rest ≡ other → Left old at whole now here other
+left-is l other e = rw e at l
+
+-- nothing is put yet, and the whole is these parts
+pub left-parts : {whole : List ℕ} (old : List ℕ) (at : ℕ) (parts : List ℕ) → whole ≡ parts → Room old at whole → Left old at whole old at parts
+left-parts {whole} old at parts e h = left-is (left-all old at whole h) parts e
+
+module _ {old : List ℕ} {at : ℕ} {whole now : List ℕ} {here : ℕ} (a r : List ℕ) (l : Left old at whole now here (a ++ r)) where
+  pub part-room : Room now here a
+  part-room = left-room {a = a} {b = r} (record { both = l })
+
+  pub part-put : {new : List ℕ} {next : ℕ} → Put now here a new next → Left old at whole new next r
+  part-put p = left-next {a = a} {b = r} (record { both = l }) p
+
+pub put-length : {old : List ℕ} {at : ℕ} {bytes new : List ℕ} {next : ℕ} → Put old at bytes new next → Room old at bytes → length new ≡ length old
+put-length {old} {at} {bytes} p h = ap length (p .buffer) ∙ laid-length old at bytes h

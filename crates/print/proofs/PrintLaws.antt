@@ -8,7 +8,6 @@ use native.Mathlib.Omega.{arith}
 use native.Mathlib.Numerals.{add-one}
 use native.Mathlib.Decide.{decLt}
 use lib.ListN.{getD}
-use lib.Dec.{ltb}
 use borrow.Author.Tests.{lt-ltb, le-ltb}
 use Rattle.laws.specs.Sets.{has, only, _∖_}
 use Rattle.laws.specs.Search.{Least}
@@ -71,22 +70,35 @@ parts-3 : (n : ℕ) → 100 ≤ n → n < 1000 → decimal n ≡ parts n
 unfolding decimal
 parts-3 n h k =
     rw (below n 10000 (omega arith), below n 1000 k, reaches n 100 (n / 10 / 10) h (omega arith), reaches n 10 (n / 10 % 10) (omega arith) refl)
-    (more-digits 4 n (omega arith) ∙ ap (λ l. then l (n % 10)) (more-digits 3 (n / 10) (omega arith) ∙ ap (λ l. then l (n / 10 % 10)) (one-digit 2 (n / 10 / 10) (omega arith))))
+    (more-digits 4 n (omega arith) ∙ ap (λ l. then l (n % 10)) (more-digits 3 (n / 10) (omega arith) ∙ ap (λ l. then l (n / 10 % 10))
+    (one-digit 2 (n / 10 / 10) (omega arith))))
 
 parts-4 : (n : ℕ) → 1000 ≤ n → n < 10000 → decimal n ≡ parts n
 unfolding decimal
 parts-4 n h k =
-    rw (below n 10000 k, reaches n 1000 (n / 10 / 10 / 10) h (omega arith), reaches n 100 (n / 10 / 10 % 10) (omega arith) (omega arith), reaches n 10 (n / 10 % 10) (omega arith) refl)
+    rw (
+      below n 10000 k,
+      reaches n 1000 (n / 10 / 10 / 10) h (omega arith),
+      reaches n 100 (n / 10 / 10 % 10) (omega arith) (omega arith),
+      reaches n 10 (n / 10 % 10) (omega arith) refl,
+    )
     (more-digits 4 n (omega arith) ∙ ap (λ l. then l (n % 10)) (more-digits 3 (n / 10) (omega arith)
-    ∙ ap (λ l. then l (n / 10 % 10)) (more-digits 2 (n / 10 / 10) (omega arith) ∙ ap (λ l. then l (n / 10 / 10 % 10)) (one-digit 1 (n / 10 / 10 / 10) (omega arith)))))
+    ∙ ap (λ l. then l (n / 10 % 10)) (more-digits 2 (n / 10 / 10) (omega arith) ∙ ap (λ l. then l (n / 10 / 10 % 10))
+    (one-digit 1 (n / 10 / 10 / 10) (omega arith)))))
 
 parts-5 : (n : ℕ) → 10000 ≤ n → decimal n ≡ parts n
 unfolding decimal
 parts-5 n h =
-    rw (reaches n 10000 (n / 10 / 10 / 10 / 10 % 10) h (omega arith), reaches n 1000 (n / 10 / 10 / 10 % 10) (omega arith) (omega arith), reaches n 100 (n / 10 / 10 % 10) (omega arith) (omega arith), reaches n 10 (n / 10 % 10) (omega arith) refl)
+    rw (
+      reaches n 10000 (n / 10 / 10 / 10 / 10 % 10) h (omega arith),
+      reaches n 1000 (n / 10 / 10 / 10 % 10) (omega arith) (omega arith),
+      reaches n 100 (n / 10 / 10 % 10) (omega arith) (omega arith),
+      reaches n 10 (n / 10 % 10) (omega arith) refl,
+    )
     (more-digits 4 n (omega arith) ∙ ap (λ l. then l (n % 10)) (more-digits 3 (n / 10) (omega arith)
     ∙ ap (λ l. then l (n / 10 % 10)) (more-digits 2 (n / 10 / 10) (omega arith)
-    ∙ ap (λ l. then l (n / 10 / 10 % 10)) (more-digits 1 (n / 10 / 10 / 10) (omega arith) ∙ ap (λ l. then l (n / 10 / 10 / 10 % 10)) (last-digit (n / 10 / 10 / 10 / 10))))))
+    ∙ ap (λ l. then l (n / 10 / 10 % 10)) (more-digits 1 (n / 10 / 10 / 10) (omega arith) ∙ ap (λ l. then l (n / 10 / 10 / 10 % 10))
+    (last-digit (n / 10 / 10 / 10 / 10))))))
 
 pub decimal-parts : (n : ℕ) → decimal n ≡ leading n 10000 ++ (leading n 1000 ++ (leading n 100 ++ (leading n 10 ++ (byte0 + n % 10) ∷ [])))
 decimal-parts n =
@@ -156,7 +168,9 @@ module _ (s : ℕ) (inhabited : s ≡ 0 → ⊥) (fits : s < 2 ^ wordBits) where
       and-not false = refl
 
   lowest-gone : has (s ∖ only (lowestOf s)) (lowestOf s) ≡ false
-  lowest-gone = not-so (has (s ∖ only (lowestOf s)) (lowestOf s)) (λ h. true≢false (sym (in-one (lowestOf s)) ∙ in-without s (only (lowestOf s)) (lowestOf s) h .1))
+  lowest-gone =
+      not-so (has (s ∖ only (lowestOf s)) (lowestOf s))
+      (λ h. true≢false (sym (in-one (lowestOf s)) ∙ in-without s (only (lowestOf s)) (lowestOf s) h .1))
 
   pub lowest-first : clocksIn s ≡ lowestOf s ∷ clocksIn (s ∖ only (lowestOf s))
   lowest-first =
@@ -190,9 +204,12 @@ pub numbers-done : (ps : List ℕ) (i n : ℕ) → n ≤ i → each (numbersFrom
 unfolding numbersFrom each
 numbers-done ps i n h = let e : n - i ≡ 0 = omega arith in rw e
 
-pub numbers-next : (ps : List ℕ) (i n : ℕ) → i < n → each (numbersFrom ps i (n - i)) ≡ (comma ∷ decimal (getD ps i 0)) ++ each (numbersFrom ps (i + 1) (n - (i + 1)))
+pub numbers-next : (ps : List ℕ) (i n : ℕ) → i < n → each (numbersFrom ps i (n - i)) ≡ (comma ∷ decimal (getD ps i 0))
+    ++ each (numbersFrom ps (i + 1) (n - (i + 1)))
 unfolding numbersFrom each
-numbers-next ps i n h = let e : n - i ≡ suc (n - (i + 1)) = omega arith in rw e (ap (λ k. (comma ∷ decimal (getD ps i 0)) ++ each (numbersFrom ps k (n - (i + 1)))) (sym (add-one i)))
+numbers-next ps i n h =
+    let e : n - i ≡ suc (n - (i + 1)) = omega arith in
+    rw e (ap (λ k. (comma ∷ decimal (getD ps i 0)) ++ each (numbersFrom ps k (n - (i + 1)))) (sym (add-one i)))
 
 pub no-parts : (x : State) → x .count ≡ 0 → joined (partsOf x) ≡ []
 unfolding partsOf numbersFrom
@@ -200,4 +217,6 @@ no-parts x e = rw e joined-none
 
 pub joined-parts : (x : State) → (x .count ≡ 0 → ⊥) → joined (partsOf x) ≡ decimal (getD (x .parts) 0 0) ++ each (numbersFrom (x .parts) 1 (x .count - 1))
 unfolding partsOf numbersFrom
-joined-parts x h = let e : x .count ≡ suc (x .count - 1) = omega arith in ap (λ n. joined (numbersFrom (x .parts) 0 n)) e ∙ joined-each (getD (x .parts) 0 0) (numbersFrom (x .parts) 1 (x .count - 1))
+joined-parts x h =
+    let e : x .count ≡ suc (x .count - 1) = omega arith in
+    ap (λ n. joined (numbersFrom (x .parts) 0 n)) e ∙ joined-each (getD (x .parts) 0 0) (numbersFrom (x .parts) 1 (x .count - 1))

@@ -12,7 +12,7 @@ use Rattle.answering.specs.Report.{refusedLine}
 use Rattle.model.specs.Text.{textOf}
 use Rattle.layout.specs.Image.{Image, modelOf}
 use Rattle.layout.proofs.RowsOfRange.{well-formed}
-use Rattle.print.specs.Put.{laid, Put}
+use Rattle.print.specs.Put.{laid}
 use Rattle.tell.specs.Tell.{refusedText}
 use Rattle.tell.proofs.TellLaws.{told-text}
 use Rattle.steplines.specs.Run.{mostBytes}

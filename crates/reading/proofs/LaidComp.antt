@@ -1,22 +1,19 @@
 -- Before any line no word is used; a `comp` line begins a block.
 use mathlib.Core.Path.{_≡_, refl, sym, _∙_, ap}
-use mathlib.Core.Bool.{Bool, true, false, cond}
 use mathlib.Core.List.{List, [], _∷_}
 use Prim.Native.Nat.{ℕ, zero, suc, _+_, _-_, _*_, _≤_, _<_}
 use native.Mathlib.Omega.{arith}
 use native.Mathlib.Decide.{decLt}
 use lib.ListN.{length, getD, set, length-set}
 use lib.Seq.{getD-set-same, getD-set-other}
-use lib.Dec.{leb}
 use borrow.Author.Tests.{le-leb, lt-leb}
-use Rattle.answer.specs.Limits.{maxComponents, maxRows, maxStates}
-use Rattle.model.specs.Model.{Row, Comp, rowCount}
+use Rattle.answer.specs.Limits.{maxComponents, maxStates}
+use Rattle.model.specs.Model.{Comp, rowCount}
 use Rattle.model.specs.Reading.{newComp}
 use Rattle.layout.specs.Layout.{headWords, blockWords, rowWords, rowsAt, imageWords, countOf, blockWord}
 use Rattle.layout.specs.Image.{leaveBelow, firstWord, blockOf}
-use Rattle.layout.specs.Words.{wordsOf, rowWord}
 use Rattle.reading.specs.Changes.{Filled, blockAt}
-use Rattle.reading.specs.Laid.{BlockIs, RowsAre, Parts, Laid}
+use Rattle.reading.specs.Laid.{Parts, Laid}
 use Rattle.reading.proofs.LaidWord.{parts-kept}
 use Rattle.reading.proofs.LaidRow.{first-at}
 
@@ -74,13 +71,16 @@ module _
         ∙ getD-set-other t₁ 0 j (suc i) 0 x
 
     long : length begun ≡ length t
-    long = length-set (set (set t₁ 0 (suc i)) (blockAt i 0) states) (blockAt i 1) start ∙ length-set (set t₁ 0 (suc i)) (blockAt i 0) states ∙ length-set t₁ 0 (suc i) ∙ u .long
+    long =
+        length-set (set (set t₁ 0 (suc i)) (blockAt i 0) states) (blockAt i 1) start ∙ length-set (set t₁ 0 (suc i)) (blockAt i 0) states
+        ∙ length-set t₁ 0 (suc i) ∙ u .long
 
     first : (s : ℕ) → s ≤ maxStates → getD t₁ (blockAt i (headWords + s)) 0 ≡ firstWord (rowCount m) (newComp states start) s
     unfolding blockWord
     first s h = elim (decLt states s) [
       | no p ↦ u .inside (blockAt i (headWords + s)) (omega arith) (omega arith) ∙ sym (new-first (rowCount m) states start s (omega arith))
-      | yes p ↦ u .behind (blockAt i (headWords + s)) (omega arith) ∙ a .no-block i (headWords + s) (omega arith) l (omega arith) ∙ sym (no-first (rowCount m) states start s p)
+      | yes p ↦ u .behind (blockAt i (headWords + s)) (omega arith) ∙ a .no-block i (headWords + s) (omega arith) l (omega arith)
+          ∙ sym (no-first (rowCount m) states start s p)
     ]
 
     later : (k : ℕ) → 2 ≤ k → k < blockWords → getD begun (blockAt i k) 0 ≡ getD (blockOf (rowCount m) (newComp states start)) k 0
@@ -90,7 +90,8 @@ module _
       | no p ↦
           let e : k ≡ headWords + (k - headWords) = omega arith in
           ap (λ j. getD t₁ (blockAt i j) 0) e ∙ first (k - headWords) (omega arith)
-          ∙ sym (ap (λ j. getD (blockOf (rowCount m) (newComp states start)) j 0) e ∙ first-at (rowCount m) (newComp states start) (k - headWords) (omega arith))
+          ∙ sym (ap (λ j. getD (blockOf (rowCount m) (newComp states start)) j 0) e ∙ first-at (rowCount m) (newComp states start) (k - headWords)
+          (omega arith))
     ]
 
     word : (k : ℕ) → k < blockWords → getD begun (blockAt i k) 0 ≡ getD (blockOf (rowCount m) (newComp states start)) k 0
@@ -124,6 +125,7 @@ module _
           ∙ getD-set-same t₁ 0 (suc i) 0 (omega (arith, u .long, a .long));
       parts = (record { words = word }, record { words = λ k v h q. absurd (omega arith) }, older);
       no-block = λ j k h q d.
-          other (blockAt j k) (λ e. omega arith) (λ e. omega arith) (λ e. omega arith) ∙ u .behind (blockAt j k) (omega arith) ∙ a .no-block j k (omega arith) q d;
+          other (blockAt j k) (λ e. omega arith) (λ e. omega arith) (λ e. omega arith) ∙ u .behind (blockAt j k) (omega arith)
+          ∙ a .no-block j k (omega arith) q d;
       no-row = λ r v h q d. in-rows (rowsAt + rowWords * r + v) (omega arith) ∙ a .no-row r v (omega arith) q d;
     }

@@ -1,17 +1,17 @@
 -- Where the components so far are laid out, the table holds the words of their model.
-use mathlib.Core.Path.{_≡_, refl, sym, _∙_, ap}
+use mathlib.Core.Path.{_≡_, sym, _∙_, ap}
 use mathlib.Core.List.{List, [], _∷_, _++_, reverse, reverse-cons}
-use Prim.Native.Nat.{ℕ, _+_, _≤_, _<_}
+use Prim.Native.Nat.{ℕ, _+_, _<_}
 use native.Mathlib.Omega.{arith}
 use native.Mathlib.Decide.{decLt}
 use lib.ListN.{length, getD, take, length-append, length-reverse, List·getD-append}
 use lib.Seq.{take-append-le, take-append-seam, getD-append-seam}
-use Rattle.model.specs.Model.{Row, Comp, Model, noComp, noRow, compAt, rowAt, rowCount}
+use Rattle.model.specs.Model.{Comp, noComp, compAt, rowAt, rowCount}
 use Rattle.model.proofs.Reading.TextOfRead.{count-reverse}
 use Rattle.layout.specs.Layout.{blockWords, rowWords, blockWord}
 use Rattle.layout.specs.Image.{blockOf}
 use Rattle.layout.specs.Words.{wordsOf, rowWord, Holds}
-use Rattle.reading.specs.Laid.{BlockIs, RowsAre, Parts, Laid}
+use Rattle.reading.specs.Laid.{Parts, Laid}
 
 -- component i of a list with one more behind it: an earlier one, or that one
 module _ (xs : List Comp) (c : Comp) where
@@ -61,7 +61,8 @@ rows t (c ∷ cs) p i k v h l q = go (decLt i (length (reverse cs))) (rows t cs 
         let z : i ≡ length (reverse cs) = omega (arith, n) in
         let e = latest (reverse cs) c i z in
         let f : compAt (reverse (c ∷ cs)) i ≡ c = ap (λ l. compAt l i) (reverse-cons c cs) ∙ e .0 in
-        let g : rowCount (take i (reverse (c ∷ cs))) ≡ rowCount cs = ap (λ l. rowCount (take i l)) (reverse-cons c cs) ∙ ap rowCount (e .1) ∙ count-reverse cs in
+        let g : rowCount (take i (reverse (c ∷ cs))) ≡ rowCount cs = ap (λ l. rowCount (take i l)) (reverse-cons c cs) ∙ ap rowCount (e .1)
+        ∙ count-reverse cs in
         ap (λ x. rowWord t (x + k) v) g ∙ p .1 .words k v (omega (arith, ap (λ d. length (d .rows)) f)) q ∙ sym (ap (λ d. getD (wordsOf (rowAt d k)) v 0) f)
 
 pub laid-holds : (t : List ℕ) (m : List Comp) → Laid t m → Holds (reverse m) t

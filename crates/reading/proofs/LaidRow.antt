@@ -1,6 +1,6 @@
 -- A `row` line: its four words behind the rows so far, and one more in every first[s] above the state it leaves.
 use mathlib.Core.Path.{_≡_, refl, sym, _∙_, ap}
-use mathlib.Core.Bool.{Bool, true, false, cond}
+use mathlib.Core.Bool.{cond}
 use mathlib.Core.List.{List, [], _∷_, _++_}
 use Prim.Native.Nat.{ℕ, zero, suc, _+_, _-_, _*_, _≤_, _<_}
 use native.Mathlib.Omega.{arith}
@@ -9,14 +9,13 @@ use lib.ListN.{length, getD, length-append, List·getD-append}
 use lib.Seq.{sets, length-sets, getD-append-seam}
 use lib.Dec.{ltb, leb}
 use borrow.Author.Tests.{lt-ltb, le-ltb, le-leb, lt-leb}
-use Rattle.laws.specs.Fold.{tab}
 use Rattle.laws.proofs.FoldLaws.{tab-at}
 use Rattle.answer.specs.Limits.{maxComponents, maxRows, maxStates}
 use Rattle.model.specs.Model.{Row, Comp, noRow, rowCount}
 use Rattle.model.specs.Reading.{withRow}
-use Rattle.layout.specs.Layout.{headWords, blockWords, rowWords, rowsAt, imageWords, countOf, blockWord}
+use Rattle.layout.specs.Layout.{headWords, rowWords, rowsAt, countOf, blockWord}
 use Rattle.layout.specs.Image.{leaveBelow, firstWord, blockOf}
-use Rattle.layout.specs.Words.{wordsOf, rowWord}
+use Rattle.layout.specs.Words.{wordsOf}
 use Rattle.reading.specs.Changes.{Raised, blockAt}
 use Rattle.reading.specs.Laid.{BlockIs, RowsAre, Parts, Laid}
 use Rattle.reading.proofs.SetsLaws.{sets-before, sets-behind, sets-inside}
@@ -51,7 +50,9 @@ module _ (n : ℕ) (c : Comp) where
     -- first[s] up to the row's state, then up to states, then above
     below-from : (s : ℕ) → s ≤ r .from → firstWord n (withRow c r) s ≡ firstWord n c s
     unfolding firstWord
-    below-from s h = let e : leaveBelow (c .rows ++ r ∷ []) s ≡ leaveBelow (c .rows) s = leave-more (c .rows) r s ∙ rw (le-ltb (r .from) s h) (omega arith) in ap (λ x. cond (leb s (c .states)) (n + x) 0) e
+    below-from s h =
+        let e : leaveBelow (c .rows ++ r ∷ []) s ≡ leaveBelow (c .rows) s = leave-more (c .rows) r s ∙ rw (le-ltb (r .from) s h) (omega arith) in
+        ap (λ x. cond (leb s (c .states)) (n + x) 0) e
 
     above-from : (s : ℕ) → r .from < s → s ≤ c .states → firstWord n (withRow c r) s ≡ firstWord n c s + 1
     unfolding firstWord
@@ -93,7 +94,8 @@ module _
     block-word : (s : ℕ) → s ≤ maxStates → getD t₁ (blockAt i (headWords + s)) 0 ≡ firstWord (rowCount cs) (withRow c r) s
     unfolding blockWord
     block-word s h =
-        let old : getD t (blockAt i (headWords + s)) 0 ≡ firstWord (rowCount cs) c s = a .parts .0 .words (headWords + s) (omega arith) ∙ first-at (rowCount cs) c s h in
+        let old : getD t (blockAt i (headWords + s)) 0 ≡ firstWord (rowCount cs) c s = a .parts .0 .words (headWords + s) (omega arith)
+        ∙ first-at (rowCount cs) c s h in
         go old (decLt (r .from) s) (decLt (c .states) s)
       where
         go : getD t (blockAt i (headWords + s)) 0 ≡ firstWord (rowCount cs) c s → Dec (r .from < s) → Dec (c .states < s)

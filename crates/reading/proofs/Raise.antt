@@ -15,7 +15,8 @@ pub raised-more : {d : List ℕ} {lo j : ℕ} {d′ : List ℕ} → Raised d lo 
 raised-more {d} {lo} {j} {d′} r h l = record {
   long = length-set d′ j (getD d′ j 0 + 1) ∙ r .long;
   inside = λ k p q. apart-cases k j
-      (λ e. ap (λ i. getD (set d′ j (getD d′ j 0 + 1)) i 0) e ∙ getD-set-same d′ j (getD d′ j 0 + 1) 0 (omega (arith, r .long)) ∙ ap (λ x. x + 1) (r .behind j (omega arith) ∙ ap (λ i. getD d i 0) (sym e)))
+      (λ e. ap (λ i. getD (set d′ j (getD d′ j 0 + 1)) i 0) e ∙ getD-set-same d′ j (getD d′ j 0 + 1) 0 (omega (arith, r .long))
+      ∙ ap (λ x. x + 1) (r .behind j (omega arith) ∙ ap (λ i. getD d i 0) (sym e)))
       (λ w. getD-set-other d′ j k (getD d′ j 0 + 1) 0 (λ e. omega arith) ∙ r .inside k p w)
       (λ w. absurd (omega arith));
   before = λ k p. getD-set-other d′ j k (getD d′ j 0 + 1) 0 (λ e. omega arith) ∙ r .before k p;

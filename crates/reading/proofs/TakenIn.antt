@@ -1,5 +1,5 @@
 -- Each kind of line, taken into the table as the definition takes it in; and the image once the whole text is read.
-use mathlib.Core.Path.{_≡_, refl, sym, _∙_, ap}
+use mathlib.Core.Path.{_≡_, _∙_, ap}
 use mathlib.Core.Option.{Option}
 use mathlib.Core.Bool.{Bool, true, false, cond}
 use mathlib.Core.List.{List, [], _∷_, reverse}
@@ -9,7 +9,7 @@ use lib.ListN.{length, getD, take}
 use lib.Dec.{leb}
 use Rattle.answer.specs.Limits.{maxComponents, maxRows, maxStates}
 use Rattle.answer.specs.Told.{answered}
-use Rattle.model.specs.Model.{Comp, Model, rowCount}
+use Rattle.model.specs.Model.{Comp, rowCount}
 use Rattle.model.specs.Text.{Kind}
 use Rattle.model.specs.Reading.{comp-entry, act-entry, clk-entry, row-entry, guardOf, setOf, rowOf, takeIn, readOf}
 use Rattle.model.proofs.Reading.TextOfRead.{text-of-read}
@@ -68,5 +68,6 @@ unfolding blockWord rowCount
 firsts-below t c cs a b room j h l =
     let s = j - blockAt (length cs) headWords in
     let e : j ≡ blockAt (length cs) (headWords + s) = omega arith in
-    let f : getD t j 0 ≡ firstWord (rowCount cs) c s = ap (λ k. getD t k 0) e ∙ a .parts .0 .words (headWords + s) (omega arith) ∙ first-at (rowCount cs) c s (omega arith) in
+    let f : getD t j 0 ≡ firstWord (rowCount cs) c s = ap (λ k. getD t k 0) e ∙ a .parts .0 .words (headWords + s) (omega arith)
+    ∙ first-at (rowCount cs) c s (omega arith) in
     omega (arith, f, first-most (rowCount cs) c s)

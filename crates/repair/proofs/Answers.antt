@@ -1,10 +1,9 @@
 -- The contract of `repair` says exactly what is said of any model that is the repaired one.
-use mathlib.Core.Path.{_≡_, refl, sym, _∙_, ap, subst}
+use mathlib.Core.Path.{_≡_, sym, _∙_, subst}
 use mathlib.Core.Logic.{_↔_}
-use mathlib.Core.Bool.{Bool, true, false, _||_}
+use mathlib.Core.Bool.{false, _||_}
 use mathlib.Core.List.{List, [], _∷_}
-use Prim.Native.Nat.{ℕ, _*_, _≤_}
-use native.Mathlib.Omega.{arith}
+use Prim.Native.Nat.{ℕ, _*_}
 use lib.ListN.{length}
 use lib.Dec.{ltb}
 use borrow.Author.Tests.{ltb-false, le-ltb}
@@ -20,7 +19,7 @@ use Rattle.iosa.specs.InOrder.{Gives, needs, room}
 use Rattle.answering.proofs.Answers.InOrder.{refusedOr, either, or-refused, check-exactly, gives-exactly, room-decided, needs-decided}
 use Rattle.table.proofs.OnImageExactly.{on-table-leaves}
 use Rattle.lacking.specs.Repair.{repairedOf, addedTo}
-use Rattle.lacking.specs.Repaired.{Mended, MendedAs, Small}
+use Rattle.lacking.specs.Repaired.{Mended, Small}
 use Rattle.lacking.specs.Walk.{cellBytes}
 use Rattle.lacking.proofs.RepairedModels.{mended-as, only-mended}
 use Rattle.repair.specs.Repairing.{repairOf, repairOn, Repairing}
@@ -64,6 +63,5 @@ unfolding repairOn
 repair-answers-exactly t l r t′ l′ =
     let e = on-table-leaves t (repairOf (length l)) (RepairAnswer (length l)) (λ c cs w. model-exactly (length l) c cs w) (Mends t l r t′ l′) in (
       λ g. e .0 (record { answer = g .answer; table = g .table; list = g .list }),
-      λ g. let k =
-          e .1 g in record { answer = k .answer; table = k .table; list = k .list },
+      λ g. let k = e .1 g in record { answer = k .answer; table = k .table; list = k .list },
     )

@@ -3,7 +3,7 @@ use mathlib.Core.Path.{_≡_, refl, sym, _∙_, ap}
 use mathlib.Core.Option.{some}
 use mathlib.Core.Bool.{Bool, true, false, _||_}
 use mathlib.Core.List.{List, [], _∷_, _++_}
-use Prim.Native.Nat.{ℕ, _+_, _*_, _≤_, _<_}
+use Prim.Native.Nat.{ℕ, _*_, _≤_, _<_}
 use native.Mathlib.Omega.{arith}
 use lib.ListN.{length, drop}
 use lib.Dec.{ltb}
@@ -23,7 +23,7 @@ use Rattle.table.specs.IsImage.{isImage}
 use Rattle.table.proofs.OnTableLaws.{on-image, on-no-image}
 use Rattle.table.proofs.ImageExactly.{image-exactly}
 use Rattle.lacking.specs.Repair.{repairedOf, addedTo, bytesIn}
-use Rattle.lacking.specs.Repaired.{Mended, Small}
+use Rattle.lacking.specs.Repaired.{Mended}
 use Rattle.lacking.specs.Walk.{cellBytes}
 use Rattle.lacking.proofs.RepairedModels.{repaired-well-formed}
 use Rattle.repair.specs.Repairing.{repairOf, repairOn, numberIn, tableWith, listWith, Repairing}

@@ -2,18 +2,18 @@
 use mathlib.Core.Path.{_≡_, refl, sym, _∙_, ap, ap₂}
 use mathlib.Core.Bool.{Bool, true, false, _||_, cond, false≢true}
 use mathlib.Core.List.{List, [], _∷_, _++_}
-use Prim.Native.Nat.{ℕ, zero, suc, _+_, _*_, _≤_, _<_}
+use Prim.Native.Nat.{ℕ, _+_, _*_, _≤_, _<_}
 use native.Mathlib.Omega.{arith}
-use lib.ListN.{length, getD, take, drop, length-append}
+use lib.ListN.{length, getD, drop, length-append}
 use lib.Seq.{sets, sets-eq}
 use lib.Dec.{ltb}
 use borrow.Author.Tests.{lt-ltb, le-ltb}
-use Rattle.laws.specs.Fold.{tab, sum, spread}
+use Rattle.laws.specs.Fold.{spread}
 use Rattle.laws.proofs.TabLaws.{spread-length, sum-at-most}
 use Rattle.laws.proofs.ListLaws.{All, at-all, in-at}
-use Rattle.answer.specs.Limits.{maxActions, maxStates, maxComponents, maxRows, maxBytes}
+use Rattle.answer.specs.Limits.{maxActions, maxStates, maxRows, maxBytes}
 use Rattle.model.specs.Model.{Comp, Model, compAt, rowCount}
-use Rattle.model.specs.Text.{rowLine, rowLines, textOf}
+use Rattle.model.specs.Text.{textOf}
 use Rattle.iosa.specs.Checks.{lacksRow}
 use Rattle.model.specs.WellFormed.{WellFormed}
 use Rattle.measure.proofs.Lines.{rows-more, no-rows, rows-most}

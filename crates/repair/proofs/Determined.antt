@@ -10,6 +10,5 @@ pub repair-determined : (t l : List ℕ) (r q : Written) (t′ l′ t″ l″ : 
 repair-determined t l r q t′ l′ t″ l″ g h = (
   written-fixed r q (numberIn (repairOn t l)) (g .answer) (h .answer),
   g .table ∙ sym (h .table),
-  g .list
-      ∙ sym (h .list),
+  g .list ∙ sym (h .list),
 )

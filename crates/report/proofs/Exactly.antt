@@ -123,7 +123,8 @@ module _ (input : List ℕ) where
     filled-given = go (ltb (length old) mostBytes)
       where
         go : (b : Bool)
-            → cond b old (filledWith (answered (reportOf input)) old) ≡ filledWith (refusedOr (when b (tell 24 (mostBytes ∷ []))) (answered (reportOf input))) old
+            → cond b old (filledWith (answered (reportOf input)) old)
+            ≡ filledWith (refusedOr (when b (tell 24 (mostBytes ∷ []))) (answered (reportOf input))) old
         go true = refl
         go false = refl
 

@@ -1,7 +1,7 @@
 -- As many bytes as a request line, a text and one byte more tell what is printed: what stands behind them changes nothing.
 use mathlib.Core.Path.{_≡_, refl, sym, _∙_, ap}
 use mathlib.Core.Bool.{Bool, true, false, cond}
-use mathlib.Core.Option.{Option, none, some}
+use mathlib.Core.Option.{none}
 use mathlib.Core.List.{List, [], _∷_, _++_, append-assoc}
 use Prim.Native.Nat.{ℕ, _+_, _-_, _≤_, _<_}
 use native.Mathlib.Omega.{arith}
@@ -13,7 +13,7 @@ use borrow.Author.Tests.{ltb-false}
 use Rattle.model.proofs.Reading.Scans.{no-is}
 use Rattle.answer.specs.Limits.{maxRequest, maxBytes}
 use Rattle.answer.specs.Told.{tell}
-use Rattle.model.specs.Reading.{Got, Scan, is, stops}
+use Rattle.model.specs.Reading.{Scan, is, stops}
 use Rattle.answering.specs.Report.{Request, requestLine, requestText, RequestFits, shortEnough, requestOf, refusedLine, reportOf}
 use Rattle.model.proofs.Reading.Faults.{too-long-exactly}
 use Rattle.request.specs.Kept.{there}
@@ -29,10 +29,12 @@ request-before q h bs =
     ap (shortEnough (requestText q ++ bs)) (request-exact .printed q bs h tt) ∙ rw e
 
 -- with a short request line before them, bytes over a text's limit are 1, whichever they are
-too-long-report : (q : Request) → RequestFits q → ltb maxRequest (length (requestText q)) ≡ false → (bs : List ℕ) → maxBytes < length bs → reportOf (requestText q ++ bs) ≡ refusedLine (tell 1 (0 ∷ []))
+too-long-report : (q : Request) → RequestFits q → ltb maxRequest (length (requestText q)) ≡ false → (bs : List ℕ) → maxBytes < length bs
+    → reportOf (requestText q ++ bs) ≡ refusedLine (tell 1 (0 ∷ []))
 too-long-report q h b bs l = report-text (requestText q ++ bs) bs q (request-before q h bs ∙ rw b) (tell 1 (0 ∷ [])) (too-long-exactly bs .1 l)
 
-too-wide-report : (q : Request) → RequestFits q → ltb maxRequest (length (requestText q)) ≡ true → (bs : List ℕ) → reportOf (requestText q ++ bs) ≡ refusedLine (tell 9 (0 ∷ []))
+too-wide-report : (q : Request) → RequestFits q → ltb maxRequest (length (requestText q)) ≡ true → (bs : List ℕ) → reportOf (requestText q ++ bs)
+    ≡ refusedLine (tell 9 (0 ∷ []))
 too-wide-report q h b bs = report-9 (requestText q ++ bs) (request-before q h bs ∙ rw b)
 
 no-line-report : (bs cs : List ℕ) → requestLine bs ≡ stops cs → reportOf bs ≡ refusedLine (tell 9 (0 ∷ []))
@@ -86,6 +88,7 @@ module _ (f r : List ℕ) (long : maxRequest + maxBytes < length f) where
 -- what the program reads tells as much as the whole of its input
 pub front-decides : (n : ℕ) → maxRequest + maxBytes < n → (bs : List ℕ) → reportOf (take n bs) ≡ reportOf bs
 front-decides n room bs = elim (decLt n (length bs)) [
-  | yes h ↦ front-tells (take n bs) (drop n bs) (omega (arith, length-take-le n bs (let q : n ≤ length bs = omega arith in q))) ∙ ap reportOf (take-append-drop n bs)
+  | yes h ↦ front-tells (take n bs) (drop n bs) (omega (arith, length-take-le n bs (let q : n ≤ length bs = omega arith in q)))
+      ∙ ap reportOf (take-append-drop n bs)
   | no h ↦ ap reportOf (take-all n bs (omega arith))
 ]

@@ -2,7 +2,7 @@
 use mathlib.Core.Path.{_≡_, refl, _∙_, ap}
 use mathlib.Core.Bool.{false}
 use mathlib.Core.Option.{none, some}
-use mathlib.Core.List.{List, [], _∷_, _++_}
+use mathlib.Core.List.{List, _∷_, _++_}
 use Prim.Native.Nat.{ℕ, zero, suc, _+_, _*_, _-_}
 use native.Mathlib.Omega.{arith}
 use lib.Bits.{or-self, or-zero-r}
@@ -19,7 +19,7 @@ use Rattle.request.specs.Kept.{there}
 use Rattle.iosa.specs.Step.{Went, urgentStep, lowest}
 use Rattle.iosa.specs.Settle.{settle, beginFault, budgetFault, traceFault, settleOf}
 use Rattle.iosa.specs.Orders.{Settling}
-use Rattle.answering.specs.Report.{Request, requestText, stepLine, stepLines, lastLine, answerLines, requestOf, reportOf}
+use Rattle.answering.specs.Report.{requestText, stepLine, stepLines, lastLine, answerLines, requestOf, reportOf}
 use Rattle.answering.specs.Examples.{reply}
 use Rattle.iosa.proofs.Settling.Rule.{lowest-some}
 use Rattle.tell.specs.Tell.{tailOf}
@@ -71,7 +71,8 @@ module _ (m : Model) (s : List ℕ) (a r : ℕ) where
           lines-length (suc k) n,
         ))
 
-    report-length : (n : ℕ) → settleOf m s n n ≡ answered (settle (urgentStep m) n s) → length (answerLines m s (settleOf m s n n)) ≡ countBytes 1 n + beside * n + length (lastLine (looped n))
+    report-length : (n : ℕ) → settleOf m s n n ≡ answered (settle (urgentStep m) n s) → length (answerLines m s (settleOf m s n n))
+        ≡ countBytes 1 n + beside * n + length (lastLine (looped n))
     unfolding answerLines
     report-length n f =
         rw (f, settle-loops n) (length-append (stepLines m 1 s (replicate n a)) (lastLine (looped n)) ∙ rw (lines-length 1 n))

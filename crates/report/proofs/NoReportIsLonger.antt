@@ -15,7 +15,8 @@ use Rattle.model.specs.Model.{Comp, Model}
 use Rattle.model.specs.WellFormed.{WellFormed}
 use Rattle.iosa.specs.Faults.{FaultAt, guarded, repeated, lacking, doubled, inactive, Fault, inside, output-shared, clock-shared, urgency-differs, Clash, clash}
 use Rattle.iosa.specs.Checks.{confluentOf}
-use Rattle.model.specs.Reading.{Got, Scan, is, stops, Entry, Progress, current, entry, faultOf, columnOf, stopColumn, firstColumn, outside, unnamed, statesBy, takeIn, finish, linesFrom, atStart, readOf}
+use Rattle.model.specs.Reading.{Got, Scan, is, stops, Entry, Progress, current, entry, faultOf, columnOf, stopColumn, firstColumn, outside, unnamed}
+use Rattle.model.specs.Reading.{statesBy, takeIn, finish, linesFrom, atStart, readOf}
 use Rattle.iosa.specs.Step.{stateFault, inRange, urgentStep}
 use Rattle.iosa.specs.Settle.{settle, unreachedFrom, reachFault, beginFault, budgetFault, traceFault, settleOf}
 use Rattle.iosa.specs.Orders.{Settling}
@@ -165,6 +166,7 @@ no-report-is-longer input = go (requestOf input)
     text q bs (refused t) e h = refusal-most t h
     text q bs (answered m) e h = answer-most m (read-exactly bs m .0 e .0) (q .state) (q .budget)
 
-    go : (o : Option (Got Request)) → length {A = ℕ} (elim o as (λ _. List ℕ) [ none ↦ refusedLine (tell 9 (0 ∷ [])) | some g ↦ runLines (g .value) (readOf (g .rest)) ]) ≤ mostBytes
+    go : (o : Option (Got Request)) → length {A = ℕ}
+        (elim o as (λ _. List ℕ) [ none ↦ refusedLine (tell 9 (0 ∷ [])) | some g ↦ runLines (g .value) (readOf (g .rest)) ]) ≤ mostBytes
     go none = refusal-most (tell 9 (0 ∷ [])) (omega arith)
     go (some g) = text (g .value) (g .rest) (readOf (g .rest)) refl (read-brief (g .rest))

@@ -78,7 +78,8 @@ refusal-told : (f : Refusal) (o : Option Told)
     → _≡_ {A = Option (Answer (Unit {0}))} (asRefused (told f)) (some (unless o tt)) → (t : Told) × (o ≡ some t) × (told f ≡ some t)
 refusal-told f o e = go (told f) o refl e
   where
-    go : (p o : Option Told) → told f ≡ p → _≡_ {A = Option (Answer (Unit {0}))} (asRefused p) (some (unless o tt)) → (t : Told) × (o ≡ some t) × (told f ≡ some t)
+    go : (p o : Option Told) → told f ≡ p → _≡_ {A = Option (Answer (Unit {0}))} (asRefused p) (some (unless o tt)) → (t : Told) × (o ≡ some t)
+        × (told f ≡ some t)
     go none none h e = absurd (let z : _≡_ {A = ℕ} 0 1 = cc in omega arith)
     go none (some u) h e = absurd (let z : _≡_ {A = ℕ} 0 1 = cc in omega arith)
     go (some t) none h e = absurd (let z : _≡_ {A = ℕ} 0 1 = cc in omega arith)

@@ -1,8 +1,8 @@
 -- The request line is scanned as it is printed, and printed as it was scanned.
-use mathlib.Core.Path.{_≡_, refl, sym, _∙_, ap, subst}
-use mathlib.Core.List.{List, [], _∷_, _++_, append-assoc}
+use mathlib.Core.Path.{_≡_, _∙_, ap, subst}
+use mathlib.Core.List.{List, [], _∷_, _++_}
 use Prim.Native.Nat.{ℕ}
-use Rattle.model.specs.Text.{tab, lf, decimal, joined, fieldsAfter}
+use Rattle.model.specs.Text.{lf, decimal, joined, fieldsAfter}
 use Rattle.model.specs.Reading.{Got, Scan, is, got, then, exactly, theByte, number, numbers, field}
 use Rattle.model.specs.Line.{Fits, ListFits, Any, Exact}
 use Rattle.answering.specs.Report.{Request, fromWord, requestLine, requestText, RequestFits}
@@ -13,7 +13,10 @@ use Rattle.model.proofs.Reading.Fields.{exactly-scanned, number-exact, numbers-
 printed : (q : Request) (bs : List ℕ) → RequestFits q → requestLine (requestText q ++ bs) ≡ got q bs
 unfolding requestLine requestText fieldsAfter exactly
 printed q bs h =
-    rw (field-printed numbers joined ListFits numbers-exact (q .state) (h .0) (decimal (q .budget) ∷ []) bs, field-printed number decimal Fits number-exact (q .budget) (h .1) [] bs)
+    rw (
+      field-printed numbers joined ListFits numbers-exact (q .state) (h .0) (decimal (q .budget) ∷ []) bs,
+      field-printed number decimal Fits number-exact (q .budget) (h .1) [] bs,
+    )
 
 -- the scans of its parts, one after the other
 abbrev asRequest : Got (List ℕ) → Got ℕ → Got (Unit {0}) → Got Request

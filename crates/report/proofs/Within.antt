@@ -22,7 +22,9 @@ length-within input old new r g k e = go (ltb (length old) mostBytes) refl
     told = ap saysWritten (sym e) ∙ g .answer
 
     go : (b : Bool) → ltb (length old) mostBytes ≡ b → k ≤ length new
-    go true h = absurd (let w : _≡_ {A = Option (Answer ℕ)} (some (answered k)) (some (refused (tell 24 (mostBytes ∷ [])))) = rw h at told in let z : _≡_ {A = ℕ} 0 1 = cc in omega arith)
+    go true h =
+        absurd (let w : _≡_ {A = Option (Answer ℕ)} (some (answered k)) (some (refused (tell 24 (mostBytes ∷ [])))) = rw h at told in
+        let z : _≡_ {A = ℕ} 0 1 = cc in omega arith)
     go false h =
         let w : _≡_ {A = Option (Answer ℕ)} (some (answered k)) (some (answered (length (reportOf input)))) = rw h at told in
         let n : k ≡ length (reportOf input) = cc in

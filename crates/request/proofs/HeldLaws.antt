@@ -1,9 +1,9 @@
 -- A request's numbers, kept as a state: in the range of a model exactly where they are, and the same there.
 use mathlib.Core.Path.{_≡_, refl, sym, _∙_, ap, ap₂}
 use mathlib.Core.Logic.{by-cases}
-use mathlib.Core.Bool.{Bool, true, false, _&&_, cond}
+use mathlib.Core.Bool.{true, _&&_}
 use mathlib.Core.List.{List, [], _∷_, _++_, map, append-nil}
-use Prim.Native.Nat.{ℕ, zero, suc, _+_, _≤_, _<_}
+use Prim.Native.Nat.{ℕ, _+_, _≤_, _<_}
 use native.Mathlib.Omega.{arith}
 use native.Mathlib.Numerals.{add-one}
 use native.Mathlib.Decide.{decLt}
@@ -16,7 +16,7 @@ use Rattle.answer.specs.Limits.{maxComponents, maxStates, noState}
 use Rattle.answer.specs.declared.State.{State}
 use Rattle.answer.specs.State.{numbersFrom, partsOf}
 use Rattle.answer.proofs.StateLaws.{parts-front, parts-length}
-use Rattle.model.specs.Model.{Comp, Model}
+use Rattle.model.specs.Model.{Model}
 use Rattle.iosa.specs.Step.{inRange}
 use Rattle.iosa.proofs.Settling.Range.{range-length, wrong-length}
 use Rattle.request.specs.Kept.{byteOf, with, withAll, held}
@@ -44,7 +44,8 @@ module _ (x : State) (n : ℕ) (len : length (x .parts) ≡ maxComponents) where
       ∙ ap (λ l. l ++ (byteOf n ∷ [])) (sym (parts-front x (omega (arith, len))))
 
 -- ---- all of them
-all-held : (x : State) (ns : List ℕ) → length (x .parts) ≡ maxComponents → x .count + length ns ≤ maxComponents → partsOf (withAll x ns) ≡ partsOf x ++ map byteOf ns
+all-held : (x : State) (ns : List ℕ) → length (x .parts) ≡ maxComponents → x .count + length ns ≤ maxComponents
+    → partsOf (withAll x ns) ≡ partsOf x ++ map byteOf ns
 unfolding withAll
 all-held x [] len h = sym (append-nil (partsOf x))
 all-held x (n ∷ ns) len h =
@@ -58,8 +59,10 @@ too-many : (x : State) (ns : List ℕ) → length (x .parts) ≡ maxComponents �
 unfolding withAll
 too-many x [] len le h = omega arith
 too-many x (n ∷ ns) len le h = by-cases (decLt (x .count) maxComponents)
-    (λ p. let c : with x n .count ≡ x .count + 1 = ap (λ y. y .count) (with-place x n len p) in too-many (with x n) ns (with-places x n len) (omega (arith, c)) (omega (arith, c)))
-    (λ p. let c : with x n .count ≡ maxComponents + 1 = ap (λ y. y .count) (with-none x n len (omega arith)) in too-many (with x n) ns (with-places x n len) (omega (arith, c)) (omega (arith, c)))
+    (λ p. let c : with x n .count ≡ x .count + 1 = ap (λ y. y .count) (with-place x n len p) in too-many (with x n) ns (with-places x n len)
+    (omega (arith, c)) (omega (arith, c)))
+    (λ p. let c : with x n .count ≡ maxComponents + 1 = ap (λ y. y .count) (with-none x n len (omega arith)) in too-many (with x n) ns
+    (with-places x n len) (omega (arith, c)) (omega (arith, c)))
 
 pub held-few : (ns : List ℕ) → length ns ≤ maxComponents → partsOf (held ns) ≡ map byteOf ns
 unfolding held partsOf numbersFrom
@@ -76,7 +79,9 @@ Few [] = Unit {0}
 Few (c ∷ cs) = (c .states ≤ maxStates) × Few cs
 
 byte-below : (n k : ℕ) → k ≤ maxStates → ltb (byteOf n) k ≡ ltb n k
-byte-below n k h = by-cases (decLt n 255) (λ p. rw (lt-ltb n 255 p)) (λ p. rw (le-ltb n 255 (omega arith)) (le-ltb 255 k (omega arith) ∙ sym (le-ltb n k (omega arith))))
+byte-below n k h =
+    by-cases (decLt n 255) (λ p. rw (lt-ltb n 255 p))
+    (λ p. rw (le-ltb n 255 (omega arith)) (le-ltb 255 k (omega arith) ∙ sym (le-ltb n k (omega arith))))
 
 byte-same : (n k : ℕ) → k ≤ maxStates → ltb n k ≡ true → byteOf n ≡ n
 byte-same n k h e = rw (lt-ltb n 255 (omega (arith, ltb-true n k e)))

@@ -3,17 +3,16 @@ use mathlib.Core.Path.{_≡_, refl, sym, _∙_, ap}
 use mathlib.Core.Logic.{by-cases}
 use mathlib.Core.Option.{Option, none, some, Option·some-inj}
 use Rattle.laws.proofs.SearchLaws.{no-some}
-use mathlib.Core.Bool.{Bool, true, false, cond}
+use mathlib.Core.Bool.{true, false, cond}
 use mathlib.Core.List.{List, [], _∷_}
-use Prim.Native.Nat.{ℕ, _+_, _-_, _≤_, _<_}
+use Prim.Native.Nat.{ℕ, _-_, _≤_, _<_}
 use native.Mathlib.Omega.{arith}
 use native.Mathlib.Decide.{decLt}
 use lib.ListN.{length, drop, length-drop, drop-of-length-le}
-use lib.Dec.{ltb}
 use borrow.Author.Tests.{lt-ltb, le-ltb}
 use Rattle.answer.specs.Limits.{maxRequest, noState}
 use Rattle.answer.specs.declared.State.{State}
-use Rattle.model.specs.Text.{tab, lf}
+use Rattle.model.specs.Text.{lf}
 use Rattle.model.specs.Reading.{Got, Scan, is, stops, got, then, exactly, theByte, number, moreNumbers, numbers, field}
 use Rattle.answering.specs.Report.{Request, fromWord, requestLine, requestOf}
 use Rattle.model.proofs.Reading.Scans.{no-is}
@@ -21,7 +20,7 @@ use Rattle.fields.specs.Resets.{valued}
 use Rattle.fields.proofs.NumberLaws.{numbers-all, no-number}
 use Rattle.request.specs.declared.PartsScan.{PartsScan}
 use Rattle.request.specs.declared.Asked.{Asked}
-use Rattle.request.specs.Kept.{with, withAll, held, keep, Kept, heard, there, kept, gotParts, asked, lessOf}
+use Rattle.request.specs.Kept.{with, withAll, held, Kept, heard, there, kept, gotParts, asked, lessOf}
 
 pub nothing-more : (x : State) → withAll x [] ≡ x
 unfolding withAll

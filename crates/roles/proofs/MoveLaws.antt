@@ -1,17 +1,17 @@
 -- The moves and roles of the modules, case by case, as the code has them.
 use mathlib.Core.Path.{_≡_, refl, sym, _∙_, ap}
-use mathlib.Core.Option.{Option, none, some}
-use mathlib.Core.Bool.{Bool, true, false, not, _&&_, cond}
-use Prim.Native.Nat.{ℕ, zero, suc, _+_, _*_, _-_, _≤_, _<_}
+use mathlib.Core.Option.{some}
+use mathlib.Core.Bool.{Bool, true, false, not, _&&_}
+use Prim.Native.Nat.{ℕ, suc, _+_, _*_, _-_}
 use native.Mathlib.Omega.{arith}
 use native.Mathlib.Decide.{decLe}
 use lib.Dec.{eqb, leb, ltb}
 use borrow.Author.Tests.{eq-eqb, ne-eqb, le-leb, lt-leb, lt-ltb, le-ltb}
 use Rattle.laws.specs.Sets.{has, _∪_, only}
 use Rattle.laws.specs.Search.{when, mapSome, any}
-use Rattle.trees.specs.Module.{Move}
 use Rattle.trees.specs.Tree.{Element, f, u}
-use Rattle.trees.specs.Modules.{beState, beMove, told, gateRole, pandRole, own-f, own-u, f0, u0, f1, u1, countState, oneMore, oneLess, countMove, box-r, boxMove, plainMove}
+use Rattle.trees.specs.Modules.{beState, beMove, told, gateRole, pandRole, own-f, own-u, f0, u0, f1, u1, countState, oneMore, oneLess, countMove}
+use Rattle.trees.specs.Modules.{box-r, boxMove, plainMove}
 use Rattle.roles.specs.declared.Signal.{Signal}
 use Rattle.roles.specs.declared.Signal.the-variants as OfSignal
 use Rattle.roles.specs.declared.GateRole.the-variants as OfRole
@@ -53,7 +53,8 @@ module _ (number first second of : ℕ) (signal : Signal) where
       go OfSignal.U = refl
       go OfSignal.R = refl
 
-  pub second-told : ¬ (of ≡ number) → ¬ (of ≡ first) → of ≡ second → gateIs (toldAs OfRole.F1 OfRole.U1 signal) ≡ gateRole (gateOf number first second) (meantAs of signal)
+  pub second-told : ¬ (of ≡ number) → ¬ (of ≡ first) → of ≡ second → gateIs (toldAs OfRole.F1 OfRole.U1 signal)
+      ≡ gateRole (gateOf number first second) (meantAs of signal)
   unfolding gateRole
   second-told h k l = rw (ne-eqb of number h, ne-eqb of first k, eq-eqb of second l) (go signal)
     where

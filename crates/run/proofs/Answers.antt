@@ -1,11 +1,10 @@
 -- What the calls answer on a table, refusal by refusal, and how an answer in hand meets it.
 use mathlib.Core.Path.{_≡_, refl, sym, _∙_, ap, subst}
-use mathlib.Core.Bool.{Bool, true, false, not}
+use mathlib.Core.Bool.{true, false, not}
 use mathlib.Core.Option.{Option, none, some}
 use mathlib.Core.List.{List, [], _∷_}
 use Prim.Native.Nat.{ℕ, _≤_, _<_}
 use lib.ListN.{length}
-use lib.Dec.{ltb}
 use borrow.Author.Tests.{lt-ltb, le-ltb}
 use Rattle.laws.specs.Search.{when, orElse}
 use Rattle.answer.specs.Limits.{maxBudget}
@@ -16,11 +15,11 @@ use Rattle.answer.specs.declared.Stepped.{Stepped}
 use Rattle.answer.specs.declared.Settled.{Settled}
 use Rattle.model.specs.Model.{Model}
 use Rattle.iosa.specs.Checks.{acceptOf, confluentOf}
-use Rattle.iosa.specs.Step.{unless, takenBy, named, urgentStep, inRange, stateFault, stepOf, stepByOf}
+use Rattle.iosa.specs.Step.{unless, urgentStep, inRange, stateFault, stepOf, stepByOf}
 use Rattle.iosa.specs.Stepped.{Stepping}
 use Rattle.iosa.specs.Settle.{settle, play, beginFault, budgetFault, traceFault, settleOf, settleListOf}
 use Rattle.iosa.specs.Orders.{Settling}
-use Rattle.settling.specs.Gives.{StepAnswers, StepGives, SettleAnswers, SettlingGives, byRuleOf, byNameOf}
+use Rattle.settling.specs.Gives.{StepAnswers, SettleAnswers, byRuleOf, byNameOf}
 use Rattle.run.specs.Refusals.{refusedStep, refusedSettling}
 
 -- ---- an answer in hand

@@ -1,6 +1,5 @@
 -- Any two outcomes that a call's promise allows are equal, the trace too.
-use mathlib.Core.Path.{_≡_, refl, sym, _∙_, ap}
-use mathlib.Core.Option.{some}
+use mathlib.Core.Path.{_≡_, sym, _∙_}
 use mathlib.Core.List.{List}
 use Prim.Native.Nat.{ℕ}
 use Rattle.answer.specs.Told.{Answer, answered, refused}
@@ -43,7 +42,8 @@ step-determined t x r q g h = stepped (stepOn t x) x r q (g .answer) (h .answer)
 pub step-by-determined : (t : List ℕ) (x : State) (a : ℕ) (r q : Stepped) → StepByCall t x a r → StepByCall t x a q → r ≡ q
 step-by-determined t x a r q g h = stepped (stepByOn t x a) x r q (g .answer) (h .answer)
 
-pub settle-determined : (t : List ℕ) (x : State) (budget : ℕ) (old new late : List ℕ) (r q : Settled) → SettleCall t x budget old new r → SettleCall t x budget old late q → (r ≡ q) × (new ≡ late)
+pub settle-determined : (t : List ℕ) (x : State) (budget : ℕ) (old new late : List ℕ) (r q : Settled) → SettleCall t x budget old new r
+    → SettleCall t x budget old late q → (r ≡ q) × (new ≡ late)
 settle-determined t x budget old new late r q g h = (settled (settleOn t x budget old) x r q (g .answer) (h .answer), g .trace ∙ sym (h .trace))
 
 pub settle-list-determined : (t : List ℕ) (x : State) (l : List ℕ) (r q : Settled) → SettleListCall t x l r → SettleListCall t x l q → r ≡ q

@@ -1,11 +1,11 @@
 -- A check that passed leaves the table ready for steps from a state in range.
-use mathlib.Core.Path.{_≡_, refl, sym, _∙_, ap}
+use mathlib.Core.Path.{_≡_, sym, _∙_, ap}
 use mathlib.Core.Bool.{true}
 use mathlib.Core.Option.{Option, none, some}
 use mathlib.Core.List.{List}
 use Prim.Native.Nat.{ℕ}
 use Rattle.laws.proofs.SearchLaws.{or-else-none}
-use Rattle.answer.specs.Told.{Told, told, saysChecked, Answer, refused}
+use Rattle.answer.specs.Told.{Told, told, saysChecked, refused}
 use Rattle.answer.specs.declared.Checked.{Checked}
 use Rattle.answer.specs.declared.Checked.the-variants.{Fine, Refused}
 use Rattle.answer.specs.declared.Refusal.{Refusal}

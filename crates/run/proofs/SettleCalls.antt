@@ -43,11 +43,13 @@ module _ (t : List ℕ) (x : State) where
     pub tells : told q ≡ some fault
     pub answer : onTable t call ≡ refused fault
 
-  refused-with : (call : Model → Answer (Settling (List ℕ))) (q : Refusal) (r : Settled) → Refuses call q → r ≡ refusedSettling q → SettleAnswers (onTable t call) x r
+  refused-with : (call : Model → Answer (Settling (List ℕ))) (q : Refusal) (r : Settled) → Refuses call q → r ≡ refusedSettling q
+      → SettleAnswers (onTable t call) x r
   refused-with call q r f k = settle-answers (onTable t call) (refused (f .fault)) x r (f .answer) (rw k (refuses-settling q (f .fault) x (f .tells)))
 
   -- ---- before the first step, by our rule and by a list alike: what stands in the way of beginning, 22
-  module _ (call : Model → Answer (Settling (List ℕ))) (steps : ℕ) (follows : (m : Model) (f : Told) → startFault m (partsOf x) steps ≡ some f → call m ≡ refused f)
+  module _ (call : Model → Answer (Settling (List ℕ))) (steps : ℕ) (follows : (m : Model) (f : Told) → startFault m (partsOf x) steps ≡ some f
+      → call m ≡ refused f)
       (ch : Checked) (says : saysChecked ch ≡ some (checkOn t (entryFault x))) where
     pub by-check : (q : Refusal) → ch ≡ Refused q → Refuses call q
     by-check q is =
@@ -85,12 +87,21 @@ module _ (t : List ℕ) (x : State) where
 
       pub settle-is-short : length old < budget → r ≡ refusedSettling (bytesAt budget) → SettleCall t x budget old old r
       unfolding told
-      settle-is-short s k = settle-refuses (bytesAt budget) r (record { fault = tell 24 (budget ∷ []); tells = refl; answer = on ∙ settle-short (modelOf t) (partsOf x) budget (length old) starts s }) k
+      settle-is-short s k =
+          settle-refuses (bytesAt budget) r (record {
+            fault = tell 24 (budget ∷ []);
+            tells = refl;
+            answer = on ∙ settle-short (modelOf t) (partsOf x) budget (length old) starts s;
+          }) k
 
-      pub settle-is-done : budget ≤ length old → (new : List ℕ) → SettleGives (modelOf t) budget x r → TraceHolds (modelOf t) budget x old new → SettleCall t x budget old new r
+      pub settle-is-done : budget ≤ length old → (new : List ℕ) → SettleGives (modelOf t) budget x r → TraceHolds (modelOf t) budget x old new
+          → SettleCall t x budget old new r
       settle-is-done s new g tr =
           let e = on ∙ settle-goes (modelOf t) (partsOf x) budget (length old) starts s in
-          record { answer = settle-answers (onTable t call) (answered (settle (urgentStep (modelOf t)) budget (partsOf x))) x r e g; trace = tr ∙ sym (ap (λ v. traceAfter v old) e) }
+          record {
+            answer = settle-answers (onTable t call) (answered (settle (urgentStep (modelOf t)) budget (partsOf x))) x r e g;
+            trace = tr ∙ sym (ap (λ v. traceAfter v old) e);
+          }
 
   -- ---- by a list
   module _ (l : List ℕ) where

@@ -38,7 +38,9 @@ lowest-from s (suc k) j =
 
 pub lowest-is : (s : ℕ) → trailingZeros wordBits s ≡ lowestOf s
 unfolding lowestOf seek
-lowest-is s = let e : trailingZeros wordBits (s / 1) + 0 ≡ orEnd (firstFrom (λ x. when (has s x) x) wordBits 0) wordBits = lowest-from s wordBits 0 in omega (arith, ap (trailingZeros wordBits) (div-one s))
+lowest-is s =
+    let e : trailingZeros wordBits (s / 1) + 0 ≡ orEnd (firstFrom (λ x. when (has s x) x) wordBits 0) wordBits = lowest-from s wordBits 0 in
+    omega (arith, ap (trailingZeros wordBits) (div-one s))
 
 digit : (d : ℕ) → d < 2 → d ≡ cond (eqb d 1) 1 0
 digit zero h = refl

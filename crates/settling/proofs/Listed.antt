@@ -1,32 +1,31 @@
 -- Settling by a list: the actions done, before what the rest of the list does.
 use mathlib.Core.Path.{_≡_, refl, sym, ap, ap₂, subst, _∙_}
-use mathlib.Core.Bool.{Bool, true, false, not}
+use mathlib.Core.Bool.{true, false}
 use mathlib.Core.Option.{Option, none, some}
 use mathlib.Core.List.{List, [], _∷_}
-use Prim.Native.Nat.{ℕ, zero, suc, _+_, _≤_, _<_}
+use Prim.Native.Nat.{ℕ, suc, _+_, _≤_, _<_}
 use native.Mathlib.Omega.{arith}
 use native.Mathlib.Numerals.{add-one}
 use lib.ListN.{length, getD, drop, drop-of-length-le}
 use lib.Seq.{drop-cons}
 use lib.Bits.{or-zero-r}
 use Rattle.laws.specs.Sets.{_∪_}
-use Rattle.laws.specs.Search.{isSome}
 use Rattle.laws.proofs.SetLaws.{or-assoc}
-use Rattle.answer.specs.Limits.{maxActions, maxComponents}
-use Rattle.answer.specs.Told.{Told, tell, Answer, answered, refused}
+use Rattle.answer.specs.Limits.{maxComponents}
+use Rattle.answer.specs.Told.{tell, Answer, answered, refused}
 use Rattle.answer.specs.declared.State.{State}
 use Rattle.answer.specs.declared.Settled.{Settled}
 use Rattle.answer.specs.State.{partsOf, withParts}
 use Rattle.model.specs.Model.{Model}
 use Rattle.iosa.specs.Automaton.{Conforming, Joinable}
-use Rattle.iosa.specs.Step.{urgentStep, lowest, isStable}
+use Rattle.iosa.specs.Step.{urgentStep, isStable}
 use Rattle.iosa.specs.Stepped.{Gone}
 use Rattle.iosa.specs.Settle.{resting, afterListed, play}
 use Rattle.iosa.specs.Orders.{Settling}
 use Rattle.layout.specs.Image.{modelOf}
-use Rattle.moves.specs.Moves.{resetAll, afterAll, movedAll, offersAll, lowestAll}
+use Rattle.moves.specs.Moves.{resetAll, afterAll, movedAll, offersAll}
 use Rattle.moves.proofs.StepsByOffers.{offered-step, no-offer-no-step}
-use Rattle.settling.specs.Gives.{Ready, EndsAt, SettlingGives, SettleAnswers}
+use Rattle.settling.specs.Gives.{Ready, EndsAt, SettleAnswers}
 use Rattle.settling.proofs.Reached.{Reached, reached-first, next-parts, reached-next}
 
 -- k listed actions done, with resets r, before what d says
@@ -50,15 +49,21 @@ module _ (m : Model) where
     where
       by : (g : Gone (List ℕ)) (d : Answer (Settling (List ℕ))) → plusListed 0 0 (afterListed g d) ≡ afterListed g d
       by g (refused t) = refl
-      by g (answered d) = let e : 0 + suc (d .steps) ≡ suc (d .steps) = omega arith in λ i. answered (record { stable = d .stable; steps = e i; resets = g .resets ∪ d .resets; trace = []; state = d .state })
+      by g (answered d) =
+          let e : 0 + suc (d .steps) ≡ suc (d .steps) = omega arith in
+          λ i. answered (record { stable = d .stable; steps = e i; resets = g .resets ∪ d .resets; trace = []; state = d .state })
 
       go : (o : Option (Gone (List ℕ)))
-          → plusListed 0 0 (elim o as (λ _. Answer (Settling (List ℕ))) [ none ↦ refused (tell 23 (i ∷ [])) | some g ↦ afterListed g (play m (suc i) l (g .after)) ])
+          → plusListed 0 0 (elim o as (λ _. Answer (Settling (List ℕ))) [
+            | none ↦ refused (tell 23 (i ∷ []))
+            | some g ↦ afterListed g (play m (suc i) l (g .after))
+          ])
           ≡ (elim o as (λ _. Answer (Settling (List ℕ))) [ none ↦ refused (tell 23 (i ∷ [])) | some g ↦ afterListed g (play m (suc i) l (g .after)) ])
       go none = refl
       go (some g) = by g (play m (suc i) l (g .after))
 
-  play-go : (i : ℕ) (l s : List ℕ) (g : Gone (List ℕ)) → i < length l → urgentStep m s (getD l i 0) ≡ some g → play m i (drop i l) s ≡ afterListed g (play m (i + 1) (drop (i + 1) l) (g .after))
+  play-go : (i : ℕ) (l s : List ℕ) (g : Gone (List ℕ)) → i < length l → urgentStep m s (getD l i 0) ≡ some g
+      → play m i (drop i l) s ≡ afterListed g (play m (i + 1) (drop (i + 1) l) (g .after))
   unfolding play
   play-go i l s g h e = rw (drop-cons l i 0 h, e, play) (ap (λ k. afterListed g (play m k (drop k l) (g .after))) (sym (add-one i)))
 
@@ -93,7 +98,8 @@ module _ (t list : List ℕ) (x : State) where
             within = omega arith;
             reached = reached-next t x cur (at .reached) a next en;
             run =
-                ap₂ (λ r p. plusListed (i + 1) r (play m (i + 1) (drop (i + 1) list) p)) (ea ∙ ap (λ n. resets ∪ n) em) (next-parts t x cur (at .reached) a next en)
+                ap₂ (λ r p. plusListed (i + 1) r (play m (i + 1) (drop (i + 1) list) p)) (ea ∙ ap (λ n. resets ∪ n) em)
+                (next-parts t x cur (at .reached) a next en)
                 ∙ sym (plus-after i resets g (play m (i + 1) (drop (i + 1) list) (g .after)))
                 ∙ ap (plusListed i resets) (sym (play-go m i list (partsOf cur) g h (ap (urgentStep m (partsOf cur)) (sym here) ∙ s)))
                 ∙ at .run;
@@ -104,7 +110,8 @@ module _ (t list : List ℕ) (x : State) where
       unfolding plusListed
       stops o =
           sym (at .run)
-          ∙ ap (plusListed i resets) (play-stop (modelOf t) i list (partsOf cur) h (rw here at (no-offer-no-step (modelOf t) good fit (partsOf cur) (at .reached .standing .within) a o)))
+          ∙ ap (plusListed i resets) (play-stop (modelOf t) i list (partsOf cur) h
+          (rw here at (no-offer-no-step (modelOf t) good fit (partsOf cur) (at .reached .standing .within) a o)))
 
     -- the end of the list
     pub plays-all : length list ≤ i → (r : Settled) → EndsAt (modelOf t) cur i resets r → SettleAnswers (play (modelOf t) 0 list (partsOf x)) x r
@@ -114,6 +121,7 @@ module _ (t list : List ℕ) (x : State) where
         let z = or-zero-r resets in
         let b = isStable (modelOf t) (partsOf cur) in
         subst (λ (v : Answer (Settling (List ℕ))). SettleAnswers v x r)
-        (sym (ap (plusListed i resets) (play-end (modelOf t) i list (partsOf cur) h) ∙ (λ j. answered (record { stable = b; steps = n j; resets = z j; trace = []; state = partsOf cur })))
+        (sym (ap (plusListed i resets) (play-end (modelOf t) i list (partsOf cur) h)
+        ∙ (λ j. answered (record { stable = b; steps = n j; resets = z j; trace = []; state = partsOf cur })))
         ∙ at .run)
         (record { verdict = e .verdict; steps = e .steps-are; resets = e .resets-are; state = e .state ∙ sym (at .reached .same) })

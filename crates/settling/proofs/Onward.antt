@@ -1,9 +1,9 @@
 -- Where the loop that settles stands: the state reached, and the steps done before what is left.
 use mathlib.Core.Path.{_≡_, refl, sym, ap, ap₂, _∙_}
-use mathlib.Core.Bool.{Bool, true, false, not}
-use mathlib.Core.Option.{Option, none, some}
+use mathlib.Core.Bool.{false, not}
+use mathlib.Core.Option.{some}
 use mathlib.Core.List.{List, [], _∷_, _++_, append-nil}
-use Prim.Native.Nat.{ℕ, zero, suc, _+_, _-_, _%_, _≤_, _<_}
+use Prim.Native.Nat.{ℕ, _+_, _-_, _%_, _≤_, _<_}
 use native.Mathlib.Omega.{arith}
 use native.Mathlib.Nat.{mod-eq-of-lt}
 use native.Mathlib.Numerals.{add-one}
@@ -16,13 +16,9 @@ use Rattle.answer.specs.Told.{answered}
 use Rattle.answer.specs.declared.State.{State}
 use Rattle.answer.specs.declared.Settled.{Settled}
 use Rattle.answer.specs.State.{partsOf, withParts}
-use Rattle.model.specs.Model.{Model}
 use Rattle.iosa.specs.Automaton.{Conforming, Joinable}
-use Rattle.iosa.specs.Product.{Within}
-use Rattle.iosa.specs.Step.{Went, urgentStep, lowest, isStable}
-use Rattle.iosa.specs.Stepped.{Gone}
+use Rattle.iosa.specs.Step.{urgentStep, isStable}
 use Rattle.iosa.specs.Settle.{resting, settle}
-use Rattle.iosa.specs.Orders.{Settling}
 use Rattle.layout.specs.Image.{modelOf}
 use Rattle.moves.specs.Moves.{resetAll, afterAll, movedAll, lowestAll}
 use Rattle.settling.specs.Gives.{Ready, EndsAt, SettleGives, TraceHolds, traced}
@@ -50,13 +46,15 @@ module _ (t : List ℕ) (budget : ℕ) (x : State) (old : List ℕ) where
     rest = refl;
   }
 
-  module _ (good : Conforming (modelOf t)) (fit : Joinable (modelOf t)) (cur : State) (resets k : ℕ) (trace : List ℕ) (at : Runs t budget x old cur resets k trace)
+  module _ (good : Conforming (modelOf t)) (fit : Joinable (modelOf t)) (cur : State) (resets k : ℕ) (trace : List ℕ)
+      (at : Runs t budget x old cur resets k trace)
       (a : ℕ) (e : a ≡ lowestAll (modelOf t) (partsOf cur)) where
     byte : a < maxActions → a % 256 ≡ a
     byte h = mod-eq-of-lt (omega arith)
 
     -- one step more
-    pub onward : k < budget → a < maxActions → (next : State) (more all : ℕ) → next ≡ withParts cur (afterAll (modelOf t) (partsOf cur) a) → more ≡ resetAll (modelOf t) (partsOf cur) a
+    pub onward : k < budget → a < maxActions → (next : State) (more all : ℕ) → next ≡ withParts cur (afterAll (modelOf t) (partsOf cur) a)
+        → more ≡ resetAll (modelOf t) (partsOf cur) a
         → all ≡ resets ∪ more → Runs t budget x old next all (k + 1) (set trace k (a % 256))
     onward h low next more all en em ea =
         let m = modelOf t in

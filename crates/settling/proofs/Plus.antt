@@ -1,13 +1,11 @@
 -- What is done so far, before what is left: the invariant of the loop that settles.
 use mathlib.Core.Path.{_≡_, refl, sym, _∙_, ap}
-use mathlib.Core.Bool.{Bool, true, false, not}
+use mathlib.Core.Bool.{true, false, not}
 use mathlib.Core.Option.{Option, none, some}
 use mathlib.Core.List.{List, [], _∷_, _++_}
-use Prim.Native.Nat.{ℕ, zero, suc, _+_, _-_, _≤_, _<_}
+use Prim.Native.Nat.{ℕ, zero, suc, _+_, _-_, _<_}
 use native.Mathlib.Omega.{arith}
-use lib.ListN.{length}
 use lib.Seq.{append-snoc}
-use lib.Bits.{bitOr}
 use Rattle.laws.specs.Sets.{_∪_}
 use Rattle.laws.specs.Search.{isSome}
 use Rattle.laws.proofs.SetLaws.{or-assoc}
@@ -23,7 +21,9 @@ module _ {S : Type 0} where
 
   pub plus-nothing : (d : Settling S) → plus 0 0 [] d ≡ d
   unfolding plus
-  plus-nothing d = let e : 0 + d .steps ≡ d .steps = omega arith in λ i. record { stable = d .stable; steps = e i; resets = d .resets; trace = d .trace; state = d .state }
+  plus-nothing d =
+      let e : 0 + d .steps ≡ d .steps = omega arith in
+      λ i. record { stable = d .stable; steps = e i; resets = d .resets; trace = d .trace; state = d .state }
 
   plus-after : (k r : ℕ) (l : List ℕ) (w : Went S) (d : Settling S) → plus k r l (after w d) ≡ plus (k + 1) (r ∪ w .gone .resets) (l ++ (w .action ∷ [])) d
   unfolding plus

@@ -1,7 +1,7 @@
 -- The state that a run has reached: of the same model, and x but for its numbers.
 use mathlib.Core.Path.{_≡_, refl, sym, ap, _∙_}
 use mathlib.Core.List.{List}
-use Prim.Native.Nat.{ℕ, _≤_, _<_}
+use Prim.Native.Nat.{ℕ}
 use native.Mathlib.Omega.{arith}
 use lib.ListN.{length}
 use Rattle.answer.specs.Limits.{maxComponents}
@@ -31,7 +31,8 @@ reached-ready t x cur r at = record { standing = at .standing; conforming = r .c
 module _ (t : List ℕ) (x cur : State) (at : Reached t x cur) (a : ℕ) (next : State) (en : next ≡ withParts cur (afterAll (modelOf t) (partsOf cur) a)) where
   after-length : length (afterAll (modelOf t) (partsOf cur) a) ≡ cur .count
   after-length =
-      within-length (modelOf t) (afterAll (modelOf t) (partsOf cur) a) (all-keep (modelOf t) (well-formed t (at .standing .image) .each) (partsOf cur) a (at .standing .within))
+      within-length (modelOf t) (afterAll (modelOf t) (partsOf cur) a) (all-keep (modelOf t) (well-formed t (at .standing .image) .each) (partsOf cur)
+      a (at .standing .within))
       ∙ sym (count-model t cur (at .standing))
 
   pub next-parts : partsOf next ≡ afterAll (modelOf t) (partsOf cur) a
@@ -41,7 +42,13 @@ module _ (t : List ℕ) (x cur : State) (at : Reached t x cur) (a : ℕ) (next :
   reached-next =
       let ps = afterAll (modelOf t) (partsOf cur) a in
       record {
-        standing = record { image = at .standing .image; within = rw (← next-parts) at (all-keep (modelOf t) (well-formed t (at .standing .image) .each) (partsOf cur) a (at .standing .within)) };
-        same = ap (withParts x) next-parts ∙ sym (with-parts-again x (partsOf cur) ps (parts-length cur ∙ at .count)) ∙ ap (λ y. withParts y ps) (at .same) ∙ sym en;
+        standing =
+            record {
+              image = at .standing .image;
+              within = rw (← next-parts) at (all-keep (modelOf t) (well-formed t (at .standing .image) .each) (partsOf cur) a (at .standing .within));
+            };
+        same =
+            ap (withParts x) next-parts ∙ sym (with-parts-again x (partsOf cur) ps (parts-length cur ∙ at .count))
+            ∙ ap (λ y. withParts y ps) (at .same) ∙ sym en;
         count = ap (λ y. y .count) en ∙ (unfold withParts in at .count);
       }

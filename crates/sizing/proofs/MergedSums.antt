@@ -1,13 +1,12 @@
 -- The rows and the bytes of the merged model, as they are summed before anything is written.
-use mathlib.Core.Path.{_≡_, refl, sym, _∙_, ap, ap₂}
+use mathlib.Core.Path.{_≡_, sym, _∙_, ap, ap₂}
 use mathlib.Core.Bool.{Bool, true, false, _&&_}
-use mathlib.Core.List.{List, [], _∷_}
+use mathlib.Core.List.{List}
 use Prim.Native.Nat.{ℕ, suc, _+_, _*_, _-_, _≤_, _<_}
 use native.Mathlib.Omega.{arith}
 use lib.ListN.{length, take, drop, length-append, take-append-drop}
 use lib.Dec.{leb}
 use borrow.Author.Tests.{leb-true, leb-false, le-leb}
-use Rattle.laws.specs.Sets.{_∪_, _∖_}
 use Rattle.laws.proofs.TestLaws.{and-true, and-false}
 use Rattle.laws.proofs.ListLaws.{joined-count}
 use Rattle.answer.specs.Limits.{maxStates, maxRows, maxBytes}
@@ -20,7 +19,6 @@ use Rattle.layout.specs.Layout.{imageWords, countOf, blockWord}
 use Rattle.layout.specs.Image.{Image, compOf, modelOf}
 use Rattle.layout.proofs.ModelOf.{model-length, comp-at}
 use Rattle.layout.proofs.RowsOfRange.{well-formed, rows-fit}
-use Rattle.measure.specs.Measure.{bare}
 use Rattle.measure.proofs.Lines.{comp-by-head}
 use Rattle.measure.proofs.Bounds.{headBytes, bare-most}
 use Rattle.product.specs.declared.Tally.{Tally}
@@ -29,7 +27,6 @@ use Rattle.product.proofs.FewRows.{product-few}
 use Rattle.product.proofs.WalkLaws.{roomy-by, listed-rows, listed-bytes, listed-dry}
 use Rattle.merging.proofs.ImageParts.{row-count-append}
 use Rattle.merging.proofs.MergedParts.{merged-rows, merged-count, all-taken}
-use Rattle.sizing.specs.declared.Size.{Size}
 use Rattle.sizing.specs.Bare.{bareOf}
 use Rattle.sizing.specs.Sized.{Sized}
 
@@ -43,7 +40,8 @@ unfolding bareOf
 by-bare c = comp-by-head c
 
 -- the rows behind component j
-pub behind-rows : (t : List ℕ) (j count last here : ℕ) → j < countOf t → count ≡ countOf t → last ≡ rowCount (take (suc (count - 1)) (modelOf t)) → here ≡ rowCount (take (suc j) (modelOf t))
+pub behind-rows : (t : List ℕ) (j count last here : ℕ) → j < countOf t → count ≡ countOf t → last ≡ rowCount (take (suc (count - 1)) (modelOf t))
+    → here ≡ rowCount (take (suc j) (modelOf t))
     → here + rowCount (drop (suc j) (modelOf t)) ≡ last
 behind-rows t j count last here h ec el eh =
     let m = modelOf t in
@@ -89,7 +87,8 @@ module _ (t : List ℕ) (im : Image t) (i : ℕ) (h : i + 1 < countOf t) where
         ap (λ c. length (compText c)) second-is,
       )
 
-  bytes-merged : length (textOf (mergedAt m i)) + (length (compText C) + length (compText D)) ≡ length (textOf m) + length (compText (bareOf (merged C D))) + length (rowLines (productRows C D))
+  bytes-merged : length (textOf (mergedAt m i)) + (length (compText C) + length (compText D)) ≡ length (textOf m) + length
+      (compText (bareOf (merged C D))) + length (rowLines (productRows C D))
   bytes-merged =
       omega (
         arith,
@@ -103,7 +102,8 @@ module _ (t : List ℕ) (im : Image t) (i : ℕ) (h : i + 1 < countOf t) where
       )
 
   -- what is summed: the whole, the lines of the product beside its rows, and the two that go
-  module _ (whole head first second : ℕ) (ew : whole ≡ length (textOf m)) (eh : head ≡ length (compText (bareOf (merged C D)))) (e₁ : first ≡ length (compText C)) (e₂ : second ≡ length (compText D)) where
+  module _ (whole head first second : ℕ) (ew : whole ≡ length (textOf m)) (eh : head ≡ length (compText (bareOf (merged C D))))
+      (e₁ : first ≡ length (compText C)) (e₂ : second ≡ length (compText D)) where
     pub sum-low : whole + head ≤ maxBytes + headBytes
     sum-low = omega (arith, well-formed t im .bytes, bare-few (merged C D))
 
@@ -124,8 +124,10 @@ module _ (t : List ℕ) (im : Image t) (i : ℕ) (h : i + 1 < countOf t) where
   unfolding compOf
   pairs-are = ap (λ c. c .states * compAt m (suc i) .states) first-is ∙ ap (λ d. blockWord t i 0 * d .states) second-is
 
-  pub many-states : (tall wide : ℕ) → tall ≡ blockWord t i 0 → wide ≡ blockWord t (i + 1) 0 → maxStates < tall * wide → Sized t i (record { fits = false; new = 0 })
-  many-states tall wide et ew b = record { fits = λ e. absurd (let z : _≡_ {A = ℕ} 0 1 = cc in omega arith); big = λ _ f. omega (arith, f .states, pairs-are, ap₂ _*_ et ew) }
+  pub many-states : (tall wide : ℕ) → tall ≡ blockWord t i 0 → wide ≡ blockWord t (i + 1) 0 → maxStates < tall * wide
+      → Sized t i (record { fits = false; new = 0 })
+  many-states tall wide et ew b =
+      record { fits = λ e. absurd (let z : _≡_ {A = ℕ} 0 1 = cc in omega arith); big = λ _ f. omega (arith, f .states, pairs-are, ap₂ _*_ et ew) }
 
   -- ---- the walk, where the states are few
   module _ (tall wide : ℕ) (et : tall ≡ blockWord t i 0) (ew : wide ≡ blockWord t (i + 1) 0) (low : tall * wide ≤ maxStates) where
@@ -138,7 +140,9 @@ module _ (t : List ℕ) (im : Image t) (i : ℕ) (h : i + 1 < countOf t) where
 
     module _ (bytes : ℕ) (eb : bytes + length (rowLines (productRows C D)) ≡ length (textOf (mergedAt m i))) (l : List ℕ) where
       pub room : imageWords ≤ length l → Roomy (listed 0 (productRows C D) (outOf (record { rows = 0; bytes = bytes }) l))
-      room b = roomy-by 0 (productRows C D) (outOf (record { rows = 0; bytes = bytes }) l) (omega (arith, product-rows-few)) (omega (arith, product-rows-few, bytes-few bytes eb)) b
+      room b =
+          roomy-by 0 (productRows C D) (outOf (record { rows = 0; bytes = bytes }) l) (omega (arith, product-rows-few))
+          (omega (arith, product-rows-few, bytes-few bytes eb)) b
 
       module _ (n : Tally) (l′ : List ℕ) (e : outOf n l′ ≡ listed 0 (productRows C D) (outOf (record { rows = 0; bytes = bytes }) l)) where
         pub as-lent : l′ ≡ l
@@ -167,7 +171,8 @@ module _ (t : List ℕ) (im : Image t) (i : ℕ) (h : i + 1 < countOf t) where
                 well-formed t im .rows,
               )
 
-          pub few-states : (b : Bool) → b ≡ (leb (start + n .rows + behind) maxRows && leb (n .bytes) maxBytes) → Sized t i (record { fits = b; new = start + n .rows })
+          pub few-states : (b : Bool) → b ≡ (leb (start + n .rows + behind) maxRows && leb (n .bytes) maxBytes)
+              → Sized t i (record { fits = b; new = start + n .rows })
           few-states b eb′ = record { fits = λ y. (fit (sym eb′ ∙ y), omega (arith, rows-now)); big = λ y f. over (sym eb′ ∙ y) f }
             where
               fit : (leb (start + n .rows + behind) maxRows && leb (n .bytes) maxBytes) ≡ true → FitsIn m i
@@ -181,5 +186,6 @@ module _ (t : List ℕ) (im : Image t) (i : ℕ) (h : i + 1 < countOf t) where
 
               over : (leb (start + n .rows + behind) maxRows && leb (n .bytes) maxBytes) ≡ false → FitsIn m i → ⊥
               over y f =
-                  let z = and-false (leb (start + n .rows + behind) maxRows) (leb (n .bytes) maxBytes) y (le-leb (start + n .rows + behind) maxRows (omega (arith, f .rows, rows-summed))) in
+                  let z = and-false (leb (start + n .rows + behind) maxRows) (leb (n .bytes) maxBytes) y
+                  (le-leb (start + n .rows + behind) maxRows (omega (arith, f .rows, rows-summed))) in
                   omega (arith, leb-false (n .bytes) maxBytes z, f .bytes, bytes-now)

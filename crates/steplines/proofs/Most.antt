@@ -1,8 +1,8 @@
 -- No report is longer than mostBytes: no line is wider than its widest, and there are no more steps than the largest budget.
-use mathlib.Core.Path.{_≡_, refl, ap}
+use mathlib.Core.Path.{_≡_, ap}
 use mathlib.Core.Bool.{Bool, true, false}
 use mathlib.Core.Logic.{by-cases}
-use mathlib.Core.Option.{Option, none, some}
+use mathlib.Core.Option.{some}
 use mathlib.Core.List.{List, [], _∷_, _++_}
 use Prim.Native.Nat.{ℕ, suc, _+_, _*_, _-_, _≤_, _<_}
 use native.Mathlib.Decide.{decLt}
@@ -11,7 +11,8 @@ use lib.ListN.{length, length-append}
 use Rattle.answer.specs.Limits.{maxComponents, maxStates, maxActions, maxBudget}
 use Rattle.answer.specs.Told.{Told, tell, valuesAt}
 use Rattle.answer.specs.declared.Place.{Place}
-use Rattle.answer.specs.declared.Place.the-variants.{Whole, Line, Row, Bytes, Index, Clock, Component, Cell, Clash, SharedAction, SharedClock, Spot, Condition, Action}
+use Rattle.answer.specs.declared.Place.the-variants.{Whole, Line, Row, Bytes, Index, Clock, Component, Cell, Clash, SharedAction, SharedClock, Spot}
+use Rattle.answer.specs.declared.Place.the-variants.{Condition, Action}
 use Rattle.answer.specs.declared.Refusal.{Refusal}
 use Rattle.model.specs.Model.{Model, compAt}
 use Rattle.iosa.specs.Automaton.{Conforming, Joinable}
@@ -46,7 +47,8 @@ width-state n h = width-below (stateDigits - 1) n (omega arith)
 -- so many digits and a comma for each, but the last
 states-most : (n : ℕ) (ns : List ℕ) → Small (n ∷ ns) → suc (length (joined (n ∷ ns))) ≤ (1 + stateDigits) * length (n ∷ ns)
 states-most n [] h = rw (joined-one n) (omega (arith, length-append (decimal n) [], width-state n (h .0)))
-states-most n (m ∷ ns) h = rw (joined-more n m ns) (omega (arith, length-append (decimal n) (comma ∷ joined (m ∷ ns)), width-state n (h .0), states-most m ns (h .1)))
+states-most n (m ∷ ns) h =
+    rw (joined-more n m ns) (omega (arith, length-append (decimal n) (comma ∷ joined (m ∷ ns)), width-state n (h .0), states-most m ns (h .1)))
 
 state-most : (s : List ℕ) → Small s → length s ≤ maxComponents → suc (length (joined s)) ≤ stateBytes
 state-most [] h few = rw joined-none (omega arith)
@@ -166,8 +168,20 @@ spared n = lacks 10 n + lacks 100 n + lacks 1000 n
 count-width : (n : ℕ) → n < 10000 → length (decimal n) + spared (suc n) ≤ 4 + spared n
 count-width n h =
     by-cases (decLt n 10) (λ a. omega (arith, width-1 n a, lacks-next 10 n a, lacks-next 100 n (omega arith), lacks-next 1000 n (omega arith))) (λ a.
-    by-cases (decLt n 100) (λ b. omega (arith, width-2 n (omega arith) b, lacks-rest 10 n (omega arith), lacks-next 100 n b, lacks-next 1000 n (omega arith))) (λ b.
-    by-cases (decLt n 1000) (λ c. omega (arith, width-3 n (omega arith) c, lacks-rest 10 n (omega arith), lacks-rest 100 n (omega arith), lacks-next 1000 n c)) (λ c.
+    by-cases (decLt n 100) (λ b. omega (
+      arith,
+      width-2 n (omega arith) b,
+      lacks-rest 10 n (omega arith),
+      lacks-next 100 n b,
+      lacks-next 1000 n (omega arith),
+    )) (λ b.
+    by-cases (decLt n 1000) (λ c. omega (
+      arith,
+      width-3 n (omega arith) c,
+      lacks-rest 10 n (omega arith),
+      lacks-rest 100 n (omega arith),
+      lacks-next 1000 n c,
+    )) (λ c.
     omega (arith, width-4 n (omega arith) h, lacks-rest 10 n (omega arith), lacks-rest 100 n (omega arith), lacks-rest 1000 n (omega arith)))))
 
 width-count : (n : ℕ) → n < 10000 → length (decimal n) ≤ 4

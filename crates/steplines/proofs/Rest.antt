@@ -1,9 +1,9 @@
 -- What is left to print: once some steps are printed, the lines of the rest of the run.
 use mathlib.Core.Path.{_≡_, refl, sym, _∙_, ap, ap₂}
 use mathlib.Core.Bool.{Bool, true, false}
-use mathlib.Core.Option.{Option, none, some}
+use mathlib.Core.Option.{some}
 use mathlib.Core.List.{List, [], _∷_, _++_, append-assoc}
-use Prim.Native.Nat.{ℕ, zero, suc, _+_, _-_, _≤_, _<_}
+use Prim.Native.Nat.{ℕ, _+_, _-_, _≤_, _<_}
 use native.Mathlib.Omega.{arith}
 use native.Mathlib.Numerals.{add-one}
 use lib.ListN.{length}
@@ -60,7 +60,8 @@ last-any : (k r : ℕ) (l : List ℕ) (d : Settling (List ℕ)) → lastLine (pl
 unfolding lastLine plus
 last-any k r l d = refl
 
-rest-step : (m : Model) (budget k r : ℕ) (s : List ℕ) (a : ℕ) (g : Gone (List ℕ)) → k < budget → lowest (urgentStep m) s ≡ some (record { action = a; gone = g })
+rest-step : (m : Model) (budget k r : ℕ) (s : List ℕ) (a : ℕ) (g : Gone (List ℕ)) → k < budget
+    → lowest (urgentStep m) s ≡ some (record { action = a; gone = g })
     → restOf m k r (budget - k) s ≡ stepLine (k + 1) a g ++ restOf m (k + 1) (r ∪ g .resets) (budget - (k + 1)) (g .after)
 unfolding restOf plus
 rest-step m budget k r s a g h e =
@@ -78,10 +79,12 @@ pub record Tells (t : List ℕ) (budget : ℕ) (x : State) (old : List ℕ) (cur
   pub reached : Reached t x cur
   pub left : Left old 0 (runText (modelOf t) (partsOf x) budget) out at (restOf (modelOf t) k resets (budget - k) (partsOf cur))
 
-left-same : {old : List ℕ} {at : ℕ} {whole now : List ℕ} {here : ℕ} {rest other : List ℕ} → Left old at whole now here rest → rest ≡ other → Left old at whole now here other
+left-same : {old : List ℕ} {at : ℕ} {whole now : List ℕ} {here : ℕ} {rest other : List ℕ} → Left old at whole now here rest → rest ≡ other
+    → Left old at whole now here other
 left-same l e = rw e at l
 
-pub begins : (t : List ℕ) (budget : ℕ) (x : State) (old : List ℕ) → Ready t x → length (x .parts) ≡ maxComponents → budget ≤ maxBudget → mostBytes ≤ length old → Tells t budget x old x 0 0 old 0
+pub begins : (t : List ℕ) (budget : ℕ) (x : State) (old : List ℕ) → Ready t x → length (x .parts) ≡ maxComponents → budget ≤ maxBudget
+    → mostBytes ≤ length old → Tells t budget x old x 0 0 old 0
 begins t budget x old r len b room =
     let m = modelOf t in
     let s = partsOf x in
@@ -91,17 +94,22 @@ begins t budget x old r len b room =
       reached = reached-first t x r len;
       left =
           left-same
-          (left-all old 0 (runText m s budget) (omega (arith, run-most m (well-formed t (r .standing .image)) (r .conforming) (r .joinable) s budget (r .standing .within) b)))
+          (left-all old 0 (runText m s budget) (omega (
+            arith,
+            run-most m (well-formed t (r .standing .image)) (r .conforming) (r .joinable) s budget (r .standing .within) b,
+          )))
           (rest-all m s budget ∙ ap (λ k. restOf m 0 0 k s) n);
     }
 
-module _ {t : List ℕ} {budget : ℕ} {x : State} {old : List ℕ} {cur : State} {resets k : ℕ} {out : List ℕ} {at : ℕ} (good : Conforming (modelOf t)) (fit : Joinable (modelOf t))
+module _ {t : List ℕ} {budget : ℕ} {x : State} {old : List ℕ} {cur : State} {resets k : ℕ} {out : List ℕ} {at : ℕ} (good : Conforming (modelOf t))
+    (fit : Joinable (modelOf t))
     (here : Tells t budget x old cur resets k out at) (a : ℕ) (e : a ≡ lowestAll (modelOf t) (partsOf cur)) where
   -- the state is stable: the last line is left
   pub ends-stable : maxActions ≤ a → Left old 0 (runText (modelOf t) (partsOf x) budget) out at (lastLine (endsWith true k resets cur))
   ends-stable h =
       left-same (here .left) (rest-done (modelOf t) k resets (budget - k) (partsOf cur) true
-      (settle-rests (urgentStep (modelOf t)) (budget - k) (partsOf cur) (lowest-nowhere (modelOf t) good fit (partsOf cur) (here .reached .standing .within) a e h)))
+      (settle-rests (urgentStep (modelOf t)) (budget - k) (partsOf cur)
+      (lowest-nowhere (modelOf t) good fit (partsOf cur) (here .reached .standing .within) a e h)))
 
   -- the budget is used up
   pub ends-unsettled : budget ≤ k → a < maxActions → Left old 0 (runText (modelOf t) (partsOf x) budget) out at (lastLine (endsWith false k resets cur))
@@ -111,29 +119,35 @@ module _ {t : List ℕ} {budget : ℕ} {x : State} {old : List ℕ} {cur : State
       (lowest-here (modelOf t) good fit (partsOf cur) (here .reached .standing .within) a e low)))
 
   -- a step: its line is left, and then the rest of the run from the state after it
-  module _ (more : k < budget) (low : a < maxActions) (next : State) (some-resets : ℕ) (en : next ≡ withParts cur (afterAll (modelOf t) (partsOf cur) a)) (em : some-resets ≡ resetAll (modelOf t) (partsOf cur) a) where
+  module _ (more : k < budget) (low : a < maxActions) (next : State) (some-resets : ℕ)
+      (en : next ≡ withParts cur (afterAll (modelOf t) (partsOf cur) a)) (em : some-resets ≡ resetAll (modelOf t) (partsOf cur) a) where
     pub step-left : Left old 0 (runText (modelOf t) (partsOf x) budget) out at
         (stepLine (k + 1) a (goneWith some-resets next) ++ restOf (modelOf t) (k + 1) (resets ∪ some-resets) (budget - (k + 1)) (partsOf next))
     step-left =
         let m = modelOf t in
         let new : partsOf next ≡ afterAll m (partsOf cur) a = next-parts t x cur (here .reached) a next en in
         left-same (here .left)
-        (rest-step m budget k resets (partsOf cur) a (movedAll m (partsOf cur) a) more (lowest-here m good fit (partsOf cur) (here .reached .standing .within) a e low)
+        (rest-step m budget k resets (partsOf cur) a (movedAll m (partsOf cur) a) more
+        (lowest-here m good fit (partsOf cur) (here .reached .standing .within) a e low)
         ∙ ap₂ (λ q l. stepLine (k + 1) a (record { resets = q; after = l }) ++ restOf m (k + 1) (resets ∪ q) (budget - (k + 1)) l) (sym em) (sym new))
 
     pub next-reached : Reached t x next
     next-reached = reached-next t x cur (here .reached) a next en
 
     pub step-room : Room out at (stepLine (k + 1) a (goneWith some-resets next))
-    step-room = part-room (stepLine (k + 1) a (goneWith some-resets next)) (restOf (modelOf t) (k + 1) (resets ∪ some-resets) (budget - (k + 1)) (partsOf next)) step-left
+    step-room =
+        part-room (stepLine (k + 1) a (goneWith some-resets next)) (restOf (modelOf t) (k + 1) (resets ∪ some-resets) (budget - (k + 1))
+        (partsOf next)) step-left
 
-    pub step-told : (all : ℕ) {new : List ℕ} {p : ℕ} → all ≡ resets ∪ some-resets → Put out at (stepLine (k + 1) a (goneWith some-resets next)) new p → Tells t budget x old next all (k + 1) new p
+    pub step-told : (all : ℕ) {new : List ℕ} {p : ℕ} → all ≡ resets ∪ some-resets → Put out at (stepLine (k + 1) a (goneWith some-resets next)) new p
+        → Tells t budget x old next all (k + 1) new p
     step-told all ea q =
         record {
           within = omega arith;
           reached = next-reached;
           left =
               left-same
-              (part-put (stepLine (k + 1) a (goneWith some-resets next)) (restOf (modelOf t) (k + 1) (resets ∪ some-resets) (budget - (k + 1)) (partsOf next)) step-left q)
+              (part-put (stepLine (k + 1) a (goneWith some-resets next)) (restOf (modelOf t) (k + 1) (resets ∪ some-resets) (budget - (k + 1))
+              (partsOf next)) step-left q)
               (ap (λ r. restOf (modelOf t) (k + 1) r (budget - (k + 1)) (partsOf next)) (sym ea));
         }

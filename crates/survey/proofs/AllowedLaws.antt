@@ -5,25 +5,22 @@ use mathlib.Core.Bool.{Bool, true, false, not, cond, true≢false}
 use mathlib.Core.List.{List, [], _∷_}
 use Prim.Native.Nat.{ℕ, suc, _+_, _-_, _^_, _≤_, _<_}
 use native.Mathlib.Omega.{arith}
-use native.Mathlib.Decide.{decLt}
 use lib.ListN.{length}
-use lib.Dec.{ltb}
-use borrow.Author.Tests.{lt-ltb, le-ltb, eq-eqb, ne-eqb}
-use Rattle.laws.specs.Sets.{bit, has}
-use Rattle.laws.proofs.SetLaws.{bit-ones}
+use borrow.Author.Tests.{lt-ltb, ne-eqb}
 use Rattle.laws.proofs.ListLaws.{All}
 use Rattle.sets.specs.Members.{wordBits}
 use Rattle.answer.specs.Limits.{maxClocks}
 use Rattle.model.specs.Model.{Comp, acts}
 use Rattle.model.specs.Reading.{got, Entry, comp-entry, act-entry, clk-entry, row-entry, entry, Progress, current, outOfRange, faultOf}
-use Rattle.model.specs.Reading.{Value, states-value, state-value, action-value, clock-value, set-value, dash-value, valueText, guardValue, resetValues, lastValues, valuesOf, firstBad, firstColumn, outside, unnamed, statesBy}
+use Rattle.model.specs.Reading.{Value, states-value, state-value, action-value, clock-value, set-value, dash-value, valueText, guardValue}
+use Rattle.model.specs.Reading.{resetValues, lastValues, valuesOf, firstBad, firstColumn, outside, unnamed, statesBy}
 use Rattle.model.specs.Faulty.{Each, GuardIs, InRange, Named, LineFault, wrong-shape, out-of-turn, out-of-range, not-named, out-of-order, too-many}
 use Rattle.model.proofs.Reading.Lines.{line-exactly}
 use Rattle.model.proofs.Reading.Scans.{is-inj}
 use Rattle.model.proofs.Reading.Tests.{range-decided}
 use Rattle.model.proofs.Reading.LowestFault.{fault-some, fault-number}
 use Rattle.columns.specs.declared.Allowed.{Allowed}
-use Rattle.columns.specs.Columns.{memberOf, beyond}
+use Rattle.columns.specs.Columns.{beyond}
 use Rattle.columns.proofs.MemberLaws.{member-all}
 use Rattle.answer.specs.declared.Place.the-variants.{Line, Spot}
 use Rattle.judge.specs.declared.Progress.{Progress as CodeProgress}

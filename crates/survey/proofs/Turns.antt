@@ -2,7 +2,7 @@
 use mathlib.Core.Path.{_≡_, refl, sym, _∙_, ap}
 use mathlib.Core.Option.{Option, none, some}
 use mathlib.Core.List.{List, [], _∷_}
-use Prim.Native.Nat.{ℕ, zero, suc, _+_, _-_, _≤_, _<_}
+use Prim.Native.Nat.{ℕ, zero, suc, _+_, _≤_, _<_}
 use native.Mathlib.Numerals.{add-one}
 use native.Mathlib.Nat.{le-refl}
 use native.Mathlib.Omega.{arith}
@@ -13,7 +13,9 @@ use Rattle.answer.specs.declared.Place.the-variants.{Whole, Spot}
 use Rattle.answer.specs.declared.Checked.the-variants.{Fine, Refused}
 use Rattle.answer.specs.Told.{told, tell, Answer, refused, asRefused, saysChecked, doneOf}
 use Rattle.model.specs.Model.{Model, Comp, rowCount}
-use Rattle.model.specs.Reading.{stops, got, Entry, comp-entry, act-entry, clk-entry, row-entry, entry, Progress, current, turn, outOfTurn, faultOf, columnOf, stopColumn, statesBy, firstColumn, outside, unnamed, rowOf, withAct, withClk, withRow, onLast, takeIn, finish, linesFrom, atStart}
+use Rattle.model.specs.Reading.{stops, got, Entry, comp-entry, act-entry, clk-entry, row-entry, entry, Progress, current, turn, outOfTurn, faultOf}
+use Rattle.model.specs.Reading.{columnOf, stopColumn, statesBy, firstColumn, outside, unnamed, rowOf, withAct, withClk, withRow, onLast, takeIn}
+use Rattle.model.specs.Reading.{finish, linesFrom, atStart}
 use Rattle.model.proofs.Reading.LinesFrom.{entry-shortens, lines-end, lines-shapeless, lines-fault, lines-next}
 use Rattle.fields.specs.Resets.{valued}
 use Rattle.lines.specs.declared.Line.{Line as CodeLine}
@@ -36,7 +38,8 @@ pub record Stands (t : List ℕ) (q : Progress) (p : CodeProgress) (at n : ℕ) 
 
 pub stands-first : (t : List ℕ) → Stands t atStart beginning 0 1
 unfolding rowCount
-stands-first t = record { kept = refl; begun = record { some-comp = λ d e. let z : _≡_ {A = ℕ} 0 1 = cc in absurd (omega arith) }; same = refl; count = le-refl _ }
+stands-first t =
+    record { kept = refl; begun = record { some-comp = λ d e. let z : _≡_ {A = ℕ} 0 1 = cc in absurd (omega arith) }; same = refl; count = le-refl _ }
 
 left : (t : List ℕ) (at : ℕ) → at < length t → (drop at t ≡ [] → ⊥)
 left t at h e = omega (arith, length-drop at t, ap length e)
@@ -54,12 +57,14 @@ on-last : (f : Comp → Comp) (m : List Comp) → length (onLast f m) ≡ length
 on-last f [] = refl
 on-last f (c ∷ cs) = refl
 
-in-turn : (m : List Comp) (l : Option Entry) (e : Entry) → (turn e ≡ 0 → ⊥) → faultOf (record { comps = m; last = l }) e ≡ none → Begun (record { comps = m; last = l }) → 1 ≤ length m
+in-turn : (m : List Comp) (l : Option Entry) (e : Entry) → (turn e ≡ 0 → ⊥) → faultOf (record { comps = m; last = l }) e ≡ none
+    → Begun (record { comps = m; last = l }) → 1 ≤ length m
 unfolding faultOf outOfTurn
 in-turn m none e w h b = let f : faultOf (record { comps = m; last = none }) e ≡ some 3 = rw (ne-eqb (turn e) 0 w, faultOf, outOfTurn) in absurd (no-some h f)
 in-turn m (some d) e w h b = b .some-comp d refl
 
-grown : (m : List Comp) (l : Option Entry) (e : Entry) → faultOf (record { comps = m; last = l }) e ≡ none → Begun (record { comps = m; last = l }) → 1 ≤ length (takeIn m e)
+grown : (m : List Comp) (l : Option Entry) (e : Entry) → faultOf (record { comps = m; last = l }) e ≡ none → Begun (record { comps = m; last = l })
+    → 1 ≤ length (takeIn m e)
 unfolding takeIn
 grown m l (comp-entry n s) h b = omega arith
 grown m l (act-entry a k) h b = omega (arith, on-last (λ c. withAct c a k) m, in-turn m l (act-entry a k) (λ z. omega arith) h b)
@@ -124,7 +129,9 @@ module _ {t : List ℕ} {q : Progress} {p : CodeProgress} {at n : ℕ} (s : Stan
         record {
           kept = h .1;
           begun = record { some-comp = λ d x. grown (q .comps) (q .last) (r .it) (h .0) (s .begun) };
-          same = rw add-one (sym (lines-next n q (r .it) (drop to t) (length (drop at t)) (length (drop to t)) (drop at t) (le-refl _) (le-refl _) (r .here) (h .0)) ∙ s .same);
+          same =
+              rw add-one (sym (lines-next n q (r .it) (drop to t) (length (drop at t)) (length (drop to t)) (drop at t) (le-refl _) (le-refl _)
+              (r .here) (h .0)) ∙ s .same);
           count = omega (arith, read-on r, s .count);
         }
 
@@ -154,7 +161,8 @@ pub says-shape : (n k : ℕ) (o : Answer Model) → o ≡ refused (tell 2 (n ∷
 unfolding saysChecked told
 says-shape n k o e = ap (λ a. some (doneOf a)) (sym e)
 
-pub says-none : (o : Answer Model) (m : List Comp) → o ≡ finish m → length m ≡ 0 → saysChecked (Refused (record { number = 8; place = Whole })) ≡ some (doneOf o)
+pub says-none : (o : Answer Model) (m : List Comp) → o ≡ finish m → length m ≡ 0 → saysChecked (Refused (record { number = 8; place = Whole }))
+    ≡ some (doneOf o)
 unfolding saysChecked told
 says-none o [] e h = ap (λ a. some (doneOf a)) (sym e)
 says-none o (c ∷ cs) e h = absurd (omega arith)

@@ -6,12 +6,12 @@ use mathlib.Core.Option.{Option, none, some, Option·some-inj}
 use mathlib.Core.List.{List}
 use Prim.Native.Nat.{ℕ}
 use native.Mathlib.Omega.{arith}
-use Rattle.answer.specs.Told.{Told, told, Answer, answered, refused, asRefused, saysChecked}
+use Rattle.answer.specs.Told.{Told, told, Answer, answered, refused, saysChecked}
 use Rattle.answer.specs.declared.Refusal.{Refusal}
 use Rattle.answer.specs.declared.Checked.the-variants.{Fine, Refused}
 use Rattle.model.specs.Model.{Model}
 use Rattle.iosa.specs.Step.{unless}
-use Rattle.layout.specs.Image.{modelOf, noImage}
+use Rattle.layout.specs.Image.{modelOf}
 use Rattle.answer.proofs.SaysFixes.{tells}
 use Rattle.table.specs.IsImage.{isImage}
 use Rattle.table.specs.OnTable.{onTable, checkOn}

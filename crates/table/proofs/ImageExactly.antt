@@ -1,4 +1,5 @@
--- "each operation recognises a buffer that is no image" (01, "The model text"): the recogniser answers yes exactly where the front is the image of a well-formed model.
+-- "each operation recognises a buffer that is no image" (01, "The model text"): the recogniser answers yes exactly where the front is the image of a
+-- well-formed model.
 use mathlib.Core.Path.{_≡_, refl, sym, _∙_, ap}
 use mathlib.Core.Bool.{Bool, true, false, true≢false}
 use mathlib.Core.Logic.{_↔_}

@@ -46,13 +46,21 @@ module _ (t : List ℕ) where
       let r = both-true (blocksRight t) _ (q .1) in
       let s = both-true (rowsRight t) _ (r .1) in
       let z = both-true (restZero t) _ (s .1) in
-      record { long = leb-true imageWords (length t) (p .0); fit = q .0; blocks = r .0; rows = s .0; rest = z .0; bytes = leb-true (length (textOf (modelOf t))) maxBytes (z .1) }
+      record {
+        long = leb-true imageWords (length t) (p .0);
+        fit = q .0;
+        blocks = r .0;
+        rows = s .0;
+        rest = z .0;
+        bytes = leb-true (length (textOf (modelOf t))) maxBytes (z .1);
+      }
 
   pub parts-image : Parts → isImage t ≡ true
   unfolding isImage
   parts-image p =
       true-both _ _ (le-leb imageWords (length t) (p .long))
-      (true-both _ _ (p .fit) (true-both _ _ (p .blocks) (true-both _ _ (p .rows) (true-both _ _ (p .rest) (le-leb (length (textOf (modelOf t))) maxBytes (p .bytes))))))
+      (true-both _ _ (p .fit) (true-both _ _ (p .blocks)
+      (true-both _ _ (p .rows) (true-both _ _ (p .rest) (le-leb (length (textOf (modelOf t))) maxBytes (p .bytes))))))
 
   -- what the tests of rows may count on, and the code below the recogniser
   pub bounded : imageWords ≤ length t → blocksRight t ≡ true → Bounded t

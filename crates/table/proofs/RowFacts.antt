@@ -55,14 +55,17 @@ module _ (t : List ℕ) (i : ℕ) where
       let p = both-true (all isRow (firstOf t i 0) (firstOf t i (blockWord t i 0))) (all (stateClimbs t i) 0 (blockWord t i 0)) e in
       record {
         each = all-true isRow (firstOf t i 0) (firstOf t i (blockWord t i 0)) (p .0);
-        climb = λ s r h a b. all-true (climbs t s) (firstOf t i s) (firstOf t i (suc s) - 1) (all-true (stateClimbs t i) 0 (blockWord t i 0) (p .1) s (omega arith) h) r a (omega arith);
+        climb =
+            λ s r h a b. all-true (climbs t s) (firstOf t i s) (firstOf t i (suc s) - 1) (all-true (stateClimbs t i) 0 (blockWord t i 0) (p .1) s
+            (omega arith) h) r a (omega arith);
       }
 
   pub comp-rows-so : CompRows → compRowsRight t i ≡ true
   unfolding compRowsRight stateClimbs climbs
   comp-rows-so w =
       true-both _ _ (true-all isRow (firstOf t i 0) (firstOf t i (blockWord t i 0)) (w .each))
-      (true-all (stateClimbs t i) 0 (blockWord t i 0) (λ s a h. true-all (climbs t s) (firstOf t i s) (firstOf t i (suc s) - 1) (λ r p q. w .climb s r h p (omega arith))))
+      (true-all (stateClimbs t i) 0 (blockWord t i 0) (λ s a h. true-all (climbs t s) (firstOf t i s) (firstOf t i (suc s) - 1)
+      (λ r p q. w .climb s r h p (omega arith))))
 
 module _ (t : List ℕ) where
   pub record AllRows : Type 0 where

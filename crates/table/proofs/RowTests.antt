@@ -53,10 +53,13 @@ module _ (a b g h x y d e : ℕ) where
 
   pub by-target : a ≡ b → g ≡ h → x ≡ y → ltb d e ≡ key
   by-target p q r =
-      sym (lower-same a b (g ∷ x ∷ d ∷ []) (h ∷ y ∷ e ∷ []) p ∙ lower-same g h (x ∷ d ∷ []) (y ∷ e ∷ []) q ∙ lower-same x y (d ∷ []) (e ∷ []) r ∙ lower-last d e)
+      sym (lower-same a b (g ∷ x ∷ d ∷ []) (h ∷ y ∷ e ∷ []) p ∙ lower-same g h (x ∷ d ∷ []) (y ∷ e ∷ []) q ∙ lower-same x y (d ∷ []) (e ∷ []) r
+      ∙ lower-last d e)
 
 -- two rows that leave one state
-pub climbs-is : (t : List ℕ) (s r : ℕ) → lower (actionAt t r ∷ guardAt t r ∷ resetsAt t r ∷ targetAt t r ∷ []) (actionAt t (r + 1) ∷ guardAt t (r + 1) ∷ resetsAt t (r + 1) ∷ targetAt t (r + 1) ∷ []) ≡ climbs t s r
+pub climbs-is : (t : List ℕ) (s r : ℕ) → lower (actionAt t r ∷ guardAt t r ∷ resetsAt t r ∷ targetAt t r ∷ [])
+    (actionAt t (r + 1) ∷ guardAt t (r + 1) ∷ resetsAt t (r + 1) ∷ targetAt t (r + 1) ∷ []) ≡ climbs t s r
 unfolding climbs before
 climbs-is t s r =
-    rw add-one (sym (lower-same s s (actionAt t r ∷ guardAt t r ∷ resetsAt t r ∷ targetAt t r ∷ []) (actionAt t (suc r) ∷ guardAt t (suc r) ∷ resetsAt t (suc r) ∷ targetAt t (suc r) ∷ []) refl))
+    rw add-one (sym (lower-same s s (actionAt t r ∷ guardAt t r ∷ resetsAt t r ∷ targetAt t r ∷ [])
+    (actionAt t (suc r) ∷ guardAt t (suc r) ∷ resetsAt t (suc r) ∷ targetAt t (suc r) ∷ []) refl))

@@ -67,7 +67,12 @@ module _ (t : List ℕ) (im : Image t) where
     | yes p ↦
         let x = row-of (modelOf t) r p in
         let w = well-formed t im .each (x .comp) (x .inside) in
-        omega (arith, ap (λ n. rowWord t n v) (x .place), holds .row (x .comp) (x .row) v (x .inside) (x .below) q, row-fits (compAt (modelOf t) (x .comp)) w (rowAt (compAt (modelOf t) (x .comp)) (x .row)) (w .rows (x .row) (x .below)) v q)
+        omega (
+          arith,
+          ap (λ n. rowWord t n v) (x .place),
+          holds .row (x .comp) (x .row) v (x .inside) (x .below) q,
+          row-fits (compAt (modelOf t) (x .comp)) w (rowAt (compAt (modelOf t) (x .comp)) (x .row)) (w .rows (x .row) (x .below)) v q,
+        )
     | no p ↦ omega (arith, holds .no-row r v (omega arith) h q)
   ]
     where
@@ -164,4 +169,12 @@ module _ (t : List ℕ) (im : Image t) where
 
   pub image-recognised : isImage t ≡ true
   unfolding sane
-  image-recognised = parts-image t (record { long = sane .long; fit = fits-so t words-fit; blocks = blocks-so t blocks; rows = rows-so t rows; rest = rest-so t blank rows; bytes = well-formed t im .bytes })
+  image-recognised =
+      parts-image t (record {
+        long = sane .long;
+        fit = fits-so t words-fit;
+        blocks = blocks-so t blocks;
+        rows = rows-so t rows;
+        rest = rest-so t blank rows;
+        bytes = well-formed t im .bytes;
+      })

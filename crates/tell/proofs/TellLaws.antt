@@ -1,7 +1,7 @@
 -- The printed lines by the parts in which they are put.
-use mathlib.Core.Path.{_≡_, refl, sym, _∙_, ap}
+use mathlib.Core.Path.{_≡_, refl, ap}
 use mathlib.Core.Option.{Option, none, some, Option·some-inj}
-use mathlib.Core.Bool.{Bool, true, false, cond}
+use mathlib.Core.Bool.{Bool, true, false}
 use mathlib.Core.List.{List, [], _∷_, _++_}
 use Prim.Native.Nat.{ℕ}
 use native.Mathlib.Omega.{arith}
@@ -12,7 +12,7 @@ use Rattle.iosa.specs.Stepped.{Gone}
 use Rattle.iosa.specs.Orders.{Settling}
 use Rattle.answering.specs.Report.{stepWord, stableWord, unsettledWord, refusedWord, stepLine, lastLine, refusedLine}
 use Rattle.print.specs.Put.{Room, Put}
-use Rattle.print.proofs.LaidLaws.{Left, left-all, left-room, left-next}
+pub use Rattle.print.proofs.LaidLaws.{left-parts, part-room, part-put}
 use Rattle.tell.specs.Tell.{tailOf, verdictWord, refusedText}
 
 pub tail-parts : (r : ℕ) (s : List ℕ) → tailOf r s ≡ (tab ∷ []) ++ (setField r ++ ((tab ∷ []) ++ (joined s ++ (lf ∷ []))))
@@ -47,20 +47,7 @@ pub four-parts : (i j k n : ℕ) → joined (i ∷ j ∷ k ∷ n ∷ []) ≡ dec
 unfolding joined
 four-parts i j k n = refl
 
--- ---- parts put one after the other
-pub left-parts : {whole : List ℕ} (old : List ℕ) (at : ℕ) (parts : List ℕ) → whole ≡ parts → Room old at whole → Left old at whole old at parts
-left-parts {whole} old at parts e h = same (left-all old at whole h) e
-  where
-    same : {rest : List ℕ} → Left old at whole old at rest → rest ≡ parts → Left old at whole old at parts
-    same l e = rw e at l
-
-module _ {old : List ℕ} {at : ℕ} {whole now : List ℕ} {here : ℕ} (a r : List ℕ) (l : Left old at whole now here (a ++ r)) where
-  pub part-room : Room now here a
-  part-room = left-room {a = a} {b = r} (record { both = l })
-
-  pub part-put : {new : List ℕ} {next : ℕ} → Put now here a new next → Left old at whole new next r
-  part-put p = left-next {a = a} {b = r} (record { both = l }) p
-
+-- ---- in whatever way the bytes are written
 pub room-as : {a b : List ℕ} (old : List ℕ) (at : ℕ) → a ≡ b → Room old at a → Room old at b
 room-as old at e h = rw e at h
 
@@ -78,7 +65,10 @@ pub told-text : (r : Refusal) (t : Told) → told r ≡ some t → refusedText r
 unfolding refusedText told
 told-text r t e = go (same-shape (shapeOf (r .number)) (shapeAt (r .place))) e
   where
-    go : (d : Dec (shapeOf (r .number) ≡ shapeAt (r .place))) → elim d as (λ _. Option Told) [ yes p ↦ some (tell (r .number) (valuesAt (r .place))) | no n ↦ none ] ≡ some t
+    go : (d : Dec (shapeOf (r .number) ≡ shapeAt (r .place))) → elim d as (λ _. Option Told) [
+      | yes p ↦ some (tell (r .number) (valuesAt (r .place)))
+      | no n ↦ none
+    ] ≡ some t
         → refusedLine (tell (r .number) (valuesAt (r .place))) ≡ refusedLine t
     go (yes p) e = ap refusedLine (Option·some-inj .0 e)
     go (no n) e = let z : _≡_ {A = ℕ} 0 1 = cc in absurd (omega arith)

@@ -1,4 +1,5 @@
--- Reading and writing undo each other over the promise of `write`: what it wrote is read as the table's model, and a text that is read as that model is what it writes.
+-- Reading and writing undo each other over the promise of `write`: what it wrote is read as the table's model, and a text that is read as that model
+-- is what it writes.
 use mathlib.Core.Path.{_≡_, refl, sym, _∙_, ap}
 use mathlib.Core.Bool.{Bool, true, false}
 use mathlib.Core.List.{List}
@@ -30,13 +31,19 @@ module _ (t old new : List ℕ) (n : ℕ) (c : WriteCall t old new (Length n)) w
     where
       go : (b : Bool) → isImage t ≡ b → isImage t ≡ true
       go true h = h
-      go false h = let e : refused noImage ≡ answered n = sym (on-no-image t (writeOf (length old)) h) ∙ said in let z : _≡_ {A = ℕ} 0 1 = cc in absurd (omega arith)
+      go false h =
+          let e : refused noImage ≡ answered n = sym (on-no-image t (writeOf (length old)) h) ∙ said in
+          let z : _≡_ {A = ℕ} 0 1 = cc in
+          absurd (omega arith)
 
   pub written-length : n ≡ length (textOf (modelOf t))
   unfolding writeOf
   written-length = go (ltb (length old) (length (textOf (modelOf t)))) (sym (on-image t (writeOf (length old)) written-image) ∙ said)
     where
-      go : (b : Bool) → _≡_ {A = Answer ℕ} (elim b as (λ _. Answer ℕ) [ true ↦ refused (tooShort (length (textOf (modelOf t)))) | false ↦ answered (length (textOf (modelOf t))) ]) (answered n) → n ≡ length (textOf (modelOf t))
+      go : (b : Bool) → _≡_ {A = Answer ℕ} (elim b as (λ _. Answer ℕ) [
+        | true ↦ refused (tooShort (length (textOf (modelOf t))))
+        | false ↦ answered (length (textOf (modelOf t)))
+      ]) (answered n) → n ≡ length (textOf (modelOf t))
       go true e = let z : _≡_ {A = ℕ} 0 1 = cc in absurd (omega arith)
       go false e = cc
 

@@ -45,7 +45,10 @@ module _ (t old : List ℕ) where
     where
       go : (a : Answer Model) → readOf t ≡ a → saysChecked (Refused f) ≡ some (doneOf a) → ReadCall t old old (Refused f)
       go (refused g) h e = called old (Refused f) (refused g) (ap (roomFor (length old)) h) e refl
-      go (answered m) h e = let same : Refused f ≡ Fine = checked-fixed (Refused f) Fine (answered tt) e says-fine in let z : _≡_ {A = ℕ} 0 1 = cc in absurd (omega arith)
+      go (answered m) h e =
+          let same : Refused f ≡ Fine = checked-fixed (Refused f) Fine (answered tt) e says-fine in
+          let z : _≡_ {A = ℕ} 0 1 = cc in
+          absurd (omega arith)
 
   -- the text is good
   pub good-text : saysChecked Fine ≡ some (doneOf (readOf t)) → (m : Model) × (readOf t ≡ answered m)

@@ -41,7 +41,8 @@ room-model : (room : ℕ) (a : Answer Model) (m : Model) → roomFor room a ≡ 
 room-model room (refused f) m e = let z : _≡_ {A = ℕ} 0 1 = cc in absurd (omega arith)
 room-model room (answered n) m e = go (ltb room imageWords) e
   where
-    go : (b : Bool) → _≡_ {A = Answer Model} (elim b as (λ _. Answer Model) [ true ↦ refused tableTooShort | false ↦ answered n ]) (answered m) → answered n ≡ answered m
+    go : (b : Bool) → _≡_ {A = Answer Model} (elim b as (λ _. Answer Model) [ true ↦ refused tableTooShort | false ↦ answered n ]) (answered m)
+        → answered n ≡ answered m
     go true e = let z : _≡_ {A = ℕ} 0 1 = cc in absurd (omega arith)
     go false e = e
 
@@ -67,11 +68,13 @@ module _ (text old new : List ℕ) (c : ReadCall text old new Fine) where
       let w = written-recognised m new (text-of-read text m fine-is-read .0) read-front in
       (w .0, fine-is-read ∙ ap answered (sym (w .1)))
 
-  pub read-then-written : (buf out : List ℕ) (r : Written) → length text ≤ length buf → WriteCall new buf out r → (r ≡ Length (length text)) × (take (length text) out ≡ text)
+  pub read-then-written : (buf out : List ℕ) (r : Written) → length text ≤ length buf → WriteCall new buf out r → (r ≡ Length (length text))
+      × (take (length text) out ≡ text)
   read-then-written buf out r h w =
       let t = text-of-read text (modelOf new) (read-recognised .1) .1 in
       let e : writeOn new buf ≡ answered (length text) =
-      on-image new (writeOf (length buf)) (read-recognised .0) ∙ long-enough (length buf) (modelOf new) (omega (arith, ap length t)) ∙ ap (λ k. answered (length k)) t in
+      on-image new (writeOf (length buf)) (read-recognised .0) ∙ long-enough (length buf) (modelOf new) (omega (arith, ap length t))
+      ∙ ap (λ k. answered (length k)) t in
       let s : r ≡ Length (length text) = written-fixed r (Length (length text)) (answered (length text)) (w .answer ∙ ap some e) (says-length (length text)) in
       (s, read-is-written new buf out (length text) (record { answer = rw (← s) (w .answer); buffer = w .buffer }) text (read-recognised .1))
 

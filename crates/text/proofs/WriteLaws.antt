@@ -54,7 +54,8 @@ module _ (t old : List ℕ) where
   module _ (image : isImage t ≡ true) where
     pub no-room : (n : ℕ) → n ≡ length (textOf (modelOf t)) → length old < n → WriteCall t old old (Refused (record { number = 24; place = Bytes n }))
     no-room n p h =
-        called t old old _ (refused (tooShort (length (textOf (modelOf t))))) (on-image t (writeOf (length old)) image ∙ too-short (length old) (modelOf t) (omega arith))
+        called t old old _ (refused (tooShort (length (textOf (modelOf t))))) (on-image t (writeOf (length old)) image
+        ∙ too-short (length old) (modelOf t) (omega arith))
         (says-too-short n ∙ ap (λ k. some (refused (tooShort k))) p) refl
 
     pub written : (new : List ℕ) (n : ℕ) → length (textOf (modelOf t)) ≤ length old → Put old 0 (textOf (modelOf t)) new n → WriteCall t old new (Length n)

@@ -1,6 +1,6 @@
 -- From the answer of `accept` to that of the call.
-use mathlib.Core.Path.{_≡_, refl, sym, _∙_, ap}
-use mathlib.Core.Option.{Option, none, some}
+use mathlib.Core.Path.{_≡_, ap}
+use mathlib.Core.Option.{none, some}
 use mathlib.Core.List.{List}
 use Prim.Native.Nat.{ℕ}
 use lib.IntN.{ℤ}
@@ -31,13 +31,17 @@ use Rattle.timed.specs.TimedStep.{TimedStep}
 follows : (m : Model) (s : List ℕ) (vs : List ℤ) (f : Told) → acceptOf m ≡ some f → timedOf m s vs ≡ refused f
 unfolding timedOf
 follows m s vs f e =
-    ap {B = Answer Timing} (λ o. elim (orElse o (orElse (stateFault m s) (orElse (unstableFault m s) (valuesFault m vs)))) as (λ _. Answer Timing) [ some t ↦ refused t | none ↦ timedFrom m s vs (enablingAll m s) ]) e
+    ap {B =
+    Answer Timing} (λ o. elim (orElse o (orElse (stateFault m s) (orElse (unstableFault m s) (valuesFault m vs)))) as (λ _. Answer Timing)
+    [ some t ↦ refused t | none ↦ timedFrom m s vs (enablingAll m s) ]) e
 
 module _ (t : List ℕ) (x : State) (was : List ℤ) where
-  pub refused-before : (q : Refusal) (st : State) → saysChecked (OfChecked.Refused q) ≡ some (checkOn t acceptOf) → st ≡ noState → TimedStep t x was (record { firing = Refused q; state = st }) was
+  pub refused-before : (q : Refusal) (st : State) → saysChecked (OfChecked.Refused q) ≡ some (checkOn t acceptOf) → st ≡ noState
+      → TimedStep t x was (record { firing = Refused q; state = st }) was
   refused-before q st e es =
       let p = refused-tells t acceptOf q e in
-      refuses (onTable t (λ m. timedOf m (partsOf x) was)) (p .0) (call-refuses t acceptOf (λ m. timedOf m (partsOf x) was) (λ m f k. follows m (partsOf x) was f k) (p .0) (p .2)) q (p .1) x st es was
+      refuses (onTable t (λ m. timedOf m (partsOf x) was)) (p .0) (call-refuses t acceptOf (λ m. timedOf m (partsOf x) was)
+      (λ m f k. follows m (partsOf x) was f k) (p .0) (p .2)) q (p .1) x st es was
 
   pub fine-before : saysChecked OfChecked.Fine ≡ some (checkOn t acceptOf) → Image t × (acceptOf (modelOf t) ≡ none)
   fine-before e = let p = fine-passes t acceptOf e in (image-exactly t .0 (p .0), p .1)

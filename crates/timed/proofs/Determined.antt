@@ -14,7 +14,8 @@ use Rattle.table.specs.OnTable.{onTable}
 use Rattle.firing.specs.Shots.{TimingAnswers}
 use Rattle.timed.specs.TimedStep.{TimedStep}
 
-answers-fix : (a : Answer Timing) (x : State) (was : List ℤ) (r q : Timed) (vs us : List ℤ) → TimingAnswers a x was r vs → TimingAnswers a x was q us → (r ≡ q) × (vs ≡ us)
+answers-fix : (a : Answer Timing) (x : State) (was : List ℤ) (r q : Timed) (vs us : List ℤ) → TimingAnswers a x was r vs → TimingAnswers a x was q us
+    → (r ≡ q) × (vs ≡ us)
 answers-fix (answered d) x was r q vs us g h =
     let f = firing-fixed (r .firing) (q .firing) (answered (d .shot)) (g .firing) (h .firing) in
     let s = g .state ∙ sym (h .state) in
@@ -24,5 +25,6 @@ answers-fix (refused t) x was r q vs us g h =
     let s = g .state ∙ sym (h .state) in
     (λ i. record { firing = f i; state = s i }, g .values ∙ sym (h .values))
 
-pub timed_step-determined : (t : List ℕ) (x : State) (was : List ℤ) (r q : Timed) (vs us : List ℤ) → TimedStep t x was r vs → TimedStep t x was q us → (r ≡ q) × (vs ≡ us)
+pub timed_step-determined : (t : List ℕ) (x : State) (was : List ℤ) (r q : Timed) (vs us : List ℤ) → TimedStep t x was r vs → TimedStep t x was q us
+    → (r ≡ q) × (vs ≡ us)
 timed_step-determined t x was r q vs us g h = answers-fix (onTable t (λ m. timedOf m (partsOf x) was)) x was r q vs us g h

@@ -1,22 +1,20 @@
 -- The numbers of an element as the code has it are those of the element; and 4 asks whether they are among all.
-use mathlib.Core.Path.{_≡_, refl, sym, _∙_, ap}
-use mathlib.Core.Bool.{Bool, true, false, not, cond, _&&_}
+use mathlib.Core.Path.{_≡_, refl, _∙_, ap}
+use mathlib.Core.Bool.{Bool, true, false, not, cond}
 use mathlib.Core.List.{List, [], _∷_}
-use Prim.Native.Nat.{ℕ, zero, suc, _+_, _-_, _^_, _≤_, _<_}
+use Prim.Native.Nat.{ℕ, suc, _+_, _-_, _^_, _≤_}
 use native.Mathlib.Omega.{arith}
 use lib.ListN.{length}
-use lib.Dec.{eqb, ltb}
+use lib.Dec.{ltb}
 use Rattle.sets.specs.Members.{wordBits}
 use Rattle.answer.specs.Limits.{maxElements, maxInputs}
 use Rattle.model.specs.Text.{decimal}
 use Rattle.model.specs.Reading.{allBelow}
-use Rattle.columns.specs.Columns.{memberOf}
 use Rattle.columns.proofs.MemberLaws.{member-all}
 use Rattle.trees.specs.Tree.{Sort as TheSort, be-sort, and-sort, or-sort, pand-sort, rbox-sort, Element as TheElement}
-use Rattle.trees.specs.TreeText.{sortWord, fewest, atMostMore, numbersOf, outOfRange, someOf, firstBad, columnOf, behindLine}
+use Rattle.trees.specs.TreeText.{sortWord, fewest, atMostMore, numbersOf, outOfRange, someOf, firstBad, behindLine}
 use Rattle.trees.specs.TreeFaults.{ElementFits}
 use Rattle.treelines.specs.Elements.{sortIs, sortAs, noInputs, placedAt, withMore, elementIs}
-use Rattle.treelines.specs.declared.Inputs.{Inputs}
 use Rattle.treecheck.specs.Numbers.{inputAt, insIn, outOf, allIn, columnIn}
 
 -- ---- five places hold what was put there

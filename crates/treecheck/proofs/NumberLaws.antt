@@ -1,15 +1,13 @@
 -- An element's numbers, one after the other: what is asked of those from here on is what is asked of all.
 use mathlib.Core.Path.{_≡_, refl, sym, _∙_, ap}
-use mathlib.Core.Bool.{Bool, true, false, not, cond}
+use mathlib.Core.Bool.{Bool, true, false, not}
 use mathlib.Core.List.{List, [], _∷_}
-use Prim.Native.Nat.{ℕ, zero, suc, _+_, _*_, _-_, _≤_, _<_}
+use Prim.Native.Nat.{ℕ, suc, _+_, _*_, _-_, _≤_, _<_}
 use native.Mathlib.Omega.{arith}
 use lib.ListN.{length}
-use lib.Dec.{eqb}
 use borrow.Author.Tests.{eq-eqb, ne-eqb}
 use Rattle.laws.specs.Fold.{tab}
 use Rattle.laws.proofs.TabLaws.{tab-next, tab-done}
-use Rattle.answer.specs.Limits.{maxInputs}
 use Rattle.model.specs.Text.{decimal}
 use Rattle.columns.specs.Columns.{memberOf}
 use Rattle.measure.proofs.Fields.{width-most}
@@ -127,7 +125,8 @@ module _ (s : ℕ) (i : Inputs) (count : ℕ) where
             turns = omega arith;
             small = omega (arith, v, n, b);
             same =
-                ap (λ l. firstBad (outOf s) l (left (j + 1))) z ∙ sym (bad-on s k x (left (j + 1)) m) ∙ ap (firstBad (outOf s) k) (sym (next j x h q)) ∙ a .same;
+                ap (λ l. firstBad (outOf s) l (left (j + 1))) z ∙ sym (bad-on s k x (left (j + 1)) m) ∙ ap (firstBad (outOf s) k) (sym (next j x h q))
+                ∙ a .same;
           }
 
 -- ---- an element's own number, then its inputs

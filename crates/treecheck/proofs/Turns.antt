@@ -1,9 +1,9 @@
 -- One turn of reading a tree: how what the code keeps stands to what the definition keeps, before a line and behind it.
 use mathlib.Core.Path.{_≡_, refl, sym, _∙_, ap, ap₂, subst}
-use mathlib.Core.Option.{Option, none, some}
+use mathlib.Core.Option.{some}
 use mathlib.Core.List.{List, [], _∷_, List·Memᴰ·head as here}
 use mathlib.Core.Bool.{Bool, true, false, not}
-use Prim.Native.Nat.{ℕ, zero, suc, _+_, _-_, _^_, _≤_, _<_}
+use Prim.Native.Nat.{ℕ, suc, _+_, _-_, _^_, _≤_, _<_}
 use native.Mathlib.Nat.{le-refl}
 use native.Mathlib.Omega.{arith}
 use lib.ListN.{length, drop, drop-of-length-le, length-drop}
@@ -12,12 +12,12 @@ use Rattle.sets.specs.Members.{wordBits}
 use Rattle.answer.specs.Limits.{maxElements, maxInputs}
 use Rattle.answer.specs.declared.Place.the-variants.{Line, Spot}
 use Rattle.answer.specs.declared.Checked.the-variants.{Fine, Refused}
-use Rattle.answer.specs.Told.{Told, told, tell, Answer, answered, refused, asRefused, saysChecked, doneOf}
+use Rattle.answer.specs.Told.{told, tell, Answer, answered, refused, saysChecked, doneOf}
 use Rattle.model.specs.Reading.{stops, got, stopColumn}
 use Rattle.fields.specs.Resets.{valued}
 use Rattle.lines.proofs.LineLaws.{valued-is}
 use Rattle.trees.specs.Tree.{Element as TheElement, Tree}
-use Rattle.trees.specs.TreeText.{numbersOf, element, outOfRange, faultOf, behindLine, consed, linesFrom}
+use Rattle.trees.specs.TreeText.{element, outOfRange, behindLine, consed, linesFrom}
 use Rattle.trees.specs.TreeFaults.{ElementFits}
 use Rattle.trees.proofs.Scans.{line-exactly}
 use Rattle.trees.proofs.Faults.{range-is, fault-4, fault-6, no-fault, element-shortens, lines-end, lines-shapeless, lines-fault, lines-next}
@@ -87,12 +87,14 @@ module _ {t : List ℕ} {at : ℕ} (l : Element) {to : ℕ} (r : Read t at l to)
       line-low k =
           let q = lt-ltb (r .it .number) low (subst (λ x. x < low) (sym number-same) k) in
           sym (s .same)
-          ∙ ap doneOf (lines-fault n low (length (drop at t)) (drop at t) (r .it) (drop to t) 6 (le-refl _) (r .found) (fault-6 low (r .it) (range-said true h) q))
+          ∙ ap doneOf (lines-fault n low (length (drop at t)) (drop at t) (r .it) (drop to t) 6 (le-refl _) (r .found)
+          (fault-6 low (r .it) (range-said true h) q))
 
       pub line-taken : low ≤ l .number → Stands t (l .number + 1) to (n + 1)
       line-taken k =
           let q = le-ltb (r .it .number) low (subst (λ x. low ≤ x) (sym number-same) k) in
-          let next = lines-next n low (length (drop at t)) (length (drop to t)) (drop at t) (r .it) (drop to t) (le-refl _) (le-refl _) (r .found) (no-fault low (r .it) (range-said true h) q) in
+          let next = lines-next n low (length (drop at t)) (length (drop to t)) (drop at t) (r .it) (drop to t) (le-refl _) (le-refl _) (r .found)
+          (no-fault low (r .it) (range-said true h) q) in
           let c = s .count in
           let o = read-on r in
           record {

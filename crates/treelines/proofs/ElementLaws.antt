@@ -1,13 +1,13 @@
 -- A line of a tree goes field by field: the number is missing, the inputs are, the LF is, or all are there.
-use mathlib.Core.Path.{_≡_, refl, sym, _∙_, ap, ap₂}
-use mathlib.Core.List.{List, [], _∷_}
+use mathlib.Core.Path.{_≡_, refl, sym, ap, ap₂}
+use mathlib.Core.List.{List}
 use Prim.Native.Nat.{ℕ, _+_, _≤_}
 use native.Mathlib.Omega.{arith}
 use Rattle.answer.specs.Limits.{maxInputs}
 use Rattle.model.specs.Text.{lf}
-use Rattle.model.specs.Reading.{Scan, is, stops, got, then, theByte, number, field}
-use Rattle.trees.specs.Tree.{Sort as TheSort, Element as TheElement}
-use Rattle.trees.specs.TreeText.{fewest, atMostMore, sortScan, inputs, ended, behindWord, element}
+use Rattle.model.specs.Reading.{Scan, stops, got, theByte, number, field}
+use Rattle.trees.specs.Tree.{Sort as TheSort}
+use Rattle.trees.specs.TreeText.{fewest, atMostMore, sortScan, inputs, behindWord, element}
 use Rattle.fields.specs.Resets.{valued}
 use Rattle.lines.proofs.LineLaws.{valued-stops, valued-is}
 use Rattle.treelines.specs.declared.Sort.{Sort}
@@ -53,11 +53,13 @@ module _ (s : Sort) (bs : List ℕ) where
           let z = valued-is (withMore noInputs) (inputs (fewest (sortIs s)) (atMostMore (sortIs s)) cs) q in
           rw (p, behindWord) (rw (z .1) (rw r))
 
-      pub line-is : {es : List ℕ} → theByte lf ds ≡ got tt es → got (record { sort = s; number = n; inputs = i }) es ≡ valued elementIs (behindWord (sortIs s) bs)
+      pub line-is : {es : List ℕ} → theByte lf ds ≡ got tt es → got (record { sort = s; number = n; inputs = i }) es
+          ≡ valued elementIs (behindWord (sortIs s) bs)
       unfolding behindWord
       line-is {es} r =
           let z = valued-is (withMore noInputs) (inputs (fewest (sortIs s)) (atMostMore (sortIs s)) cs) q in
-          let e : _≡_ {A = Element} (record { sort = s; number = n; inputs = i }) (record { sort = sortAs (sortIs s); number = n; inputs = withMore noInputs (z .0) }) =
+          let e : _≡_ {A = Element} (record { sort = s; number = n; inputs = i })
+          (record { sort = sortAs (sortIs s); number = n; inputs = withMore noInputs (z .0) }) =
           ap₂ {C = Element} (λ a b. record { sort = a; number = n; inputs = b }) (sym (sort-back s)) (sym (z .2)) in
           rw (p, behindWord) (rw (z .1) (rw r (ap (λ x. got x es) e)))
 

@@ -5,12 +5,12 @@ use mathlib.Core.List.{List, [], _∷_}
 use Prim.Native.Nat.{ℕ, zero, suc, _+_, _-_, _≤_, _<_}
 use native.Mathlib.Omega.{arith}
 use native.Mathlib.Decide.{ℕ-discrete}
-use lib.ListN.{length, drop}
+use lib.ListN.{drop}
 use lib.Dec.{eqb}
 use borrow.Author.Tests.{eq-eqb, ne-eqb, eqb-true}
 use Rattle.answer.specs.Limits.{maxInputs}
 use Rattle.model.specs.Text.{tab}
-use Rattle.model.specs.Reading.{Got, Scan, is, stops, got, then, exactly, theByte, number, field}
+use Rattle.model.specs.Reading.{Scan, is, stops, got, then, exactly, theByte, number, field}
 use Rattle.model.proofs.Reading.Scans.{no-is}
 use Rattle.model.proofs.Reading.Fields.{exactly-scanned}
 use Rattle.model.proofs.Reading.WrongByte.{byte-stops}
@@ -36,7 +36,8 @@ module _ (i : Inputs) (at n : ℕ) where
   unfolding placedAt
   placed-1 a h = rw (ne-eqb at 0 a, eq-eqb at 1 h)
 
-  pub placed-2 : ¬ (at ≡ 0) → ¬ (at ≡ 1) → at ≡ 2 → record { count = at + 1; first = i .first; second = i .second; third = n; fourth = 0; fifth = 0 } ≡ placedAt i at n
+  pub placed-2 : ¬ (at ≡ 0) → ¬ (at ≡ 1) → at ≡ 2 → record { count = at + 1; first = i .first; second = i .second; third = n; fourth = 0; fifth = 0 }
+      ≡ placedAt i at n
   unfolding placedAt
   placed-2 a b h = rw (ne-eqb at 0 a, ne-eqb at 1 b, eq-eqb at 2 h)
 
@@ -90,13 +91,16 @@ more-no-tab s k bs cs e =
     ap (λ x. got s x) (sym (byte-stops tab bs cs e)) ∙ ap (λ x. got x bs) (sym (with-none s)) ∙ ap (valued (withMore s)) (sym (none-taken k bs e))
 
 -- a tab
-tab-taken : (k : ℕ) (bs cs : List ℕ) → theByte tab bs ≡ got tt cs → moreInputs (suc k) bs ≡ then (number cs) (λ n ds. then (moreInputs k ds) (λ ns es. got (n ∷ ns) es))
+tab-taken : (k : ℕ) (bs cs : List ℕ) → theByte tab bs ≡ got tt cs
+    → moreInputs (suc k) bs ≡ then (number cs) (λ n ds. then (moreInputs k ds) (λ ns es. got (n ∷ ns) es))
 unfolding moreInputs
 tab-taken k bs cs e = ap (moreInputs (suc k)) (exactly-scanned (tab ∷ []) bs (record { value = tt; rest = cs }) e)
 
-pub more-no-number : (s : Inputs) (k : ℕ) (bs cs ds : List ℕ) → 1 ≤ k → theByte tab bs ≡ got tt cs → number cs ≡ stops ds → stops ds ≡ valued (withMore s) (moreInputs k bs)
+pub more-no-number : (s : Inputs) (k : ℕ) (bs cs ds : List ℕ) → 1 ≤ k → theByte tab bs ≡ got tt cs → number cs ≡ stops ds
+    → stops ds ≡ valued (withMore s) (moreInputs k bs)
 more-no-number s zero bs cs ds h e f = absurd (omega arith)
-more-no-number s (suc k) bs cs ds h e f = sym (ap (valued (withMore s)) (tab-taken k bs cs e ∙ ap (λ o. then o (λ n ds. then (moreInputs k ds) (λ ns es. got (n ∷ ns) es))) f))
+more-no-number s (suc k) bs cs ds h e f =
+    sym (ap (valued (withMore s)) (tab-taken k bs cs e ∙ ap (λ o. then o (λ n ds. then (moreInputs k ds) (λ ns es. got (n ∷ ns) es))) f))
 
 valued-one : (s : Inputs) (n : ℕ) (o : Scan (List ℕ)) → valued (withMore s) (then o (λ ns es. got (n ∷ ns) es)) ≡ valued (withMore (placedAt s (s .count) n)) o
 valued-one s n (stops cs) = refl
@@ -105,7 +109,8 @@ valued-one s n (is g) = ap (λ x. got x (g .rest)) (with-one s n (g .value))
 pub more-number : (s : Inputs) (k : ℕ) (bs cs ds : List ℕ) (n : ℕ) → theByte tab bs ≡ got tt cs → number cs ≡ got n ds
     → valued (withMore (placedAt s (s .count) n)) (moreInputs k ds) ≡ valued (withMore s) (moreInputs (suc k) bs)
 more-number s k bs cs ds n e f =
-    sym (ap (valued (withMore s)) (tab-taken k bs cs e ∙ ap (λ o. then o (λ n ds. then (moreInputs k ds) (λ ns es. got (n ∷ ns) es))) f) ∙ valued-one s n (moreInputs k ds))
+    sym (ap (valued (withMore s)) (tab-taken k bs cs e ∙ ap (λ o. then o (λ n ds. then (moreInputs k ds) (λ ns es. got (n ∷ ns) es))) f)
+    ∙ valued-one s n (moreInputs k ds))
 
 -- the loop: k of them are looked at
 pub record Further (t : List ℕ) (more : ℕ) (s₀ : Inputs) (at₀ : ℕ) (s : Inputs) (at k : ℕ) : Type 0 where
@@ -115,7 +120,12 @@ pub record Further (t : List ℕ) (more : ℕ) (s₀ : Inputs) (at₀ : ℕ) (s 
 
 module _ (t : List ℕ) (more : ℕ) (s₀ : Inputs) (at₀ : ℕ) where
   pub further-begins : s₀ .count + more ≤ maxInputs → Further t more s₀ at₀ s₀ at₀ 0
-  further-begins h = record { turns = omega arith; room = omega arith; same = ap (λ k. valued (withMore s₀) (moreInputs k (drop at₀ t))) (let z : more - 0 ≡ more = omega arith in z) }
+  further-begins h =
+      record {
+        turns = omega arith;
+        room = omega arith;
+        same = ap (λ k. valued (withMore s₀) (moreInputs k (drop at₀ t))) (let z : more - 0 ≡ more = omega arith in z);
+      }
 
   module _ (s : Inputs) (at k : ℕ) (f : Further t more s₀ at₀ s at k) where
     pub further-done : more ≤ k → got s (drop at t) ≡ valued (withMore s₀) (moreInputs more (drop at₀ t))
@@ -131,9 +141,11 @@ module _ (t : List ℕ) (more : ℕ) (s₀ : Inputs) (at₀ : ℕ) where
         (scan : gotNumber t u ≡ number (drop (d .at) t)) where
       pub further-no-number : (e : Cursor) (v : ℕ) → u ≡ OfNumber.Missing e v → stops (drop (e .at) t) ≡ valued (withMore s₀) (moreInputs more (drop at₀ t))
       further-no-number e v p =
-          more-no-number s (more - k) (drop at t) (drop (d .at) t) (drop (e .at) t) (omega arith) (sym tabbed ∙ ap (past t) q) (sym scan ∙ ap (gotNumber t) p) ∙ f .same
+          more-no-number s (more - k) (drop at t) (drop (d .at) t) (drop (e .at) t) (omega arith) (sym tabbed ∙ ap (past t) q)
+          (sym scan ∙ ap (gotNumber t) p) ∙ f .same
 
-      pub further-more : (n : ℕ) (next : Cursor) → u ≡ OfNumber.Is next n → (s' : Inputs) → s' ≡ placedAt s (s .count) n → Further t more s₀ at₀ s' (next .at) (k + 1)
+      pub further-more : (n : ℕ) (next : Cursor) → u ≡ OfNumber.Is next n → (s' : Inputs) → s' ≡ placedAt s (s .count) n
+          → Further t more s₀ at₀ s' (next .at) (k + 1)
       further-more n next p s' e =
           let c : s' .count ≡ s .count + 1 = ap (λ (x : Inputs). x .count) e ∙ placed-count s (s .count) n in
           let room = f .room in
@@ -156,7 +168,8 @@ needed-no-number s (suc n) k bs cs h e = rw (e, inputs)
 needed-number : (s : Inputs) (n k : ℕ) (bs cs : List ℕ) (x : ℕ) → field number bs ≡ got x cs
     → valued (withMore (placedAt s (s .count) x)) (inputs n k cs) ≡ valued (withMore s) (inputs (suc n) k bs)
 unfolding inputs
-needed-number s n k bs cs x e = sym (ap (λ o. valued (withMore s) (then o (λ x cs. then (inputs n k cs) (λ xs ds. got (x ∷ xs) ds)))) e ∙ valued-one s x (inputs n k cs))
+needed-number s n k bs cs x e =
+    sym (ap (λ o. valued (withMore s) (then o (λ x cs. then (inputs n k cs) (λ xs ds. got (x ∷ xs) ds)))) e ∙ valued-one s x (inputs n k cs))
 
 needed-zero : (s : Inputs) (k : ℕ) (bs : List ℕ) → valued (withMore s) (moreInputs k bs) ≡ valued (withMore s) (inputs 0 k bs)
 unfolding inputs
@@ -169,7 +182,12 @@ pub record Needed (t : List ℕ) (least more : ℕ) (s₀ : Inputs) (at₀ : ℕ
 
 module _ (t : List ℕ) (least more : ℕ) (s₀ : Inputs) (at₀ : ℕ) where
   pub needed-begins : s₀ .count ≡ 0 → Needed t least more s₀ at₀ s₀ at₀ 0
-  needed-begins h = record { turns = omega arith; count = h; same = ap (λ k. valued (withMore s₀) (inputs k more (drop at₀ t))) (let z : least - 0 ≡ least = omega arith in z) }
+  needed-begins h =
+      record {
+        turns = omega arith;
+        count = h;
+        same = ap (λ k. valued (withMore s₀) (inputs k more (drop at₀ t))) (let z : least - 0 ≡ least = omega arith in z);
+      }
 
   module _ (s : Inputs) (at k : ℕ) (f : Needed t least more s₀ at₀ s at k) where
     pub needed-done : least ≤ k → valued (withMore s) (moreInputs more (drop at t)) ≡ valued (withMore s₀) (inputs least more (drop at₀ t))
@@ -181,7 +199,8 @@ module _ (t : List ℕ) (least more : ℕ) (s₀ : Inputs) (at₀ : ℕ) where
       pub needed-missing : (e : Cursor) (v : ℕ) → u ≡ OfNumber.Missing e v → stops (drop (e .at) t) ≡ valued (withMore s₀) (inputs least more (drop at₀ t))
       needed-missing e v p = needed-no-number s (least - k) more (drop at t) (drop (e .at) t) (omega arith) (sym scan ∙ ap (gotNumber t) p) ∙ f .same
 
-      pub needed-more : (n : ℕ) (next : Cursor) → u ≡ OfNumber.Is next n → (s' : Inputs) → s' ≡ placedAt s k n → Needed t least more s₀ at₀ s' (next .at) (k + 1)
+      pub needed-more : (n : ℕ) (next : Cursor) → u ≡ OfNumber.Is next n → (s' : Inputs) → s' ≡ placedAt s k n
+          → Needed t least more s₀ at₀ s' (next .at) (k + 1)
       needed-more n next p s' e =
           let here : s' ≡ placedAt s (s .count) n = e ∙ ap (λ j. placedAt s j n) (sym (f .count)) in
           let c : s' .count ≡ k + 1 = ap (λ (x : Inputs). x .count) e ∙ placed-count s k n in

@@ -1,8 +1,8 @@
 -- The first word of a line: which of the five stands there decides.
-use mathlib.Core.Path.{_≡_, refl}
+use mathlib.Core.Path.{_≡_}
 use mathlib.Core.List.{List}
 use Prim.Native.Nat.{ℕ}
-use Rattle.model.specs.Reading.{Scan, stops, got, shorter, exactly}
+use Rattle.model.specs.Reading.{stops, got, shorter, exactly}
 use Rattle.trees.specs.Tree.{Sort, be-sort, and-sort, or-sort, pand-sort, rbox-sort}
 use Rattle.trees.specs.TreeText.{sortWord, sortScan}
 

@@ -144,7 +144,8 @@ module _ (text : List ℕ) (known at : ℕ) (c : Counted text known at) where
         left = f .left;
         same =
             ap (λ x. x ∪ numbersIn (f .more)) (q ∙ ap (λ x. known ∪ x) (p ∙ ap only (sym n)))
-            ∙ or-assoc known (only (f .it .number)) (numbersIn (f .more)) ∙ ap (λ x. known ∪ x) (sym (numbers-one (f .it) (f .more)) ∙ ap numbersIn (sym (f .lines))) ∙ c .same;
+            ∙ or-assoc known (only (f .it .number)) (numbersIn (f .more)) ∙ ap (λ x. known ∪ x) (sym (numbers-one (f .it) (f .more))
+            ∙ ap numbersIn (sym (f .lines))) ∙ c .same;
       }
 
   pub number-fits : (e : Element) (to : ℕ) → First text (c .rest) e to → e .number < maxElements
@@ -163,7 +164,8 @@ pub record Asked (text : List ℕ) (known at n : ℕ) : Type 0 where
 pub asked-begins : (text : List ℕ) (known : ℕ) (t : Tree) → LinesOf text t → known ≡ numbersIn t → Asked text known 0 1
 asked-begins text known t e s = record { tree = t; lines = e; set = s; rest = t; left = all-left text t e; same = refl; count = omega arith }
 
-unknown-here : (t : Tree) (n : ℕ) (e : TheElement) (es : Tree) → someOf (unknown t) (numbersOf e) ≡ true → unknownFrom t n (e ∷ es) ≡ some (tell 5 (n ∷ columnOf (unknown t) e ∷ []))
+unknown-here : (t : Tree) (n : ℕ) (e : TheElement) (es : Tree) → someOf (unknown t) (numbersOf e) ≡ true
+    → unknownFrom t n (e ∷ es) ≡ some (tell 5 (n ∷ columnOf (unknown t) e ∷ []))
 unfolding unknownFrom
 unknown-here t n e es h = rw (h, unknownFrom)
 
@@ -198,7 +200,8 @@ module _ (text : List ℕ) (known at n : ℕ) (c : Asked text known at n) where
     pub few : e .inputs .count ≤ maxInputs
     few = subst (λ (x : Element). x .inputs .count ≤ maxInputs) (f .code) (held-count (f .it .ins) (few-inputs (f .it) (f .it-fits)))
 
-    pub names-out : allIn e known ≡ false → (k : ℕ) → k ≡ columnIn e known → saysChecked (Refused (record { number = 5; place = Spot n k })) ≡ some (doneOf (treeOf text))
+    pub names-out : allIn e known ≡ false → (k : ℕ) → k ≡ columnIn e known → saysChecked (Refused (record { number = 5; place = Spot n k }))
+        ≡ some (doneOf (treeOf text))
     unfolding saysChecked told
     names-out h k q =
         let col : k ≡ columnOf (unknown (c .tree)) (f .it) =

@@ -5,7 +5,7 @@ use Prim.Native.Nat.{ℕ, _≤_, _<_}
 use native.Mathlib.Omega.{arith}
 use lib.ListN.{length, drop, length-drop}
 use Rattle.answer.specs.Told.{Answer, answered}
-use Rattle.model.specs.Reading.{is, got}
+use Rattle.model.specs.Reading.{got}
 use Rattle.model.proofs.Reading.Scans.{is-inj}
 use Rattle.fields.specs.Resets.{valued}
 use Rattle.fields.specs.declared.Cursor.{Cursor}
@@ -82,7 +82,8 @@ module _ (text : List ℕ) (at : ℕ) (r : ElementScan) (scan : gotElement text 
         it-range = l .in-range x (here refl);
       }
 
-  line-on : (rest : Tree) → Left text at rest → at < length text → (e : Element) (next : Cursor) → r ≡ OfScan.Is e next → length (drop (next .at) text) < length (drop at text)
+  line-on : (rest : Tree) → Left text at rest → at < length text → (e : Element) (next : Cursor) → r ≡ OfScan.Is e next
+      → length (drop (next .at) text) < length (drop at text)
   unfolding treeText
   line-on [] l h e next q = absurd (let b = ap length (l .bytes) in let d = length-drop at text in omega (arith, b, d))
   line-on (x ∷ xs) l h e next q =

@@ -17,7 +17,8 @@ refused-first none a e = absurd (let z : _≡_ {A = ℕ} 0 1 = cc in omega arith
 refused-first (some f) (answered t) e = absurd (let z : _≡_ {A = ℕ} 0 1 = cc in omega arith)
 refused-first (some f) (refused g) e = e
 
-pub lines-refused : (text : List ℕ) (q : Refusal) → saysChecked (Refused q) ≡ some (doneOf (linesFrom (length text) 1 0 text)) → saysChecked (Refused q) ≡ some (doneOf (treeOf text))
+pub lines-refused : (text : List ℕ) (q : Refusal) → saysChecked (Refused q) ≡ some (doneOf (linesFrom (length text) 1 0 text))
+    → saysChecked (Refused q) ≡ some (doneOf (treeOf text))
 unfolding saysChecked treeOf
 lines-refused text q e = refused-first (told q) (linesFrom (length text) 1 0 text) e
 

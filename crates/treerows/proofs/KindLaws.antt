@@ -1,10 +1,10 @@
 -- Four sets grow by one action at a time.
 use mathlib.Core.Path.{_≡_, refl, sym, _∙_, ap}
 use mathlib.Core.Option.{Option, none, some}
-use Prim.Native.Nat.{ℕ, zero, suc, _+_, _≤_}
+use Prim.Native.Nat.{ℕ, suc, _+_}
 use native.Mathlib.Omega.{arith}
 use lib.Bits.{or-comm, or-zero-r}
-use Rattle.laws.specs.Sets.{_∪_, only}
+use Rattle.laws.specs.Sets.{_∪_}
 use Rattle.model.specs.Text.{Kind, in-kind, out-kind, uin-kind, uout-kind}
 use Rattle.trees.specs.Module.{those, isIn, isOut, isUin, isUout}
 use Rattle.treerows.specs.declared.Kinds.{Kinds}
@@ -19,11 +19,22 @@ kinds-none f = refl
 
 kinds-next : (f : ℕ → Option Kind) (a : ℕ) (o : Option Kind) → f a ≡ o → kindsBelow f (suc a) ≡ kindsOn (kindsBelow f a) a o
 unfolding kindsBelow those
-kinds-next f a none e = rw (e, none-first (those (λ x. isIn (f x)) a), none-first (those (λ x. isOut (f x)) a), none-first (those (λ x. isUin (f x)) a), none-first (those (λ x. isUout (f x)) a))
-kinds-next f a (some in-kind) e = rw (e, none-first (those (λ x. isOut (f x)) a), none-first (those (λ x. isUin (f x)) a), none-first (those (λ x. isUout (f x)) a))
-kinds-next f a (some out-kind) e = rw (e, none-first (those (λ x. isIn (f x)) a), none-first (those (λ x. isUin (f x)) a), none-first (those (λ x. isUout (f x)) a))
-kinds-next f a (some uin-kind) e = rw (e, none-first (those (λ x. isIn (f x)) a), none-first (those (λ x. isOut (f x)) a), none-first (those (λ x. isUout (f x)) a))
-kinds-next f a (some uout-kind) e = rw (e, none-first (those (λ x. isIn (f x)) a), none-first (those (λ x. isOut (f x)) a), none-first (those (λ x. isUin (f x)) a))
+kinds-next f a none e =
+    rw (
+      e,
+      none-first (those (λ x. isIn (f x)) a),
+      none-first (those (λ x. isOut (f x)) a),
+      none-first (those (λ x. isUin (f x)) a),
+      none-first (those (λ x. isUout (f x)) a),
+    )
+kinds-next f a (some in-kind) e =
+    rw (e, none-first (those (λ x. isOut (f x)) a), none-first (those (λ x. isUin (f x)) a), none-first (those (λ x. isUout (f x)) a))
+kinds-next f a (some out-kind) e =
+    rw (e, none-first (those (λ x. isIn (f x)) a), none-first (those (λ x. isUin (f x)) a), none-first (those (λ x. isUout (f x)) a))
+kinds-next f a (some uin-kind) e =
+    rw (e, none-first (those (λ x. isIn (f x)) a), none-first (those (λ x. isOut (f x)) a), none-first (those (λ x. isUout (f x)) a))
+kinds-next f a (some uout-kind) e =
+    rw (e, none-first (those (λ x. isIn (f x)) a), none-first (those (λ x. isOut (f x)) a), none-first (those (λ x. isUin (f x)) a))
 
 -- as the loop has them
 pub kinds-on : (f : ℕ → Option Kind) (a : ℕ) (h r : Kinds) (o : Option Kind) → h ≡ kindsBelow f a → o ≡ f a → r ≡ kindsOn h a o → r ≡ kindsBelow f (a + 1)

@@ -1,8 +1,7 @@
 -- The module of an element by what an action means, and its rows by the words of the actions.
-use mathlib.Core.Path.{_≡_, refl, sym, _∙_, ap, ap₂}
+use mathlib.Core.Path.{_≡_, refl, _∙_, ap, ap₂}
 use mathlib.Core.Option.{Option, none, some}
-use mathlib.Core.Bool.{Bool, true, false}
-use mathlib.Core.List.{List, [], _∷_, _++_, map}
+use mathlib.Core.List.{List, [], _∷_, _++_}
 use Prim.Native.Nat.{ℕ, zero, suc, _+_, _-_, _/_, _%_, _≤_, _<_}
 use native.Mathlib.Omega.{arith}
 use lib.ListN.{length, getD}
@@ -13,14 +12,16 @@ use Rattle.laws.proofs.GrowLaws.{spread-none}
 use Rattle.answer.specs.Limits.{maxActions}
 use Rattle.model.specs.Text.{Kind}
 use Rattle.model.specs.Model.{Row}
-use Rattle.trees.specs.Module.{Move, Module, rowsFor, rowsOf, allRows}
+use Rattle.trees.specs.Module.{Move, rowsFor, rowsOf, allRows}
 use Rattle.trees.specs.Tree.{Sort, be-sort, and-sort, or-sort, pand-sort, rbox-sort, Element, Tree, Meaning, meanings, at, meaningOf}
-use Rattle.trees.specs.Modules.{plainMove, ofMeaning, beKind, beMove, beRole, GateRole, gateKind, gateRole, pandRole, countMove, pandMove, BoxRole, boxKind, boxMove, boxRole, bound, roleIn, clockless, beModule, countModule, pandModule, boxModule, moduleFor}
+use Rattle.trees.specs.Modules.{plainMove, ofMeaning, beKind, beMove, beRole, GateRole, gateKind, gateRole, pandRole, countMove, pandMove, BoxRole}
+use Rattle.trees.specs.Modules.{boxKind, boxMove, boxRole, bound, clockless, beModule, countModule, pandModule, boxModule, moduleFor}
 use Rattle.elements.specs.Parts.{meaningAt, statesFor, beMoveBy, beKindBy, boxRoleBy, boxMoveBy, boxKindBy, moveFor, kindFor}
 use Rattle.treerows.specs.Rows.{rowBy, wordRows, stateRows, elementRows}
 
 -- ---- where there is no kind there is no move
-rows-role : {A : Type 0} (o : Option A) (kind : A → Kind) (move : A → Option Move) (s a : ℕ) → rowsFor (mapSome kind o) (bound o move) s a ≡ rowBy (bound o move) s a
+rows-role : {A : Type 0} (o : Option A) (kind : A → Kind) (move : A → Option Move) (s a : ℕ) → rowsFor (mapSome kind o) (bound o move) s a
+    ≡ rowBy (bound o move) s a
 rows-role none kind move s a = refl
 rows-role (some x) kind move s a = go (move x)
   where
@@ -114,4 +115,5 @@ module _ (t : Tree) (words : List ℕ) (h : Hold t words) (k : ℕ) (e : Element
   unfolding allRows elementRows
   element-rows =
       ap (λ n. spread (λ s. spread (rowsOf (moduleFor (e .sort) t k e) s) 0 maxActions) 0 n) (module-states t k e (e .sort))
-      ∙ spread-same (λ s. spread (rowsOf (moduleFor (e .sort) t k e) s) 0 maxActions) (stateRows words (length (meanings t)) e k) 0 (statesFor (e .sort) (e .ins)) (λ s p l. state-rows s)
+      ∙ spread-same (λ s. spread (rowsOf (moduleFor (e .sort) t k e) s) 0 maxActions) (stateRows words (length (meanings t)) e k) 0
+      (statesFor (e .sort) (e .ins)) (λ s p l. state-rows s)

@@ -1,22 +1,19 @@
 -- A row at a time: what a walk emits, and the room that is left.
-use mathlib.Core.Path.{_≡_, refl, sym, _∙_, ap}
+use mathlib.Core.Path.{_≡_, sym, _∙_, ap}
 use mathlib.Core.Option.{Option, none, some}
-use mathlib.Core.Bool.{Bool, true, false}
+use mathlib.Core.Bool.{true, false}
 use mathlib.Core.List.{List, [], _∷_}
-use Prim.Native.Nat.{ℕ, zero, suc, _+_, _*_, _-_, _^_, _≤_, _<_}
+use Prim.Native.Nat.{ℕ, suc, _+_, _*_, _≤_, _<_}
 use native.Mathlib.Omega.{arith}
 use native.Mathlib.Decide.{ℕ-discrete}
 use lib.ListN.{length, getD}
 use lib.Pow.{pow-lt}
-use mir.Val.{Fits}
-use mir.Syntax.{w64}
-use Rattle.laws.specs.Fold.{spread, tab, sum}
+use Rattle.laws.specs.Fold.{spread}
 use Rattle.laws.specs.Search.{when}
 use Rattle.laws.proofs.TabLaws.{spread-length, sum-at-most}
-use Rattle.answer.specs.Limits.{maxElements, maxActions, maxInputs}
+use Rattle.answer.specs.Limits.{maxElements, maxInputs}
 use Rattle.model.specs.Model.{Row}
-use Rattle.model.specs.Text.{rowLine, rowLines}
-use Rattle.layout.specs.Words.{wordsOf}
+use Rattle.model.specs.Text.{rowLine}
 use Rattle.measure.proofs.Lines.{row-most, rows-most}
 use Rattle.product.specs.declared.Tally.{Tally}
 use Rattle.product.specs.Walk.{Out, outOf, written, oneMore, listed}
@@ -30,7 +27,7 @@ use Rattle.roles.specs.declared.Move.{Move}
 use Rattle.roles.specs.Roles.{moveIs}
 use Rattle.elements.specs.Parts.{meaningAt, elementOf, Fit, statesFor, statesBy, moveBy}
 use Rattle.elements.proofs.PartLaws.{ins-length}
-use Rattle.treerows.specs.Rows.{rowBy, wordRows, stateRows, elementRows, Room}
+use Rattle.treerows.specs.Rows.{rowBy, wordRows, stateRows, Room}
 
 -- ---- room
 pub room-after : (limit k r : ℕ) (rs : List Row) (o : Out) → length rs ≤ k → Room limit (k + r) o → Room limit r (listed limit rs o)
@@ -59,7 +56,8 @@ module _ (m : Move) (o : Option TheMove) (e : moveIs m ≡ o) (s a : ℕ) where
   row-away h = ap (λ x. rowBy x s a) (sym e ∙ ap (λ b. when b (record { guard = m .guard; resets = m .resets; target = m .target })) h)
 
   module _ (limit : ℕ) (n : Tally) (l : List ℕ) where
-    pub emitted : m .there ≡ true → (l′ : List ℕ) (w : ℕ) → l′ ≡ written limit (n .rows) (a ∷ m .guard ∷ m .resets ∷ m .target ∷ []) l → w ≡ length (rowLine (theRow m s a))
+    pub emitted : m .there ≡ true → (l′ : List ℕ) (w : ℕ) → l′ ≡ written limit (n .rows) (a ∷ m .guard ∷ m .resets ∷ m .target ∷ []) l
+        → w ≡ length (rowLine (theRow m s a))
         → outOf (record { rows = n .rows + 1; bytes = n .bytes + w }) l′ ≡ listed limit (rowBy o s a) (outOf n l)
     unfolding oneMore
     emitted h l′ w el ew = one ∙ sym (listed-one limit (theRow m s a) (outOf n l)) ∙ ap (λ rs. listed limit rs (outOf n l)) (sym (row-there h))
@@ -91,7 +89,11 @@ states-few be-sort xs h = omega arith
 states-few and-sort xs h = omega arith
 states-few or-sort xs h = omega arith
 states-few pand-sort xs h = omega arith
-states-few rbox-sort xs h = elim (ℕ-discrete (length xs) 5) [ yes e ↦ rw e (omega arith) | no e ↦ (let p : suc (length xs) < 6 = omega (arith, h, e) in omega (arith, pow-lt p)) ]
+states-few rbox-sort xs h =
+    elim (ℕ-discrete (length xs) 5) [
+      | yes e ↦ rw e (omega arith)
+      | no e ↦ (let p : suc (length xs) < 6 = omega (arith, h, e) in omega (arith, pow-lt p))
+    ]
 
 pub states-low : (e : Element) → Fit e → statesBy (elementOf e) ≤ maxElements
 states-low e q = states-few (sortIs (e .sort)) (insIn (e .inputs)) (let z = ins-length (e .inputs) in omega (arith, z, q .few))

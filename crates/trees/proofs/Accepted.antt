@@ -1,29 +1,30 @@
 -- The model of a tree is accepted: every component meets (a) to (f), and every two are compatible.
 use mathlib.Core.Path.{_≡_, refl, sym, _∙_, ap}
-use mathlib.Core.Logic.{_⊎_, inl, inr, ⊎-elim}
+use mathlib.Core.Logic.{⊎-elim}
 use mathlib.Core.Option.{Option, none, some, Option·some-inj}
-use mathlib.Core.Bool.{Bool, true, false, false≢true, true≢false, cond}
+use mathlib.Core.Bool.{Bool, true, false, false≢true, cond}
 use mathlib.Core.List.{List, [], _∷_, List·Memᴰ as In, List·Memᴰ·head as here, List·Memᴰ·tail as there}
 use Prim.Native.Nat.{ℕ, zero, suc, _+_, _*_, _≤_, _<_}
 use native.Mathlib.Omega.{arith}
-use lib.ListN.{length, getD}
-use Rattle.laws.specs.Sets.{_∪_, only, _∈_, Apart}
+use lib.ListN.{length}
+use Rattle.laws.specs.Sets.{only, _∈_}
 use Rattle.laws.proofs.SetLaws.{in-or, or-in-l, or-in-r, one-in, none-in}
 use Rattle.laws.proofs.ListLaws.{Pairwise}
 use Rattle.answer.specs.Limits.{maxActions, maxClocks}
 use Rattle.model.specs.Text.{Kind, in-kind, out-kind, uin-kind, uout-kind}
-use Rattle.model.specs.Model.{Comp, Model, compAt, inputs, outputs, urgents}
+use Rattle.model.specs.Model.{compAt, inputs, outputs, urgents}
 use Rattle.model.specs.WellFormed.{WellComp}
-use Rattle.iosa.specs.Automaton.{autoOf, alphabet, Conditions, Compatible, Conforming, Joinable}
+use Rattle.iosa.specs.Automaton.{autoOf, alphabet, Compatible, Conforming, Joinable}
 use Rattle.trees.specs.Module.{Module, those, isIn, isOut, isUin, isUout, compBy, Sound}
-use Rattle.trees.specs.Tree.{Sort, be-sort, and-sort, or-sort, pand-sort, rbox-sort, Element, Tree, isBe, isBox, among, bes, Signal, Meaning, meanings, meaningOf}
+use Rattle.trees.specs.Tree.{Sort, be-sort, and-sort, or-sort, pand-sort, rbox-sort, Element, Tree, isBe, isBox, among, bes, Meaning}
+use Rattle.trees.specs.Tree.{meanings, meaningOf}
 use Rattle.trees.specs.Modules.{moduleFor, clockless, beModule, countModule, pandModule, boxModule, componentsFrom, treeModel}
 use Rattle.trees.proofs.Modules.{in-those, those-in, module-is-well-formed, module-conforms}
 use Rattle.trees.proofs.Numbers.{Ascends}
 use Rattle.trees.proofs.Basic.{be-is-sound}
 use Rattle.trees.proofs.Gates.{and-is-sound, or-is-sound, pand-is-sound}
 use Rattle.trees.proofs.Boxes.{box-is-sound}
-use Rattle.trees.proofs.Owners.{isUrgent, isOutput, urgentSignal, Owns, tells, repairs, Part, Has, has-part}
+use Rattle.trees.proofs.Owners.{isUrgent, isOutput, urgentSignal, Owns, tells, repairs, has-part}
 
 -- ---- what is used of a tree: (vi) of Definition 5.2, "boxes one to five", and the limits
 abbrev pub Sees : Element → Element → Type 0
@@ -94,14 +95,24 @@ two-places t k [] p i j h q = absurd (omega arith)
 two-places t k (e ∷ es) p zero zero h q = absurd (omega arith)
 two-places t k (e ∷ es) p zero (suc j) h q =
     let r = at-place t (cond (isBe (e .sort)) (suc k) k) es j (omega arith) in
-    record { e = e; d = r .e; n = k; l = r .n; first = refl; second = r .comp; sees = p .0 (r .e) (r .listed); later = λ b. behind-be (e .sort) k (r .n) b (r .from) }
+    record {
+      e = e;
+      d = r .e;
+      n = k;
+      l = r .n;
+      first = refl;
+      second = r .comp;
+      sees = p .0 (r .e) (r .listed);
+      later = λ b. behind-be (e .sort) k (r .n) b (r .from);
+    }
 two-places t k (e ∷ es) p (suc i) zero h q = absurd (omega arith)
 two-places t k (e ∷ es) p (suc i) (suc j) h q =
     let r = two-places t (cond (isBe (e .sort)) (suc k) k) es (p .1) i j (omega arith) (omega arith) in
     record { e = r .e; d = r .d; n = r .n; l = r .l; first = r .first; second = r .second; sees = r .sees; later = r .later }
 
 -- ---- 10 to 14
-pub sound-of : (t : Tree) → Good t → (q : Sort) (n : ℕ) (e : Element) → e .sort ≡ q → In e t → (isBe q ≡ true → 2 * n + 1 < maxClocks) → Sound (moduleFor q t n e)
+pub sound-of : (t : Tree) → Good t → (q : Sort) (n : ℕ) (e : Element) → e .sort ≡ q → In e t → (isBe q ≡ true → 2 * n + 1 < maxClocks)
+    → Sound (moduleFor q t n e)
 sound-of t g be-sort n e w m h = be-is-sound t n e (g .ascends) m w (g .few) (h refl)
 sound-of t g and-sort n e w m h = and-is-sound t e
 sound-of t g or-sort n e w m h = or-is-sound t e
@@ -109,7 +120,8 @@ sound-of t g pand-sort n e w m h = pand-is-sound t e
 sound-of t g rbox-sort n e w m h = box-is-sound t e (g .boxes e m)
 
 module _ (t : Tree) (g : Good t) where
-  sound-at : (i : ℕ) → (h : i < length (componentsFrom t 0 t)) → Sound (moduleFor (at-place t 0 t i h .e .sort) t (at-place t 0 t i h .n) (at-place t 0 t i h .e))
+  sound-at : (i : ℕ) → (h : i < length (componentsFrom t 0 t))
+      → Sound (moduleFor (at-place t 0 t i h .e .sort) t (at-place t 0 t i h .n) (at-place t 0 t i h .e))
   sound-at i h = let p = at-place t 0 t i h in sound-of t g (p .e .sort) (p .n) (p .e) refl (p .listed) (λ b. omega (arith, p .below b, g .clocks))
 
   pub every-component-conforms : Conforming (treeModel t)
@@ -168,7 +180,8 @@ module _ (m : Module) where
   unfolding compBy
   in-alphabet a h = ⊎-elim
       (λ p. ⊎-elim (some-of isIn refl) (some-of isUin refl) (in-or (those (λ a. isIn (m .kind a)) maxActions) (those (λ a. isUin (m .kind a)) maxActions) a p))
-      (λ p. ⊎-elim (some-of isOut refl) (some-of isUout refl) (in-or (those (λ a. isOut (m .kind a)) maxActions) (those (λ a. isUout (m .kind a)) maxActions) a p))
+      (λ p. ⊎-elim (some-of isOut refl) (some-of isUout refl)
+      (in-or (those (λ a. isOut (m .kind a)) maxActions) (those (λ a. isUout (m .kind a)) maxActions) a p))
       (in-or (inputs (compBy m)) (outputs (compBy m)) a h)
     where
       go : (g : Option Kind → Bool) → g none ≡ false → (o : Option Kind) → m .kind a ≡ o → g o ≡ true → (k : Kind) × (m .kind a ≡ some k)
@@ -182,8 +195,12 @@ module _ (m : Module) where
   unfolding compBy
   urgent-in a in-kind h w u = absurd (false≢true u)
   urgent-in a out-kind h w u = absurd (false≢true u)
-  urgent-in a uin-kind h w u = or-in-l (those (λ a. isUin (m .kind a)) maxActions) (those (λ a. isUout (m .kind a)) maxActions) a (those-in (λ a. isUin (m .kind a)) maxActions a h (ap isUin w))
-  urgent-in a uout-kind h w u = or-in-r (those (λ a. isUin (m .kind a)) maxActions) (those (λ a. isUout (m .kind a)) maxActions) a (those-in (λ a. isUout (m .kind a)) maxActions a h (ap isUout w))
+  urgent-in a uin-kind h w u =
+      or-in-l (those (λ a. isUin (m .kind a)) maxActions) (those (λ a. isUout (m .kind a)) maxActions) a
+      (those-in (λ a. isUin (m .kind a)) maxActions a h (ap isUin w))
+  urgent-in a uout-kind h w u =
+      or-in-r (those (λ a. isUin (m .kind a)) maxActions) (those (λ a. isUout (m .kind a)) maxActions) a
+      (those-in (λ a. isUout (m .kind a)) maxActions a h (ap isUout w))
 
 -- ---- 15 to 17
 same-meaning : (t : Tree) (a : ℕ) {x y : Meaning} → meaningOf t a ≡ some x → meaningOf t a ≡ some y → x ≡ y
@@ -198,14 +215,20 @@ one-owner e d x s (repairs p b q) (repairs r c w) = s .1 b c (x .of) q w
 -- the clocks of an element
 clocks-of : (q : Sort) (t : Tree) (n : ℕ) (e : Element) (x : ℕ) → x ∈ compBy (moduleFor q t n e) .clocks → (isBe q ≡ true) × (2 * n ≤ x) × (x ≤ 2 * n + 1)
 unfolding compBy beModule countModule pandModule boxModule clockless
-clocks-of be-sort t n e x h = ⊎-elim (λ p. let w = one-in (2 * n) x p in (refl, omega (arith, w), omega (arith, w))) (λ p. let w = one-in (2 * n + 1) x p in (refl, omega (arith, w), omega (arith, w))) (in-or (only (2 * n)) (only (2 * n + 1)) x h)
+clocks-of be-sort t n e x h =
+    ⊎-elim (λ p. let w = one-in (2 * n) x p in (refl, omega (arith, w), omega (arith, w))) (λ p. let w = one-in (2 * n + 1) x p in (
+      refl,
+      omega (arith, w),
+      omega (arith, w),
+    )) (in-or (only (2 * n)) (only (2 * n + 1)) x h)
 clocks-of and-sort t n e x h = absurd (none-in x h)
 clocks-of or-sort t n e x h = absurd (none-in x h)
 clocks-of pand-sort t n e x h = absurd (none-in x h)
 clocks-of rbox-sort t n e x h = absurd (none-in x h)
 
 -- urgency is the signal's
-urgent-too : (t : Tree) (e d : Element) (n l a : ℕ) → a ∈ urgents (compBy (moduleFor (e .sort) t n e)) → a ∈ alphabet (autoOf (compBy (moduleFor (d .sort) t l d))) → a ∈ urgents (compBy (moduleFor (d .sort) t l d))
+urgent-too : (t : Tree) (e d : Element) (n l a : ℕ) → a ∈ urgents (compBy (moduleFor (e .sort) t n e))
+    → a ∈ alphabet (autoOf (compBy (moduleFor (d .sort) t l d))) → a ∈ urgents (compBy (moduleFor (d .sort) t l d))
 urgent-too t e d n l a h i =
     let p = in-urgents (moduleFor (e .sort) t n e) a h in
     let q = in-alphabet (moduleFor (d .sort) t l d) a i in
@@ -214,7 +237,8 @@ urgent-too t e d n l a h i =
     let z : urgentSignal (w .x .signal) ≡ urgentSignal (v .x .signal) = ap (λ x. urgentSignal (x .signal)) (same-meaning t a (w .means) (v .means)) in
     urgent-in (moduleFor (d .sort) t l d) a (q .0) (q .2) (q .1) (w .part .urgency ∙ z ∙ sym (v .part .urgency) ∙ p .2)
 
-compatible : (t : Tree) (e d : Element) (n l : ℕ) → Sees e d → (isBe (e .sort) ≡ true → n < l) → Compatible (autoOf (compBy (moduleFor (e .sort) t n e))) (autoOf (compBy (moduleFor (d .sort) t l d)))
+compatible : (t : Tree) (e d : Element) (n l : ℕ) → Sees e d → (isBe (e .sort) ≡ true → n < l)
+    → Compatible (autoOf (compBy (moduleFor (e .sort) t n e))) (autoOf (compBy (moduleFor (d .sort) t l d)))
 compatible t e d n l s r = record {
   outputs = λ a h i.
       let p = in-outputs (moduleFor (e .sort) t n e) a h in

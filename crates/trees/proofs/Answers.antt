@@ -1,16 +1,16 @@
 -- Every answer to a tree's text is the one that the definitions as relations have, and there is no other.
 use mathlib.Core.Path.{_≡_, refl, sym, _∙_, ap, ap₂, subst}
-use mathlib.Core.Logic.{_⊎_, inl, inr, _↔_, ⊎-elim}
+use mathlib.Core.Logic.{_⊎_, inl, inr, _↔_}
 use mathlib.Core.Option.{Option, none, some, Option·some-inj}
-use mathlib.Core.Bool.{Bool, true, false, false≢true, true≢false, not, _&&_}
-use mathlib.Core.List.{List, [], _∷_, _++_, append-assoc, head-eq-of-cons-eq, tail-eq-of-cons-eq, List·Memᴰ as In, List·Memᴰ·head as here, List·Memᴰ·tail as there, List·Memᴰ·not-nil as in-none}
-use Prim.Native.Nat.{ℕ, zero, suc, _+_, _*_, _≤_, _<_}
+use mathlib.Core.Bool.{Bool, true, false, true≢false, not}
+use mathlib.Core.List.{List, [], _∷_, _++_, head-eq-of-cons-eq, tail-eq-of-cons-eq, List·Memᴰ as In, List·Memᴰ·head as here}
+use mathlib.Core.List.{List·Memᴰ·tail as there, List·Memᴰ·not-nil as in-none}
+use Prim.Native.Nat.{ℕ, suc, _+_, _*_}
 use native.Mathlib.Omega.{arith}
-use lib.ListN.{length, length-append}
+use lib.ListN.{length}
 use lib.Dec.{leb}
 use borrow.Author.Tests.{leb-true, le-leb}
 use Rattle.laws.specs.Search.{when, isSome, mapSome}
-use Rattle.laws.specs.Lowest.{Lowest}
 use Rattle.laws.proofs.SearchLaws.{no-some}
 use Rattle.laws.proofs.TestLaws.{and-true, not-so}
 use Rattle.answer.specs.Limits.{maxComponents, maxRows, maxActions, maxClocks, maxBytes}
@@ -19,13 +19,14 @@ use Rattle.model.specs.Model.{Model, rowCount}
 use Rattle.model.specs.Text.{textOf}
 use Rattle.trees.specs.Tree.{Element, Tree, bes, meanings}
 use Rattle.trees.specs.Modules.{treeModel}
-use Rattle.trees.specs.TreeText.{numbersOf, treeText, columnOf, linesFrom, lineOf, unknown, someOf, unknownFrom, unless, allKnown, treeOf}
-use Rattle.trees.specs.Conditions.{Broken, Proper, conditionOf}
+use Rattle.trees.specs.TreeText.{numbersOf, columnOf, linesFrom, lineOf, unknown, someOf, unknownFrom, unless, allKnown, treeOf}
+use Rattle.trees.specs.Conditions.{Proper, conditionOf}
 use Rattle.trees.specs.ReadTree.{InLimits, fitting, conditionTold, limitTold, modelled, readTreeOf}
-use Rattle.trees.specs.TreeFaults.{LineFault, LineFaultAt, FirstNumber, Drawn, Known, UnknownAt, AllKnown, TextOf, TreeAnswer, is-fault, is5, is47, is48, is-model}
+use Rattle.trees.specs.TreeFaults.{FirstNumber, Drawn, Known, UnknownAt, AllKnown, TextOf, TreeAnswer, is-fault, is5}
+use Rattle.trees.specs.TreeFaults.{is47, is48, is-model}
 use Rattle.trees.proofs.Lookup.{some-of-in, none-of, line-in, in-line}
 use Rattle.trees.proofs.FirstNumber.{first-number, one-first-number}
-use Rattle.trees.proofs.Faults.{Ends, as-tree, at-fault, text-ends, fault-read, tree-lines, fault-number}
+use Rattle.trees.proofs.Faults.{Ends, as-tree, at-fault, text-ends, fault-read, tree-lines}
 use Rattle.trees.proofs.Broken.{condition-exactly, proper-exactly}
 
 -- ---- 5
@@ -71,7 +72,8 @@ record Found (t : Tree) (n : ℕ) (es : Tree) (f : Told) : Type 0 where
   told : f ≡ tell 5 ((n + length before) ∷ column ∷ [])
 
 module _ (t : Tree) (d : Drawn t) where
-  unknown-here : (n : ℕ) (e : Element) (es : Tree) → someOf (unknown t) (numbersOf e) ≡ true → unknownFrom t n (e ∷ es) ≡ some (tell 5 (n ∷ columnOf (unknown t) e ∷ []))
+  unknown-here : (n : ℕ) (e : Element) (es : Tree) → someOf (unknown t) (numbersOf e) ≡ true
+      → unknownFrom t n (e ∷ es) ≡ some (tell 5 (n ∷ columnOf (unknown t) e ∷ []))
   unfolding unknownFrom
   unknown-here n e es h = rw (h, unknownFrom)
 
@@ -116,7 +118,8 @@ module _ (t : Tree) (d : Drawn t) where
             told = r .told ∙ ap (λ k. tell 5 (k ∷ r .column ∷ [])) (let y : suc n + length (r .before) ≡ n + suc (length (r .before)) = omega arith in y);
           }
         where
-          known-too : (r : Found t (suc n) es f) → someOf (unknown t) (numbersOf e) ≡ false → (x : Element) → In x (e ∷ r .before) → (v : ℕ) → In v (x .ins) → Known t v
+          known-too : (r : Found t (suc n) es f) → someOf (unknown t) (numbersOf e) ≡ false → (x : Element) → In x (e ∷ r .before) → (v : ℕ)
+              → In v (x .ins) → Known t v
           known-too r q x (here z) v i = line-known e q v (subst (λ (y : Element). In v (y .ins)) z i)
           known-too r q x (there m) v i = r .known x m v i
 
@@ -177,7 +180,8 @@ limits-exactly t = (
 tree-or-fault : (text : List ℕ) (a : Answer Model) → modelled (allKnown (linesFrom (length text) 1 0 text)) ≡ a → TreeAnswer text a
 tree-or-fault text a e = go (linesFrom (length text) 1 0 text) (text-ends text) e
   where
-    limited : (t : Tree) → TextOf text t → AllKnown t → Proper t → (b : Bool) → fitting t ≡ b → unless (when (not b) limitTold) (answered (treeModel t)) ≡ a → TreeAnswer text a
+    limited : (t : Tree) → TextOf text t → AllKnown t → Proper t → (b : Bool) → fitting t ≡ b
+        → unless (when (not b) limitTold) (answered (treeModel t)) ≡ a → TreeAnswer text a
     limited t w k p true q e = subst (TreeAnswer text) e (is-model w k p (limits-exactly t .0 q))
     limited t w k p false q e = subst (TreeAnswer text) e (is48 w k p (λ l. true≢false (sym (limits-exactly t .1 l) ∙ q)))
 
@@ -195,7 +199,8 @@ tree-or-fault text a e = go (linesFrom (length text) 1 0 text) (text-ends text) 
     go : (l : Answer Tree) → Ends text 0 text l → modelled (allKnown l) ≡ a → TreeAnswer text a
     go l (at-fault f q) e = subst (TreeAnswer text) (ap (λ x. modelled (allKnown x)) (sym q) ∙ e) (is-fault f)
     go l (as-tree t b fits range up q) e =
-        named t (record { drawn = record { fits = fits; in-range = range; ascends = up }; bytes = sym b }) (unknownFrom t 1 t) refl (ap (λ x. modelled (allKnown x)) (sym q) ∙ e)
+        named t (record { drawn = record { fits = fits; in-range = range; ascends = up }; bytes = sym b }) (unknownFrom t 1 t) refl
+        (ap (λ x. modelled (allKnown x)) (sym q) ∙ e)
 
 -- the text of a tree without a fault of a line
 of-tree : (text : List ℕ) (t : Tree) → TextOf text t → readTreeOf text ≡ modelled (unless (unknownFrom t 1 t) (answered t))
@@ -210,10 +215,12 @@ of-known : (text : List ℕ) (t : Tree) → TextOf text t → AllKnown t
     → readTreeOf text ≡ unless (mapSome conditionTold (conditionOf t)) (unless (when (not (fitting t)) limitTold) (answered (treeModel t)))
 of-known text t w k = of-tree text t w ∙ ap (λ o. modelled (unless o (answered t))) (none-unknown text t w k (unknownFrom t 1 t) refl)
 
-of-proper : (text : List ℕ) (t : Tree) → TextOf text t → AllKnown t → Proper t → readTreeOf text ≡ unless (when (not (fitting t)) limitTold) (answered (treeModel t))
+of-proper : (text : List ℕ) (t : Tree) → TextOf text t → AllKnown t → Proper t → readTreeOf text ≡ unless (when (not (fitting t)) limitTold)
+    (answered (treeModel t))
 of-proper text t w k p =
     of-known text t w k
-    ∙ ap (λ o. unless (mapSome conditionTold o) (unless (when (not (fitting t)) limitTold) (answered (treeModel t)))) (proper-exactly t (w .drawn .ascends) (w .drawn .in-range) k .1 p)
+    ∙ ap (λ o. unless (mapSome conditionTold o) (unless (when (not (fitting t)) limitTold) (answered (treeModel t))))
+    (proper-exactly t (w .drawn .ascends) (w .drawn .in-range) k .1 p)
 
 -- two first lines with an unknown input are one
 same-unknown : (t : Tree) → Drawn t → {j k c d : ℕ} → UnknownAt t j c → UnknownAt t k d → (j ≡ k) × (c ≡ d)
@@ -223,7 +230,8 @@ same-unknown t w a b = (
 )
   where
     -- the lines that both have
-    same : (p q : Tree) (x y : Element) (r s : Tree) {c d : ℕ} → p ++ x ∷ r ≡ q ++ y ∷ s → ((e : Element) → In e (p ++ x ∷ r) → In e t) → ((e : Element) → In e (q ++ y ∷ s) → In e t)
+    same : (p q : Tree) (x y : Element) (r s : Tree) {c d : ℕ} → p ++ x ∷ r ≡ q ++ y ∷ s → ((e : Element) → In e (p ++ x ∷ r) → In e t)
+        → ((e : Element) → In e (q ++ y ∷ s) → In e t)
         → FirstNumber (Known t) x c → FirstNumber (Known t) y d
         → ((e : Element) → In e p → (v : ℕ) → In v (e .ins) → Known t v) → ((e : Element) → In e q → (v : ℕ) → In v (e .ins) → Known t v) → (p ≡ q) × (x ≡ y)
     same [] [] x y r s e m n f g k l = (refl, head-eq-of-cons-eq e)
@@ -263,7 +271,8 @@ pub tree-answers-exactly : (text : List ℕ) (a : Answer Model) → (readTreeOf 
 unfolding readTreeOf treeOf
 tree-answers-exactly text a = (λ e. tree-or-fault text a e, λ x. answer-read text x)
 
--- a text is read as t exactly if it is the text of t, t's numbers ascend below 64, its lines have as many inputs as they may, and each input is known; so a tree has one text
+-- a text is read as t exactly if it is the text of t, t's numbers ascend below 64, its lines have as many inputs as they may, and each input is
+-- known; so a tree has one text
 pub tree-read-exactly : (text : List ℕ) (t : Tree) → (treeOf text ≡ answered t) ↔ (TextOf text t × AllKnown t)
 unfolding treeOf
 tree-read-exactly text t = (λ e. to (linesFrom (length text) 1 0 text) (text-ends text) e, λ p. back (p .0) (p .1))

@@ -4,7 +4,7 @@ use mathlib.Core.Logic.{_⊎_, inl, inr, ⊎-elim}
 use mathlib.Core.Option.{Option, none, some, Option·some-inj}
 use mathlib.Core.Bool.{Bool, true, false, false≢true, true≢false, cond}
 use mathlib.Core.List.{List, [], _∷_, _++_, List·Memᴰ as In, List·Memᴰ·head as here, List·Memᴰ·tail as there, Memᴰ·append-left as in-left}
-use Prim.Native.Nat.{ℕ, zero, suc, _+_, _*_, _-_, _/_, _%_, _^_, _≤_, _<_}
+use Prim.Native.Nat.{ℕ, suc, _+_, _*_, _/_, _%_, _≤_, _<_}
 use native.Mathlib.Omega.{arith}
 use lib.Bits.{or-lt}
 use lib.Pow.{pow-lt}
@@ -14,13 +14,12 @@ use borrow.Author.Tests.{eqb-true, eq-eqb}
 use Rattle.laws.specs.Sets.{has, _∪_, _∖_, only, _∈_, _⊆_}
 use Rattle.laws.specs.Search.{when, mapSome}
 use Rattle.laws.proofs.SearchLaws.{no-some}
-use Rattle.laws.proofs.SetLaws.{or-in-l, or-in-r, in-or, in-one, one-in, none-in, without-in}
+use Rattle.laws.proofs.SetLaws.{or-in-l, or-in-r, in-one, one-in, none-in, without-in}
 use Rattle.laws.proofs.TestLaws.{not-so}
-use Rattle.answer.specs.Limits.{maxActions, maxClocks, maxStates}
-use Rattle.model.specs.Text.{Kind, in-kind, out-kind, uin-kind, uout-kind}
+use Rattle.answer.specs.Limits.{maxActions, maxClocks}
 use Rattle.model.specs.Model.{guardSet}
-use Rattle.trees.specs.Module.{Move, Module, isIn, isOut, isUin, isUout, Sound}
-use Rattle.trees.specs.Tree.{Sort, be-sort, Element, Tree, Signal, fl, up, f, u, r, Meaning, boxed, signalsOf, meanings, meaningOf}
+use Rattle.trees.specs.Module.{Move, isIn, isOut, isUin, Sound}
+use Rattle.trees.specs.Tree.{be-sort, Element, Tree, Signal, fl, up, f, u, r, Meaning, boxed, signalsOf, meanings, meaningOf}
 use Rattle.trees.specs.Modules.{plainMove, beState, beKind, beMove, beRole, ofMeaning, bound, beModule}
 use Rattle.trees.proofs.Numbers.{Ascends, one-number, has-number}
 
@@ -50,7 +49,8 @@ rest-of s b h = omega arith
 
 module _ (k signal broken : ℕ) where
   -- a move with no clock to a state with the same value of broken
-  still : (x : Signal) (t : ℕ) → isOut (some (beKind x)) ≡ false → (signal < 3 → broken < 3 → t < 9) → (signal < 3 → broken < 3 → t % 3 ≡ broken) → Deed k signal broken x (plainMove t)
+  still : (x : Signal) (t : ℕ) → isOut (some (beKind x)) ≡ false → (signal < 3 → broken < 3 → t < 9) → (signal < 3 → broken < 3 → t % 3 ≡ broken)
+      → Deed k signal broken x (plainMove t)
   still x t c b h = record {
     below = b;
     resets = λ y i. absurd (none-in y i);
@@ -97,7 +97,8 @@ module _ (k signal broken : ℕ) where
   deed u v e = let p = when-some (eqb signal 2) _ e in rw (← p .1) (still u (beState 0 broken) refl (λ a b. omega arith) (λ a b. rest-of 0 broken b))
   deed r v e = go (eqb broken 1) (Option·some-inj .0 e)
     where
-      go : (b : Bool) → cond b (record { guard = 0; resets = only (2 * k + 1); target = beState signal 2 }) (plainMove (beState signal broken)) ≡ v → Deed k signal broken r v
+      go : (b : Bool) → cond b (record { guard = 0; resets = only (2 * k + 1); target = beState signal 2 }) (plainMove (beState signal broken)) ≡ v
+          → Deed k signal broken r v
       go true w = rw (← w) begins
       go false w = rw (← w) (still r (beState signal broken) refl (λ a b. omega arith) (λ a b. rest-of signal broken b))
 
@@ -122,11 +123,13 @@ module _ (t : Tree) (k : ℕ) (e : Element) where
   kind-of a x h = rw h
 
   -- a role is a meaning of this element
-  role-meaning : (a : ℕ) (x : Signal) → ofMeaning (beRole e) (meaningOf t a) ≡ some x → (y : Meaning) × (meaningOf t a ≡ some y) × (y .of ≡ e .number) × (y .signal ≡ x)
+  role-meaning : (a : ℕ) (x : Signal) → ofMeaning (beRole e) (meaningOf t a) ≡ some x → (y : Meaning) × (meaningOf t a ≡ some y) × (y .of ≡ e .number)
+      × (y .signal ≡ x)
   unfolding beRole
   role-meaning a x h = go (meaningOf t a) refl h
     where
-      go : (o : Option Meaning) → meaningOf t a ≡ o → ofMeaning (λ y. when (eqb (y .of) (e .number)) (y .signal)) o ≡ some x → (y : Meaning) × (meaningOf t a ≡ some y) × (y .of ≡ e .number) × (y .signal ≡ x)
+      go : (o : Option Meaning) → meaningOf t a ≡ o → ofMeaning (λ y. when (eqb (y .of) (e .number)) (y .signal)) o ≡ some x
+          → (y : Meaning) × (meaningOf t a ≡ some y) × (y .of ≡ e .number) × (y .signal ≡ x)
       go none i h = absurd (no-some refl h)
       go (some y) i h = let p = when-some (eqb (y .of) (e .number)) (y .signal) h in (y, i, eqb-true (y .of) (e .number) (p .0), p .1)
 
@@ -160,14 +163,16 @@ module _ (t : Tree) (k : ℕ) (e : Element) where
       go (some r) h = false≢true h
 
 -- the clock tells the signal
-clock-of : (k signal broken : ℕ) (x : Signal) (v : Move) (c : ℕ) → beMove k signal broken x ≡ some v → v .guard ≡ suc c → ((x ≡ fl) × (c ≡ 2 * k)) ⊎ ((x ≡ up) × (c ≡ 2 * k + 1))
+clock-of : (k signal broken : ℕ) (x : Signal) (v : Move) (c : ℕ) → beMove k signal broken x ≡ some v → v .guard ≡ suc c
+    → ((x ≡ fl) × (c ≡ 2 * k)) ⊎ ((x ≡ up) × (c ≡ 2 * k + 1))
 clock-of k signal broken fl v c e g = let p = when-some (eqb broken 0) _ e in inl (refl, omega (arith, g, ap (λ w. w .guard) (p .1)))
 clock-of k signal broken up v c e g = let p = when-some (eqb broken 2) _ e in inr (refl, omega (arith, g, ap (λ w. w .guard) (p .1)))
 clock-of k signal broken f v c e g = let p = when-some (eqb signal 1) _ e in absurd (omega (arith, g, ap (λ w. w .guard) (p .1)))
 clock-of k signal broken u v c e g = let p = when-some (eqb signal 2) _ e in absurd (omega (arith, g, ap (λ w. w .guard) (p .1)))
 clock-of k signal broken r v c e g = absurd (omega (arith, g, deed k signal broken r v e .plain refl))
 
-clock-tells : (k signal broken : ℕ) (x y : Signal) (v w : Move) (c : ℕ) → beMove k signal broken x ≡ some v → beMove k signal broken y ≡ some w → v .guard ≡ suc c → w .guard ≡ suc c → x ≡ y
+clock-tells : (k signal broken : ℕ) (x y : Signal) (v w : Move) (c : ℕ) → beMove k signal broken x ≡ some v → beMove k signal broken y ≡ some w
+    → v .guard ≡ suc c → w .guard ≡ suc c → x ≡ y
 clock-tells k signal broken x y v w c e h g l =
     ⊎-elim
     (λ p. ⊎-elim (λ q. p .0 ∙ sym (q .0)) (λ q. absurd (omega (arith, p .1, q .1))) (clock-of k signal broken y w c h l))
@@ -182,7 +187,8 @@ own-clocks k broken x h = go (eqb broken 0) (eqb broken 2) h
     go false true h = or-in-r (only (2 * k)) (only (2 * k + 1)) x h
     go false false h = absurd (none-in x h)
 
-module _ (t : Tree) (k : ℕ) (e : Element) (asc : Ascends t) (listed : In e t) (is-be : e .sort ≡ be-sort) (few : length (meanings t) ≤ maxActions) (clocks : 2 * k + 1 < maxClocks) where
+module _ (t : Tree) (k : ℕ) (e : Element) (asc : Ascends t) (listed : In e t) (is-be : e .sort ≡ be-sort) (few : length (meanings t) ≤ maxActions)
+    (clocks : 2 * k + 1 < maxClocks) where
   numbered : (x : Signal) → In x (fl ∷ up ∷ f ∷ u ∷ []) → (a : ℕ) × (a < maxActions) × (ofMeaning (beRole e) (meaningOf t a) ≡ some x)
   numbered x m = let p = has-number t e x listed (among-signals (boxed t (e .number))) in (p .0, omega (arith, p .1), meaning-role t k e (p .0) x (p .2))
     where
@@ -193,14 +199,25 @@ module _ (t : Tree) (k : ℕ) (e : Element) (asc : Ascends t) (listed : In e t) 
       among-signals true = rw is-be (more (fl ∷ up ∷ f ∷ u ∷ []) m)
       among-signals false = rw is-be m
 
-  waiting : (s x : ℕ) → x ∈ awaited k (s % 3) → (a : ℕ) × (v : Move) × (a < maxActions) × (isOut (beModule t k e .kind a) ≡ true) × (beModule t k e .move s a ≡ some v) × (v .guard ≡ suc x)
+  waiting : (s x : ℕ) → x ∈ awaited k (s % 3) → (a : ℕ) × (v : Move) × (a < maxActions) × (isOut (beModule t k e .kind a) ≡ true)
+      × (beModule t k e .move s a ≡ some v) × (v .guard ≡ suc x)
   unfolding beModule
   waiting s x i = go (eqb (s % 3) 0) (eqb (s % 3) 2) refl refl i
     where
       go : (b c : Bool) → eqb (s % 3) 0 ≡ b → eqb (s % 3) 2 ≡ c → x ∈ cond b (only (2 * k)) (cond c (only (2 * k + 1)) 0)
           → (a : ℕ) × (v : Move) × (a < maxActions) × (isOut (beModule t k e .kind a) ≡ true) × (beModule t k e .move s a ≡ some v) × (v .guard ≡ suc x)
-      go true c p q i = let n = numbered fl (here refl) in (n .0, record { guard = suc (2 * k); resets = 0; target = beState 1 1 }, n .1, rw (n .2), rw (n .2, p), ap suc (sym (one-in (2 * k) x i)))
-      go false true p q i = let n = numbered up (there (here refl)) in (n .0, record { guard = suc (2 * k + 1); resets = only (2 * k); target = beState 2 0 }, n .1, rw (n .2), rw (n .2, q), ap suc (sym (one-in (2 * k + 1) x i)))
+      go true c p q i =
+          let n = numbered fl (here refl) in
+          (n .0, record { guard = suc (2 * k); resets = 0; target = beState 1 1 }, n .1, rw (n .2), rw (n .2, p), ap suc (sym (one-in (2 * k) x i)))
+      go false true p q i =
+          let n = numbered up (there (here refl)) in (
+            n .0,
+            record { guard = suc (2 * k + 1); resets = only (2 * k); target = beState 2 0 },
+            n .1,
+            rw (n .2),
+            rw (n .2, q),
+            ap suc (sym (one-in (2 * k + 1) x i)),
+          )
       go false false p q i = absurd (none-in x i)
 
   pub be-is-sound : Sound (beModule t k e)
@@ -208,18 +225,25 @@ module _ (t : Tree) (k : ℕ) (e : Element) (asc : Ascends t) (listed : In e t) 
   be-is-sound = record {
     some-state = omega arith;
     few = omega arith;
-    clocks-below = or-lt maxClocks (only (2 * k)) (only (2 * k + 1)) (pow-lt {i = 2 * k} {j = maxClocks} (omega arith)) (pow-lt {i = 2 * k + 1} {j = maxClocks} clocks);
+    clocks-below =
+        or-lt maxClocks (only (2 * k)) (only (2 * k + 1)) (pow-lt {i = 2 * k} {j = maxClocks} (omega arith))
+        (pow-lt {i = 2 * k + 1} {j = maxClocks} clocks);
     started-own = λ x h. or-in-l (only (2 * k)) (only (2 * k + 1)) x h;
     target-below = λ {s} {a} {v} h m. let p = acts t k e s a m in deed k (s / 3) (s % 3) (p .x) v (p .is-move) .below (omega arith) (omega arith);
     resets-own = λ {s} {a} {v} h m. let p = acts t k e s a m in deed k (s / 3) (s % 3) (p .x) v (p .is-move) .resets;
-    plain = λ {s} {a} {v} h c m. let p = acts t k e s a m in deed k (s / 3) (s % 3) (p .x) v (p .is-move) .plain (sym (ap isOut (kind-of t k e a (p .x) (p .is-role))) ∙ c);
-    clocked = λ {s} {a} {v} h c m. let p = acts t k e s a m in deed k (s / 3) (s % 3) (p .x) v (p .is-move) .clocked (sym (ap isOut (kind-of t k e a (p .x) (p .is-role))) ∙ c);
+    plain =
+        λ {s} {a} {v} h c m. let p = acts t k e s a m in deed k (s / 3) (s % 3) (p .x) v (p .is-move) .plain
+        (sym (ap isOut (kind-of t k e a (p .x) (p .is-role))) ∙ c);
+    clocked =
+        λ {s} {a} {v} h c m. let p = acts t k e s a m in deed k (s / 3) (s % 3) (p .x) v (p .is-move) .clocked
+        (sym (ap isOut (kind-of t k e a (p .x) (p .is-role))) ∙ c);
     one-clock = λ {s} {a} {b} {x} {v} {w} h m n g l.
         let p = acts t k e s a m in
         let q = acts t k e s b n in
         let y = role-meaning t k e a (p .x) (p .is-role) in
         let z = role-meaning t k e b (q .x) (q .is-role) in
-        one-number t asc a b (y .1) (z .1) (y .2 ∙ sym (z .2)) (y .3 ∙ clock-tells k (s / 3) (s % 3) (p .x) (q .x) v w x (p .is-move) (q .is-move) g l ∙ sym (z .3));
+        one-number t asc a b (y .1) (z .1) (y .2 ∙ sym (z .2)) (y .3 ∙ clock-tells k (s / 3) (s % 3) (p .x) (q .x) v w x (p .is-move) (q .is-move) g l
+        ∙ sym (z .3));
     hears = λ {s} {a} h c. absurd (never-in t k e a c);
     hears-urgent = λ {s} {a} h c. heard t k e a s c;
     waits = λ s. awaited k (s % 3);

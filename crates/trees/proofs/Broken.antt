@@ -1,14 +1,14 @@
 -- 47: each test finds its condition broken exactly where it is, so the number told is the lowest condition broken.
 use mathlib.Core.Path.{_≡_, refl, sym, _∙_, ap, subst}
-use mathlib.Core.Logic.{_↔_, _⊎_, inl, inr, ⊎-elim}
+use mathlib.Core.Logic.{_↔_}
 use mathlib.Core.Option.{Option, none, some, Option·some-inj}
 use mathlib.Core.Bool.{Bool, true, false, false≢true, true≢false, _&&_, not, cond}
-use mathlib.Core.List.{List, [], _∷_, List·Memᴰ as In, List·Memᴰ·head as here, List·Memᴰ·tail as there, List·Memᴰ·not-nil as in-none}
+use mathlib.Core.List.{List, [], _∷_, List·Memᴰ as In, List·Memᴰ·head as here}
 use Prim.Native.Nat.{ℕ, zero, suc, _+_, _≤_, _<_}
 use native.Mathlib.Omega.{arith}
 use lib.ListN.{length, getD}
 use lib.Dec.{eqb}
-use borrow.Author.Tests.{eqb-true, eqb-false, eq-eqb, ne-eqb}
+use borrow.Author.Tests.{eqb-true, eq-eqb}
 use Rattle.laws.specs.Sets.{has, _∈_}
 use Rattle.laws.specs.Search.{when, isSome, orElse, any}
 use Rattle.laws.specs.Lowest.{Lowest}
@@ -17,12 +17,14 @@ use Rattle.laws.proofs.SearchLaws.{no-some, any-true, any-false, true-any}
 use Rattle.laws.proofs.TestLaws.{and-true, not-so, apart-cases}
 use Rattle.laws.proofs.ListLaws.{in-at, at-in}
 use Rattle.answer.specs.Limits.{maxElements}
-use Rattle.trees.specs.Tree.{Sort, Element, Tree, isBe, isBox, among}
-use Rattle.trees.specs.TreeText.{lineOf, someOf, numbersOf}
+use Rattle.trees.specs.Tree.{Element, Tree, isBe, isBox, among}
+use Rattle.trees.specs.TreeText.{lineOf, someOf}
 use Rattle.trees.specs.Conditions.{Edge, Acyclic, Top, OneTop, NoneTwice, NoBoxIn, BoxesOfBes, OneBox, Proper, Broken, is1, is2, is3, is4, is5, is6}
-use Rattle.trees.specs.Conditions.{sortIs, insOf, boxAt, beAt, edgesFrom, cyclic, topAt, countFrom, notOneTop, repeats, twiceIn, boxIn, boxOfOther, shared, inTwoBoxes, conditionOf}
-use Rattle.trees.specs.TreeFaults.{Ascending, InRange, AllKnown, Known}
-use Rattle.trees.proofs.Lookup.{some-of-in, in-some-of, none-of, all-not, among-in, in-among, line-in, in-line, one-line, ins-of, sort-of, edge-test, sort-line}
+use Rattle.trees.specs.Conditions.{insOf, boxAt, beAt, edgesFrom, cyclic, topAt, countFrom, notOneTop, repeats, twiceIn, boxIn}
+use Rattle.trees.specs.Conditions.{boxOfOther, shared, inTwoBoxes, conditionOf}
+use Rattle.trees.specs.TreeFaults.{Ascending, InRange, AllKnown}
+use Rattle.trees.proofs.Lookup.{some-of-in, in-some-of, none-of, among-in, in-among, line-in, in-line, one-line, ins-of, sort-of}
+use Rattle.trees.proofs.Lookup.{edge-test, sort-line}
 use Rattle.trees.proofs.Ways.{edges-from, acyclic-exactly}
 
 not-false : (b : Bool) → not b ≡ true → b ≡ false
@@ -40,7 +42,8 @@ module _ (g : ℕ → Bool) where
   count-none zero k e v l h = absurd (omega arith)
   count-none (suc n) k e v l h = go (count-none n (suc k)) (g k) refl e
     where
-      go : (countFrom g n (suc k) ≡ 0 → (v : ℕ) → suc k ≤ v → v < suc k + n → g v ≡ false) → (b : Bool) → g k ≡ b → cond b 1 0 + countFrom g n (suc k) ≡ 0 → g v ≡ false
+      go : (countFrom g n (suc k) ≡ 0 → (v : ℕ) → suc k ≤ v → v < suc k + n → g v ≡ false) → (b : Bool) → g k ≡ b → cond b 1 0 + countFrom g n (suc k)
+          ≡ 0 → g v ≡ false
       go ih true q e = absurd (omega (arith, e))
       go ih false q e = apart-cases v k (λ z. ap g z ∙ q) (λ z. absurd (omega arith)) (λ z. ih (omega (arith, e)) v (omega arith) (omega arith))
 
@@ -61,7 +64,8 @@ module _ (g : ℕ → Bool) where
   count-one zero k e = absurd (omega (arith, e))
   count-one (suc n) k e = go (count-one n (suc k)) (g k) refl e
     where
-      go : (countFrom g n (suc k) ≡ 1 → (v : ℕ) × Alone n (suc k) v) → (b : Bool) → g k ≡ b → cond b 1 0 + countFrom g n (suc k) ≡ 1 → (v : ℕ) × Alone (suc n) k v
+      go : (countFrom g n (suc k) ≡ 1 → (v : ℕ) × Alone n (suc k) v) → (b : Bool) → g k ≡ b → cond b 1 0 + countFrom g n (suc k) ≡ 1
+          → (v : ℕ) × Alone (suc n) k v
       go ih true q e =
           let z : countFrom g n (suc k) ≡ 0 = omega (arith, e) in (
             k,
@@ -69,7 +73,9 @@ module _ (g : ℕ → Bool) where
               from = omega arith;
               below = omega arith;
               has-it = q;
-              only = λ w l h p. apart-cases w k (λ x. x) (λ x. absurd (omega arith)) (λ x. absurd (true≢false (sym p ∙ count-none n (suc k) z w (omega arith) (omega arith))));
+              only =
+                  λ w l h p. apart-cases w k (λ x. x) (λ x. absurd (omega arith))
+                  (λ x. absurd (true≢false (sym p ∙ count-none n (suc k) z w (omega arith) (omega arith))));
             },
           )
       go ih false q e =
@@ -79,7 +85,9 @@ module _ (g : ℕ → Bool) where
               from = let l = r .1 .from in omega arith;
               below = let l = r .1 .below in omega arith;
               has-it = r .1 .has-it;
-              only = λ w l h p. apart-cases w k (λ x. absurd (true≢false (sym p ∙ ap g x ∙ q))) (λ x. absurd (omega arith)) (λ x. r .1 .only w (omega arith) (omega arith) p);
+              only =
+                  λ w l h p. apart-cases w k (λ x. absurd (true≢false (sym p ∙ ap g x ∙ q))) (λ x. absurd (omega arith))
+                  (λ x. r .1 .only w (omega arith) (omega arith) p);
             },
           )
 
@@ -91,7 +99,8 @@ module _ (g : ℕ → Bool) where
       go : (Alone n (suc k) v → countFrom g n (suc k) ≡ 1) → (b : Bool) → g k ≡ b → cond (g k) 1 0 + countFrom g n (suc k) ≡ 1
       go ih true q =
           let z : k ≡ v = a .only k (omega arith) (omega arith) q in
-          let none-else : countFrom g n (suc k) ≡ 0 = none-count n (suc k) (λ w l h. not-so (g w) (λ p. let x = a .only w (omega arith) (omega arith) p in omega (arith, x, z, l))) in
+          let none-else : countFrom g n (suc k) ≡ 0 = none-count n (suc k)
+          (λ w l h. not-so (g w) (λ p. let x = a .only w (omega arith) (omega arith) p in omega (arith, x, z, l))) in
           rw q (omega (arith, none-else))
       go ih false q =
           let ne : k ≡ v → ⊥ = λ z. true≢false (sym (a .has-it) ∙ ap g (sym z) ∙ q) in
@@ -158,7 +167,8 @@ module _ {low : ℕ} (t : Tree) (a : Ascending low t) (r : (e : Element) → In 
   box-line v h = sort-line isBox t v h
 
   -- a test over the lines
-  by-lines : (g : ℕ → Bool) → ((v : ℕ) → g v ≡ true → (e : Element) × In e t × (e .number ≡ v)) → ((e : Element) → In e t → g (e .number) ≡ true → ⊥) → any g maxElements ≡ false
+  by-lines : (g : ℕ → Bool) → ((v : ℕ) → g v ≡ true → (e : Element) × In e t × (e .number ≡ v)) → ((e : Element) → In e t → g (e .number) ≡ true → ⊥)
+      → any g maxElements ≡ false
   by-lines g l h = any-none g maxElements (λ k m e. let p = l k e in h (p .0) (p .1) (subst (λ v. g v ≡ true) (sym (p .2)) e))
 
   at-line : (g : ℕ → Bool) → any g maxElements ≡ false → (e : Element) → In e t → g (e .number) ≡ false
@@ -277,12 +287,17 @@ module _ {low : ℕ} (t : Tree) (a : Ascending low t) (r : (e : Element) → In 
           let x = none-of (λ v. not (beAt t v)) (insOf t (d .number)) q (e .number) (subst (In (e .number)) (sym (ins-of t a d n)) i) in
           sym (be-at e m) ∙ not-not (beAt t (e .number)) x;
     },
-    λ n. by-lines (λ w. boxAt t w && someOf (λ v. not (beAt t v)) (insOf t w)) (λ v h. let b = box-line v (and-true (boxAt t v) _ h .0) in (b .0, b .1, b .2)) (λ e m h.
+    λ n. by-lines (λ w. boxAt t w && someOf (λ v. not (beAt t v)) (insOf t w)) (λ v h. let b = box-line v (and-true (boxAt t v) _ h .0) in (
+      b .0,
+      b .1,
+      b .2,
+    )) (λ e m h.
         let p = and-true (boxAt t (e .number)) _ h in
         let s = some-of-in (λ v. not (beAt t v)) (insOf t (e .number)) (p .1) in
         let i = subst (In (s .0)) (ins-of t a e m) (s .1) in
         let k = known .known e m (s .0) i in
-        let b : beAt t (s .0) ≡ true = ap (beAt t) (sym (k .2)) ∙ be-at (k .0) (k .1) ∙ n .basic (k .0) e (k .1) m (sym (box-at e m) ∙ p .0) (subst (λ x. In x (e .ins)) (sym (k .2)) i) in
+        let b : beAt t (s .0) ≡ true = ap (beAt t) (sym (k .2)) ∙ be-at (k .0) (k .1) ∙ n .basic (k .0) e (k .1) m (sym (box-at e m) ∙ p .0)
+        (subst (λ x. In x (e .ins)) (sym (k .2)) i) in
         true≢false (sym b ∙ not-false (beAt t (s .0)) (s .2))),
   )
     where
@@ -332,7 +347,8 @@ module _ {low : ℕ} (t : Tree) (a : Ascending low t) (r : (e : Element) → In 
           → (w : ℕ) → e .number < d .number → (v : ℕ) → In v (d .ins) → In v (e .ins) → ⊥
       clash h d e m n b c w l v i j =
           let f = at-line (λ w. boxAt t w && any (Clash w) w) h d m in
-          let g : any (Clash (d .number)) (d .number) ≡ true = true-any (Clash (d .number)) (d .number) (e .number) l (both (box-at e n ∙ c) (shares d e m n v i j)) in
+          let g : any (Clash (d .number)) (d .number) ≡ true = true-any (Clash (d .number)) (d .number) (e .number) l
+          (both (box-at e n ∙ c) (shares d e m n v i j)) in
           true≢false (sym (both (box-at d m ∙ b) g) ∙ f)
         where
           both : {x y : Bool} → x ≡ true → y ≡ true → (x && y) ≡ true
@@ -343,7 +359,8 @@ module _ {low : ℕ} (t : Tree) (a : Ascending low t) (r : (e : Element) → In 
   chain a b c d e f = orElse (when a 1) (orElse (when b 2) (orElse (when c 3) (orElse (when d 4) (orElse (when e 5) (when f 6)))))
 
   -- a condition that holds is not broken
-  no-break : (n : ℕ) → (n ≡ 1 → Acyclic t) → (n ≡ 2 → OneTop t) → (n ≡ 3 → NoneTwice t) → (n ≡ 4 → NoBoxIn t) → (n ≡ 5 → BoxesOfBes t) → (n ≡ 6 → OneBox t) → Broken t n → ⊥
+  no-break : (n : ℕ) → (n ≡ 1 → Acyclic t) → (n ≡ 2 → OneTop t) → (n ≡ 3 → NoneTwice t) → (n ≡ 4 → NoBoxIn t) → (n ≡ 5 → BoxesOfBes t)
+      → (n ≡ 6 → OneBox t) → Broken t n → ⊥
   no-break n a b c d e f (is1 q h) = h (a q)
   no-break n a b c d e f (is2 q h) = h (b q)
   no-break n a b c d e f (is3 q h) = h (c q)
@@ -368,27 +385,39 @@ module _ {low : ℕ} (t : Tree) (a : Ascending low t) (r : (e : Element) → In 
   says : (a b c d e f : Bool) → Tests a b c d e f → Says (chain a b c d e f)
   says true b c d e f s = says-some (record {
     here = is1 refl (λ p. true≢false (s .t1 .1 p));
-    before = λ m l. no-break m (λ q. absurd (omega arith)) (λ q. absurd (omega arith)) (λ q. absurd (omega arith)) (λ q. absurd (omega arith)) (λ q. absurd (omega arith)) (λ q. absurd (omega arith));
+    before =
+        λ m l. no-break m (λ q. absurd (omega arith)) (λ q. absurd (omega arith)) (λ q. absurd (omega arith)) (λ q. absurd (omega arith))
+        (λ q. absurd (omega arith)) (λ q. absurd (omega arith));
   })
   says false true c d e f s = says-some (record {
     here = is2 refl (λ p. true≢false (s .t2 .1 p));
-    before = λ m l. no-break m (λ _. s .t1 .0 refl) (λ q. absurd (omega arith)) (λ q. absurd (omega arith)) (λ q. absurd (omega arith)) (λ q. absurd (omega arith)) (λ q. absurd (omega arith));
+    before =
+        λ m l. no-break m (λ _. s .t1 .0 refl) (λ q. absurd (omega arith)) (λ q. absurd (omega arith)) (λ q. absurd (omega arith))
+        (λ q. absurd (omega arith)) (λ q. absurd (omega arith));
   })
   says false false true d e f s = says-some (record {
     here = is3 refl (λ p. true≢false (s .t3 .1 p));
-    before = λ m l. no-break m (λ _. s .t1 .0 refl) (λ _. s .t2 .0 refl) (λ q. absurd (omega arith)) (λ q. absurd (omega arith)) (λ q. absurd (omega arith)) (λ q. absurd (omega arith));
+    before =
+        λ m l. no-break m (λ _. s .t1 .0 refl) (λ _. s .t2 .0 refl) (λ q. absurd (omega arith)) (λ q. absurd (omega arith))
+        (λ q. absurd (omega arith)) (λ q. absurd (omega arith));
   })
   says false false false true e f s = says-some (record {
     here = is4 refl (λ p. true≢false (s .t4 .1 p));
-    before = λ m l. no-break m (λ _. s .t1 .0 refl) (λ _. s .t2 .0 refl) (λ _. s .t3 .0 refl) (λ q. absurd (omega arith)) (λ q. absurd (omega arith)) (λ q. absurd (omega arith));
+    before =
+        λ m l. no-break m (λ _. s .t1 .0 refl) (λ _. s .t2 .0 refl) (λ _. s .t3 .0 refl) (λ q. absurd (omega arith)) (λ q. absurd (omega arith))
+        (λ q. absurd (omega arith));
   })
   says false false false false true f s = says-some (record {
     here = is5 refl (λ p. true≢false (s .t5 .1 p));
-    before = λ m l. no-break m (λ _. s .t1 .0 refl) (λ _. s .t2 .0 refl) (λ _. s .t3 .0 refl) (λ _. s .t4 .0 refl) (λ q. absurd (omega arith)) (λ q. absurd (omega arith));
+    before =
+        λ m l. no-break m (λ _. s .t1 .0 refl) (λ _. s .t2 .0 refl) (λ _. s .t3 .0 refl) (λ _. s .t4 .0 refl) (λ q. absurd (omega arith))
+        (λ q. absurd (omega arith));
   })
   says false false false false false true s = says-some (record {
     here = is6 refl (λ p. true≢false (s .t6 .1 p));
-    before = λ m l. no-break m (λ _. s .t1 .0 refl) (λ _. s .t2 .0 refl) (λ _. s .t3 .0 refl) (λ _. s .t4 .0 refl) (λ _. s .t5 .0 refl) (λ q. absurd (omega arith));
+    before =
+        λ m l. no-break m (λ _. s .t1 .0 refl) (λ _. s .t2 .0 refl) (λ _. s .t3 .0 refl) (λ _. s .t4 .0 refl) (λ _. s .t5 .0 refl)
+        (λ q. absurd (omega arith));
   })
   says false false false false false false s = says-none (record {
     acyclic = s .t1 .0 refl;

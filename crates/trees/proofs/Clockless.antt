@@ -2,14 +2,14 @@
 use mathlib.Core.Path.{_≡_, refl, sym, _∙_, ap}
 use mathlib.Core.Option.{Option, none, some, Option·some-inj}
 use mathlib.Core.Bool.{Bool, true, false, false≢true}
-use Prim.Native.Nat.{ℕ, zero, suc, _≤_, _<_}
+use Prim.Native.Nat.{ℕ, _≤_, _<_}
 use native.Mathlib.Omega.{arith}
 use Rattle.laws.specs.Search.{mapSome}
 use Rattle.laws.proofs.SearchLaws.{no-some}
 use Rattle.laws.proofs.SetLaws.{none-in}
 use Rattle.answer.specs.Limits.{maxStates}
 use Rattle.model.specs.Text.{Kind}
-use Rattle.trees.specs.Module.{Move, Module, isIn, isOut, isUin, isUout, Sound}
+use Rattle.trees.specs.Module.{Move, isIn, isOut, isUin, Sound}
 use Rattle.trees.specs.Modules.{plainMove, bound, clockless}
 
 -- the move of a role

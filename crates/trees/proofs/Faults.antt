@@ -1,27 +1,29 @@
--- Reading a tree by its faults: 2, 4 or 6 is answered at a line, with its column, exactly when every line before it is faultless and the number is that line's lowest fault;
+-- Reading a tree by its faults: 2, 4 or 6 is answered at a line, with its column, exactly when every line before it is faultless and the number is
+-- that line's lowest fault;
 -- and a text without such a fault is the text of the tree that is read, its numbers ascending.
 use mathlib.Core.Path.{_≡_, refl, sym, _∙_, ap, ap₂, subst}
-use mathlib.Core.Logic.{_⊎_, inl, inr, _↔_, ⊎-elim}
-use mathlib.Core.Option.{Option, none, some, Option·some-inj}
+use mathlib.Core.Logic.{_↔_}
+use mathlib.Core.Option.{none, some}
 use mathlib.Core.Bool.{Bool, true, false, false≢true, true≢false, not, _&&_}
-use mathlib.Core.List.{List, [], _∷_, _++_, cons≢nil, append-nil, map, List·Memᴰ as In, List·Memᴰ·head as here, List·Memᴰ·tail as there, List·Memᴰ·not-nil as in-none}
-use Prim.Native.Nat.{ℕ, zero, suc, _+_, _≤_, _<_}
+use mathlib.Core.List.{List, [], _∷_, _++_, cons≢nil, map, List·Memᴰ as In, List·Memᴰ·head as here, List·Memᴰ·tail as there}
+use mathlib.Core.List.{List·Memᴰ·not-nil as in-none}
+use Prim.Native.Nat.{ℕ, zero, suc, _≤_, _<_}
 use native.Mathlib.Omega.{arith}
 use lib.ListN.{length, length-append}
-use lib.Dec.{eqb, ltb}
+use lib.Dec.{ltb}
 use borrow.Author.Tests.{ltb-true, ltb-false, lt-ltb, le-ltb}
-use Rattle.laws.specs.Search.{when, orElse}
 use Rattle.laws.specs.Lowest.{Lowest}
-use Rattle.laws.proofs.SearchLaws.{no-some}
 use Rattle.laws.proofs.TestLaws.{and-true, not-so, apart-cases}
 use Rattle.answer.specs.Limits.{maxElements}
 use Rattle.answer.specs.Told.{Told, tell, Answer, answered, refused}
 use Rattle.model.specs.Text.{decimal, fieldsAfter}
-use Rattle.model.specs.Reading.{Got, Scan, is, stops, got, exactly, shorter, allBelow, stopColumn}
-use Rattle.model.proofs.Reading.Scans.{is-inj, no-is}
+use Rattle.model.specs.Reading.{Got, Scan, is, stops, got, allBelow, stopColumn}
+use Rattle.model.proofs.Reading.Scans.{is-inj}
 use Rattle.trees.specs.Tree.{Sort, be-sort, and-sort, or-sort, pand-sort, rbox-sort, Element, Tree}
-use Rattle.trees.specs.TreeText.{sortWord, numbersOf, elementText, treeText, sortScan, element, outOfRange, faultOf, columnOf, behindLine, consed, linesFrom}
-use Rattle.trees.specs.TreeFaults.{ElementFits, LineAt, InRange, LineFault, wrong-shape, out-of-range, out-of-order, WrongByte, FirstNumber, Carries, wrong-byte, range-number, line-alone}
+use Rattle.trees.specs.TreeText.{sortWord, numbersOf, elementText, treeText, element, outOfRange, faultOf, behindLine}
+use Rattle.trees.specs.TreeText.{consed, linesFrom}
+use Rattle.trees.specs.TreeFaults.{ElementFits, LineAt, InRange, LineFault, wrong-shape, out-of-range, out-of-order, FirstNumber}
+use Rattle.trees.specs.TreeFaults.{Carries, wrong-byte, range-number, line-alone}
 use Rattle.trees.specs.TreeFaults.{Reaches, first-line, next-line, LineFaultAt, Ascending, Drawn}
 use Rattle.trees.specs.TreeFaults as F
 use Rattle.trees.proofs.Scans.{element-exact, line-exactly, no-line}
@@ -40,7 +42,8 @@ unfolding allBelow
 not-below n [] h = absurd (true≢false h)
 not-below n (y ∷ ys) h = go (not-below n ys) (ltb y n) refl h
   where
-    go : (allBelow n ys ≡ false → (x : ℕ) × In x ys × (ltb x n ≡ false)) → (b : Bool) → ltb y n ≡ b → (b && allBelow n ys) ≡ false → (x : ℕ) × In x (y ∷ ys) × (ltb x n ≡ false)
+    go : (allBelow n ys ≡ false → (x : ℕ) × In x ys × (ltb x n ≡ false)) → (b : Bool) → ltb y n ≡ b → (b && allBelow n ys) ≡ false
+        → (x : ℕ) × In x (y ∷ ys) × (ltb x n ≡ false)
     go ih false q h = (y, here refl, q)
     go ih true q h = let r = ih h in (r .0, there (r .1), r .2)
 
@@ -154,7 +157,8 @@ one-lowest m n a b = apart-cases m n (λ z. z) (λ z. absurd (b .before m z (a .
 same-element : {bs : List ℕ} {d e : Element} {cs ds : List ℕ} → LineAt bs d cs → LineAt bs e ds → d ≡ e
 same-element {bs} {d} {e} {cs} {ds} a b = ap (λ (g : Got Element). g .value) (is-inj (sym (line-exactly bs d cs .1 a) ∙ line-exactly bs e ds .1 b))
 
-same-first : {bs : List ℕ} {d e : Element} {cs ds : List ℕ} {j k : ℕ} → LineAt bs d cs → LineAt bs e ds → FirstNumber (λ v. v < maxElements) d j → FirstNumber (λ v. v < maxElements) e k → j ≡ k
+same-first : {bs : List ℕ} {d e : Element} {cs ds : List ℕ} {j k : ℕ} → LineAt bs d cs → LineAt bs e ds → FirstNumber (λ v. v < maxElements) d j
+    → FirstNumber (λ v. v < maxElements) e k → j ≡ k
 same-first {j = j} l m a b = one-first-number (subst (λ x. FirstNumber (λ v. v < maxElements) x j) (same-element l m) a) b
 
 apart : {P : Type 0} {n : ℕ} (i j : ℕ) → ¬ (i ≡ j) → n ≡ i → n ≡ j → P
@@ -199,7 +203,8 @@ module _ (n low : ℕ) where
   lines-end zero = refl
   lines-end (suc f) = refl
 
-  pub lines-shapeless : (f : ℕ) (bs cs : List ℕ) → ¬ (bs ≡ []) → length bs ≤ f → element bs ≡ stops cs → linesFrom f n low bs ≡ refused (tell 2 (n ∷ stopColumn bs cs ∷ []))
+  pub lines-shapeless : (f : ℕ) (bs cs : List ℕ) → ¬ (bs ≡ []) → length bs ≤ f → element bs ≡ stops cs
+      → linesFrom f n low bs ≡ refused (tell 2 (n ∷ stopColumn bs cs ∷ []))
   unfolding linesFrom
   lines-shapeless f [] cs w l read = absurd (w refl)
   lines-shapeless zero (b ∷ bs) cs w l read = absurd (omega arith)
@@ -251,14 +256,17 @@ fine-line : (low : ℕ) (e : Element) → InRange e → low ≤ e .number → fa
 fine-line low e r l = no-fault low e (not-so (outOfRange e) (λ h. not-in-range e h r)) (le-ltb (e .number) low l)
 
 -- what is refused further on is refused
-reading-goes-on : {text : List ℕ} {k low : ℕ} {bs : List ℕ} {f : Told} → Reaches text k low bs → linesFrom (length bs) k low bs ≡ refused f → linesFrom (length text) 1 0 text ≡ refused f
+reading-goes-on : {text : List ℕ} {k low : ℕ} {bs : List ℕ} {f : Told} → Reaches text k low bs → linesFrom (length bs) k low bs ≡ refused f
+    → linesFrom (length text) 1 0 text ≡ refused f
 reading-goes-on first-line h = h
 reading-goes-on (next-line {k} {low} {bs} {e} {cs} r read range order) h =
-    reading-goes-on r (lines-next k low (length bs) (length cs) bs e cs (omega arith) (omega arith) (line-exactly bs e cs .1 read) (fine-line low e range order) ∙ ap (consed e) h)
+    reading-goes-on r (lines-next k low (length bs) (length cs) bs e cs (omega arith) (omega arith) (line-exactly bs e cs .1 read)
+    (fine-line low e range order) ∙ ap (consed e) h)
 
 -- how reading ends: a tree, or at the first line that has a fault
 pub data Ends (text : List ℕ) (low : ℕ) (bs : List ℕ) (a : Answer Tree) : Type 0 where
-  as-tree : (t : Tree) → bs ≡ treeText t → ((e : Element) → In e t → ElementFits e) → ((e : Element) → In e t → InRange e) → Ascending low t → a ≡ answered t → Ends text low bs a
+  as-tree : (t : Tree) → bs ≡ treeText t → ((e : Element) → In e t → ElementFits e) → ((e : Element) → In e t → InRange e) → Ascending low t
+      → a ≡ answered t → Ends text low bs a
   at-fault : {n k : ℕ} {column : List ℕ} → LineFaultAt text n k column → a ≡ refused (tell n (k ∷ column)) → Ends text low bs a
 
 -- a line in front
@@ -286,7 +294,8 @@ reading-ends (suc f) {text} {k} {low} (b ∷ bs) r l = go (λ j cs r h. reading-
     go : ((j : ℕ) (cs : List ℕ) → Reaches text (suc k) j cs → length cs ≤ f → Ends text j cs (linesFrom f (suc k) j cs)) → Judged low (b ∷ bs)
         → Ends text low (b ∷ bs) (linesFrom (suc f) k low (b ∷ bs))
     go ih (shapeless cs read) =
-        at-fault (faulty 2 (stopColumn (b ∷ bs) cs ∷ []) (lowest-2 low (b ∷ bs) cs read) (carries-2 (b ∷ bs) cs read)) (lines-shapeless k low (suc f) (b ∷ bs) cs cons≢nil l read)
+        at-fault (faulty 2 (stopColumn (b ∷ bs) cs ∷ []) (lowest-2 low (b ∷ bs) cs read) (carries-2 (b ∷ bs) cs read))
+        (lines-shapeless k low (suc f) (b ∷ bs) cs cons≢nil l read)
     go ih (outside e cs read p) =
         at-fault (faulty 4 (behindLine 4 e) (lowest-4 low (b ∷ bs) e cs read p) (carries-4 low (b ∷ bs) e cs read p))
         (lines-fault k low (suc f) (b ∷ bs) e cs 4 l read (fault-4 low e p))
@@ -306,7 +315,8 @@ line-refused : (k low : ℕ) (bs : List ℕ) (n : ℕ) (column : List ℕ) → �
     → linesFrom (length bs) k low bs ≡ refused (tell n (k ∷ column))
 line-refused k low bs n column w h c = go (judge low bs)
   where
-    told : (m : ℕ) (l : List ℕ) → Lowest (LineFault low bs) m → Carries bs m l → _≡_ {A = Answer Tree} (refused (tell m (k ∷ l))) (refused (tell n (k ∷ column)))
+    told : (m : ℕ) (l : List ℕ) → Lowest (LineFault low bs) m → Carries bs m l
+        → _≡_ {A = Answer Tree} (refused (tell m (k ∷ l))) (refused (tell n (k ∷ column)))
     told m l a d =
         let e = one-lowest m n a h in
         ap₂ {C = Answer Tree} (λ m l. refused (tell m (k ∷ l))) e (one-column (subst (λ m. Carries bs m l) e d) c)
@@ -315,9 +325,11 @@ line-refused k low bs n column w h c = go (judge low bs)
     go (shapeless cs read) =
         lines-shapeless k low (length bs) bs cs w (omega arith) read ∙ told 2 (stopColumn bs cs ∷ []) (lowest-2 low bs cs read) (carries-2 bs cs read)
     go (outside e cs read p) =
-        lines-fault k low (length bs) bs e cs 4 (omega arith) read (fault-4 low e p) ∙ told 4 (behindLine 4 e) (lowest-4 low bs e cs read p) (carries-4 low bs e cs read p)
+        lines-fault k low (length bs) bs e cs 4 (omega arith) read (fault-4 low e p) ∙ told 4 (behindLine 4 e) (lowest-4 low bs e cs read p)
+        (carries-4 low bs e cs read p)
     go (unordered e cs read p q) =
-        lines-fault k low (length bs) bs e cs 6 (omega arith) read (fault-6 low e p q) ∙ told 6 (behindLine 6 e) (lowest-6 low bs e cs read p q) (carries-6 low bs e cs read)
+        lines-fault k low (length bs) bs e cs 6 (omega arith) read (fault-6 low e p q) ∙ told 6 (behindLine 6 e) (lowest-6 low bs e cs read p q)
+        (carries-6 low bs e cs read)
     go (faultless e cs read p q) = absurd (none-of-it low bs e cs read n (λ _. range-is e p) (λ _. ltb-false (e .number) low q) (h .here))
 
 -- ---- the whole text

@@ -1,18 +1,17 @@
 -- 4 and 5 tell the first byte of the first number at fault.
 use mathlib.Core.Path.{_≡_, refl, sym, _∙_, ap, subst}
 use mathlib.Core.Logic.{_↔_}
-use mathlib.Core.Bool.{Bool, true, false, false≢true, true≢false, cond}
-use mathlib.Core.List.{List, [], _∷_, _++_, append-assoc, map, head-eq-of-cons-eq, tail-eq-of-cons-eq, List·Memᴰ as In, List·Memᴰ·head as here, List·Memᴰ·tail as there, List·Memᴰ·not-nil as in-none}
-use Prim.Native.Nat.{ℕ, zero, suc, _+_, _≤_, _<_}
+use mathlib.Core.Bool.{Bool, true, false, true≢false}
+use mathlib.Core.List.{List, [], _∷_, _++_, map, head-eq-of-cons-eq, tail-eq-of-cons-eq, List·Memᴰ as In, List·Memᴰ·head as here}
+use mathlib.Core.List.{List·Memᴰ·tail as there, List·Memᴰ·not-nil as in-none}
+use Prim.Native.Nat.{ℕ, suc, _+_}
 use native.Mathlib.Omega.{arith}
 use lib.ListN.{length, length-append}
-use Rattle.laws.proofs.TestLaws.{apart-cases}
-use Rattle.model.specs.Text.{tab, decimal}
+use Rattle.model.specs.Text.{decimal}
 use Rattle.model.specs.Column.{fieldsUpTo}
 use Rattle.trees.specs.Tree.{Element}
-use Rattle.trees.specs.TreeText.{sortWord, numbersOf, someOf, firstBad, columnOf}
+use Rattle.trees.specs.TreeText.{sortWord, numbersOf, firstBad, columnOf}
 use Rattle.trees.specs.TreeFaults.{FirstNumber}
-use Rattle.trees.proofs.Lookup.{some-of-in}
 
 -- the bytes from the first tab on, up to the number behind these, with its tab
 unfoldable width : List ℕ → ℕ
@@ -71,7 +70,8 @@ module _ (Fine : ℕ → Type 0) (bad : ℕ → Bool) (test : (n : ℕ) → (bad
                   fault = r .0 .fault;
                   fine = rest (r .0 .before) (r .0 .fine);
                 },
-                bad-there k n ns q ∙ r .1 ∙ (let z : k + suc (length (decimal n)) + width (r .0 .before) ≡ k + (suc (length (decimal n)) + width (r .0 .before)) = omega arith in z),
+                bad-there k n ns q ∙ r .1 ∙ (let z : k + suc (length (decimal n)) + width (r .0 .before)
+                    ≡ k + (suc (length (decimal n)) + width (r .0 .before)) = omega arith in z),
               )
             where
               rest : (l : List ℕ) → ((y : ℕ) → In y l → Fine y) → (y : ℕ) → In y (n ∷ l) → Fine y
@@ -91,18 +91,24 @@ module _ (Fine : ℕ → Type 0) (bad : ℕ → Bool) (test : (n : ℕ) → (bad
         numbers = s .numbers;
         fault = s .fault;
         fine = s .fine;
-        at = r .1 ∙ (let z : length (sortWord (e .sort)) + 2 + width (s .before) ≡ suc (length (sortWord (e .sort) ++ fieldsUpTo (map decimal (s .before)))) = omega (arith, w, l) in z);
+        at =
+            r .1 ∙ (let z : length (sortWord (e .sort)) + 2 + width (s .before)
+            ≡ suc (length (sortWord (e .sort) ++ fieldsUpTo (map decimal (s .before)))) = omega (arith, w, l) in z);
       }
 
 -- ---- there is one such place
-same-split : (Fine : ℕ → Type 0) (a b : List ℕ) (x y : ℕ) (c d : List ℕ) → a ++ x ∷ c ≡ b ++ y ∷ d → ¬ Fine x → ¬ Fine y → ((n : ℕ) → In n a → Fine n) → ((n : ℕ) → In n b → Fine n) → a ≡ b
+same-split : (Fine : ℕ → Type 0) (a b : List ℕ) (x y : ℕ) (c d : List ℕ) → a ++ x ∷ c ≡ b ++ y ∷ d → ¬ Fine x → ¬ Fine y → ((n : ℕ) → In n a → Fine n)
+    → ((n : ℕ) → In n b → Fine n) → a ≡ b
 same-split Fine [] [] x y c d e p q f g = refl
 same-split Fine [] (z ∷ b) x y c d e p q f g = absurd (p (g x (here (head-eq-of-cons-eq e))))
 same-split Fine (z ∷ a) [] x y c d e p q f g = absurd (q (f y (here (sym (head-eq-of-cons-eq e)))))
 same-split Fine (z ∷ a) (w ∷ b) x y c d e p q f g =
-    ap {B = List ℕ} (λ k. k ∷ a) (head-eq-of-cons-eq e) ∙ ap {B = List ℕ} (λ l. w ∷ l) (same-split Fine a b x y c d (tail-eq-of-cons-eq e) p q (λ n m. f n (there m)) (λ n m. g n (there m)))
+    ap {B =
+    List ℕ} (λ k. k ∷ a) (head-eq-of-cons-eq e) ∙ ap {B = List ℕ} (λ l. w ∷ l) (same-split Fine a b x y c d (tail-eq-of-cons-eq e) p q
+    (λ n m. f n (there m)) (λ n m. g n (there m)))
 
 pub one-first-number : {Fine : ℕ → Type 0} {e : Element} {j k : ℕ} → FirstNumber Fine e j → FirstNumber Fine e k → j ≡ k
 one-first-number {Fine} {e} a b =
-    let s = same-split Fine (a .before) (b .before) (a .number) (b .number) (a .behind) (b .behind) (sym (a .numbers) ∙ b .numbers) (a .fault) (b .fault) (a .fine) (b .fine) in
+    let s = same-split Fine (a .before) (b .before) (a .number) (b .number) (a .behind) (b .behind) (sym (a .numbers) ∙ b .numbers) (a .fault)
+    (b .fault) (a .fine) (b .fine) in
     a .at ∙ ap (λ (l : List ℕ). suc (length (sortWord (e .sort) ++ fieldsUpTo (map decimal l)))) s ∙ sym (b .at)

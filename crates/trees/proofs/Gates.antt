@@ -2,7 +2,7 @@
 use mathlib.Core.Path.{_≡_, refl, sym, _∙_, ap}
 use mathlib.Core.Option.{Option, none, some}
 use mathlib.Core.Bool.{Bool, true, false, false≢true, _&&_, _||_, cond}
-use Prim.Native.Nat.{ℕ, zero, suc, _+_, _/_, _%_, _≤_, _<_}
+use Prim.Native.Nat.{ℕ, _/_, _%_, _≤_, _<_}
 use native.Mathlib.Omega.{arith}
 use lib.Dec.{ltb}
 use borrow.Author.Tests.{ltb-true}
@@ -13,7 +13,8 @@ use Rattle.laws.proofs.SetLaws.{or-left, or-right}
 use Rattle.answer.specs.Limits.{maxStates}
 use Rattle.trees.specs.Module.{isIn, isOut, isUin, Sound}
 use Rattle.trees.specs.Tree.{Element, Tree}
-use Rattle.trees.specs.Modules.{GateRole, own-f, own-u, f0, u0, f1, u1, tick, gateKind, gateRole, pandRole, roleIn, countMove, pandMove, clockless, countModule, pandModule}
+use Rattle.trees.specs.Modules.{GateRole, own-f, own-u, f0, u0, f1, u1, tick, gateKind, gateRole, pandRole, roleIn, countMove, pandMove}
+use Rattle.trees.specs.Modules.{clockless, countModule, pandModule}
 use Rattle.trees.proofs.Clockless.{clockless-is-sound}
 
 -- a move stays among n states
@@ -44,9 +45,24 @@ at-role g e own-f = and-true (g own-f) _ e .0
 at-role g e own-u = let a = and-true (g own-f) _ e .1 in and-true (g own-u) _ a .0
 at-role g e f0 = let a = and-true (g own-f) _ e .1 in let b = and-true (g own-u) _ a .1 in and-true (g f0) _ b .0
 at-role g e u0 = let a = and-true (g own-f) _ e .1 in let b = and-true (g own-u) _ a .1 in let c = and-true (g f0) _ b .1 in and-true (g u0) _ c .0
-at-role g e f1 = let a = and-true (g own-f) _ e .1 in let b = and-true (g own-u) _ a .1 in let c = and-true (g f0) _ b .1 in let d = and-true (g u0) _ c .1 in and-true (g f1) _ d .0
-at-role g e u1 = let a = and-true (g own-f) _ e .1 in let b = and-true (g own-u) _ a .1 in let c = and-true (g f0) _ b .1 in let d = and-true (g u0) _ c .1 in and-true (g u1) _ (and-true (g f1) _ d .1) .0
-at-role g e tick = let a = and-true (g own-f) _ e .1 in let b = and-true (g own-u) _ a .1 in let c = and-true (g f0) _ b .1 in let d = and-true (g u0) _ c .1 in and-true (g u1) _ (and-true (g f1) _ d .1) .1
+at-role g e f1 =
+    let a = and-true (g own-f) _ e .1 in
+    let b = and-true (g own-u) _ a .1 in
+    let c = and-true (g f0) _ b .1 in
+    let d = and-true (g u0) _ c .1 in
+    and-true (g f1) _ d .0
+at-role g e u1 =
+    let a = and-true (g own-f) _ e .1 in
+    let b = and-true (g own-u) _ a .1 in
+    let c = and-true (g f0) _ b .1 in
+    let d = and-true (g u0) _ c .1 in
+    and-true (g u1) _ (and-true (g f1) _ d .1) .0
+at-role g e tick =
+    let a = and-true (g own-f) _ e .1 in
+    let b = and-true (g own-u) _ a .1 in
+    let c = and-true (g f0) _ b .1 in
+    let d = and-true (g u0) _ c .1 in
+    and-true (g u1) _ (and-true (g f1) _ d .1) .1
 
 -- a move stays, and an input has one
 unfoldable good : ℕ → (ℕ → GateRole → Option ℕ) → ℕ → GateRole → Bool

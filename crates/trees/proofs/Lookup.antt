@@ -1,19 +1,19 @@
 -- Looking an element up by its number: where numbers ascend, a line is found by its number, and an edge is a test.
-use mathlib.Core.Path.{_≡_, refl, sym, _∙_, ap, subst}
+use mathlib.Core.Path.{_≡_, refl, sym, _∙_, ap}
 use mathlib.Core.Logic.{_↔_, ⊎-elim}
 use mathlib.Core.Option.{Option, none, some, Option·some-inj}
-use mathlib.Core.Bool.{Bool, true, false, false≢true, true≢false, _||_}
+use mathlib.Core.Bool.{Bool, true, false, false≢true, true≢false}
 use mathlib.Core.List.{List, [], _∷_, List·Memᴰ as In, List·Memᴰ·head as here, List·Memᴰ·tail as there, List·Memᴰ·not-nil as in-none}
-use Prim.Native.Nat.{ℕ, zero, suc, _+_, _≤_, _<_}
+use Prim.Native.Nat.{ℕ, _≤_}
 use native.Mathlib.Omega.{arith}
 use lib.Dec.{eqb}
 use borrow.Author.Tests.{eqb-true, eqb-false, eq-eqb, ne-eqb}
 use Rattle.laws.proofs.SearchLaws.{no-some}
 use Rattle.laws.proofs.SetLaws.{or-cases, or-left, or-right}
 use Rattle.trees.specs.Tree.{Sort, Element, Tree, among}
-use Rattle.trees.specs.TreeText.{lineOf, someOf, numbersOf}
+use Rattle.trees.specs.TreeText.{lineOf, someOf}
 use Rattle.trees.specs.Conditions.{Edge, insBy, sortIs, insOf}
-use Rattle.trees.specs.TreeFaults.{Ascending, no-line, line, Known}
+use Rattle.trees.specs.TreeFaults.{Ascending, no-line, line}
 
 -- ---- one of a list
 module _ (g : ℕ → Bool) where

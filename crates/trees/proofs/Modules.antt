@@ -1,24 +1,23 @@
 -- A sound module is a component that a text can state, and meets (a) to (f).
 use mathlib.Core.Path.{_≡_, refl, sym, _∙_, ap}
-use mathlib.Core.Logic.{_⊎_, inl, inr, ⊎-elim}
+use mathlib.Core.Logic.{⊎-elim}
 use mathlib.Core.Option.{Option, none, some, Option·some-inj}
-use mathlib.Core.Bool.{Bool, true, false, cond, true≢false, false≢true, _||_}
-use mathlib.Core.List.{List, [], _∷_, List·Memᴰ as In, List·Memᴰ·head as here, List·Memᴰ·tail as there, List·Memᴰ·not-nil as in-none}
+use mathlib.Core.Bool.{Bool, true, false, cond, false≢true}
+use mathlib.Core.List.{[], _∷_, List·Memᴰ as In, List·Memᴰ·head as here, List·Memᴰ·tail as there, List·Memᴰ·not-nil as in-none}
 use Prim.Native.Nat.{ℕ, zero, suc, _+_, _^_, _≤_, _<_}
 use native.Mathlib.Omega.{arith}
 use native.Mathlib.Decide.{ℕ-discrete}
 use lib.Bits.{or-lt}
 use lib.Pow.{pow-pos}
-use lib.ListN.{length}
-use Rattle.laws.specs.Sets.{has, _∪_, _∖_, only, _∈_, _⊆_, Apart}
+use Rattle.laws.specs.Sets.{_∪_, _∖_, only, _∈_, _⊆_, Apart}
 use Rattle.laws.specs.Fold.{spread}
 use Rattle.laws.proofs.SetLaws.{in-or, or-in-l, or-in-r, in-one, one-in, none-in}
 use Rattle.laws.proofs.ListLaws.{in-at, at-in, in-spread, spread-in, pairwise-spread, pairwise-next, Pairwise}
-use Rattle.answer.specs.Limits.{maxActions, maxStates}
+use Rattle.answer.specs.Limits.{maxActions}
 use Rattle.model.specs.Text.{Kind, in-kind, out-kind, uin-kind, uout-kind}
-use Rattle.model.specs.Model.{Row, Comp, noRow, rowAt, guardSet, inputs, outputs, urgents, acts}
+use Rattle.model.specs.Model.{Row, Comp, noRow, guardSet, inputs, outputs, urgents, acts}
 use Rattle.model.specs.WellFormed.{WellRow, WellComp, before}
-use Rattle.iosa.specs.Automaton.{Leads, autoOf, Stable, Enabling, Active, Conditions}
+use Rattle.iosa.specs.Automaton.{Leads, autoOf, Enabling, Active, Conditions}
 use Rattle.iosa.proofs.Acceptance.Guards.{guard-in, in-guard}
 use Rattle.iosa.proofs.Acceptance.Order.{lower-less, lower-same}
 use Rattle.merged.proofs.Merging.Ascend.{Before, by-from}
@@ -37,7 +36,8 @@ those-below f (suc n) = go (those-below f n) (f n)
 pub in-those : (f : ℕ → Bool) (n x : ℕ) → x ∈ those f n → (x < n) × (f x ≡ true)
 unfolding those
 in-those f zero x h = absurd (none-in x h)
-in-those f (suc n) x h = ⊎-elim (λ k. here-or (f n) refl k) (λ k. let r = in-those f n x k in (omega (arith, r .0), r .1)) (in-or (cond (f n) (only n) 0) (those f n) x h)
+in-those f (suc n) x h =
+    ⊎-elim (λ k. here-or (f n) refl k) (λ k. let r = in-those f n x k in (omega (arith, r .0), r .1)) (in-or (cond (f n) (only n) 0) (those f n) x h)
   where
     here-or : (b : Bool) → f n ≡ b → x ∈ cond b (only n) 0 → (x < suc n) × (f x ≡ true)
     here-or true e k = let w = one-in n x k in (omega (arith, w), ap f w ∙ e)
@@ -336,8 +336,10 @@ module _ (m : Module) where
   unclocked-kind : (a : ℕ) → a ∈ inputs (compBy m) ∪ urgents (compBy m) → isOut (m .kind a) ≡ false
   unfolding compBy
   unclocked-kind a h = ⊎-elim
-      (λ p. ⊎-elim (λ q. calm-in (m .kind a) (in-those (λ a. isIn (m .kind a)) maxActions a q .1)) (λ q. calm-uin (m .kind a) (in-those (λ a. isUin (m .kind a)) maxActions a q .1)) (in-or (which m isIn) (which m isUin) a p))
-      (λ p. ⊎-elim (λ q. calm-uin (m .kind a) (in-those (λ a. isUin (m .kind a)) maxActions a q .1)) (λ q. calm-uout (m .kind a) (in-those (λ a. isUout (m .kind a)) maxActions a q .1)) (in-or (which m isUin) (which m isUout) a p))
+      (λ p. ⊎-elim (λ q. calm-in (m .kind a) (in-those (λ a. isIn (m .kind a)) maxActions a q .1))
+      (λ q. calm-uin (m .kind a) (in-those (λ a. isUin (m .kind a)) maxActions a q .1)) (in-or (which m isIn) (which m isUin) a p))
+      (λ p. ⊎-elim (λ q. calm-uin (m .kind a) (in-those (λ a. isUin (m .kind a)) maxActions a q .1))
+      (λ q. calm-uout (m .kind a) (in-those (λ a. isUout (m .kind a)) maxActions a q .1)) (in-or (which m isUin) (which m isUout) a p))
       (in-or (inputs (compBy m)) (urgents (compBy m)) a h)
 
   clocked-kind : (a : ℕ) → a ∈ outputs (compBy m) → (a ∈ urgents (compBy m) → ⊥) → isOut (m .kind a) ≡ true
@@ -355,8 +357,11 @@ module _ (m : Module) (o : Sound m) where
   -- two moves from one state by one action are one
   one-move : {s a C R t D Q u : ℕ} → Made m s C a R t → Made m s D a Q u → (C ≡ D) × (R ≡ Q) × (t ≡ u)
   one-move p q =
-      let e = same-move m (p .is-move) (q .is-move) in
-      (sym (p .guard) ∙ ap (λ v. guardSet (v .guard)) e ∙ q .guard, sym (p .resets) ∙ ap (λ v. v .resets) e ∙ q .resets, sym (p .target) ∙ ap (λ v. v .target) e ∙ q .target)
+      let e = same-move m (p .is-move) (q .is-move) in (
+        sym (p .guard) ∙ ap (λ v. guardSet (v .guard)) e ∙ q .guard,
+        sym (p .resets) ∙ ap (λ v. v .resets) e ∙ q .resets,
+        sym (p .target) ∙ ap (λ v. v .target) e ∙ q .target,
+      )
 
   one-row-for-a-clock : (x : ℕ) {s C a R t D b Q u : ℕ} → x ∈ C → x ∈ D → Made m s C a R t → Made m s D b Q u → (C ≡ D) × (a ≡ b) × (R ≡ Q) × (t ≡ u)
   one-row-for-a-clock x {s} {C} {a} {R} {t} {D} {b} {Q} {u} i j p q =
@@ -375,17 +380,21 @@ module _ (m : Module) (o : Sound m) where
   keeps : {s C a R t : ℕ} → Made m s C a R t → o .waits t ⊆ o .waits s ∖ C ∪ R
   keeps {s} {C} {a} {R} {t} p = go (p .move) (p .guard) (p .resets) (p .target) (o .kept (p .s-below) (p .is-move))
     where
-      go : (v : Move) → guardSet (v .guard) ≡ C → v .resets ≡ R → v .target ≡ t → o .waits (v .target) ⊆ o .waits s ∖ guardSet (v .guard) ∪ v .resets → o .waits t ⊆ o .waits s ∖ C ∪ R
+      go : (v : Move) → guardSet (v .guard) ≡ C → v .resets ≡ R → v .target ≡ t → o .waits (v .target) ⊆ o .waits s ∖ guardSet (v .guard) ∪ v .resets
+          → o .waits t ⊆ o .waits s ∖ C ∪ R
       go v e f g h = rw (← e, ← f, ← g) h
 
   heard : (s : ℕ) → s < compBy m .states → (a : ℕ) → a ∈ inputs (compBy m) → (R : ℕ) × (t : ℕ) × Leads (compBy m) s 0 a R t
   unfolding compBy
   heard s hs a h = ⊎-elim
-      (λ p. let z = in-those (λ a. isIn (m .kind a)) maxActions a p in let r = o .hears hs (z .1) in leads (z .0) (some-in (m .kind a) (z .1)) (calm-in (m .kind a) (z .1)) (r .0) (r .1))
-      (λ p. let z = in-those (λ a. isUin (m .kind a)) maxActions a p in let r = o .hears-urgent hs (z .1) in leads (z .0) (some-uin (m .kind a) (z .1)) (calm-uin (m .kind a) (z .1)) (r .0) (r .1))
+      (λ p. let z = in-those (λ a. isIn (m .kind a)) maxActions a p in let r = o .hears hs (z .1) in leads (z .0) (some-in (m .kind a) (z .1))
+      (calm-in (m .kind a) (z .1)) (r .0) (r .1))
+      (λ p. let z = in-those (λ a. isUin (m .kind a)) maxActions a p in let r = o .hears-urgent hs (z .1) in leads (z .0)
+      (some-uin (m .kind a) (z .1)) (calm-uin (m .kind a) (z .1)) (r .0) (r .1))
       (in-or (which m isIn) (which m isUin) a h)
     where
-      leads : a < maxActions → (l : Kind) × (m .kind a ≡ some l) → isOut (m .kind a) ≡ false → (v : Move) → m .move s a ≡ some v → (R : ℕ) × (t : ℕ) × Leads (compBy m) s 0 a R t
+      leads : a < maxActions → (l : Kind) × (m .kind a ≡ some l) → isOut (m .kind a) ≡ false → (v : Move) → m .move s a ≡ some v
+          → (R : ℕ) × (t : ℕ) × Leads (compBy m) s 0 a R t
       leads ha k c v f =
           (v .resets, v .target, without-clock (ap guardSet (o .plain hs c f)) (made-is-lead m s a (k .0) v hs ha (k .1) f))
 
@@ -399,7 +408,8 @@ module _ (m : Module) (o : Sound m) where
     kept = λ l. keeps (lead-is-made m l);
   }
     where
-      enabling : (s x : ℕ) → (a : ℕ) × (v : Move) × (a < maxActions) × (isOut (m .kind a) ≡ true) × (m .move s a ≡ some v) × (v .guard ≡ suc x) → s < m .states → Enabling (autoOf (compBy m)) s x
+      enabling : (s x : ℕ) → (a : ℕ) × (v : Move) × (a < maxActions) × (isOut (m .kind a) ≡ true) × (m .move s a ≡ some v) × (v .guard ≡ suc x)
+          → s < m .states → Enabling (autoOf (compBy m)) s x
       enabling s x p h =
           let k = some-out (m .kind (p .0)) (p .3) in
           record {
@@ -414,7 +424,13 @@ module _ (m : Module) (o : Sound m) where
   pub module-conforms : Conditions (autoOf (compBy m))
   module-conforms = record {
     condA = record { unguarded = λ l h. let p = lead-is-made m l in sym (p .guard) ∙ ap guardSet (o .plain (p .s-below) (unclocked-kind m _ h) (p .is-move)) };
-    condB = record { guarded = λ l h n. let p = lead-is-made m l in let r = o .clocked (p .s-below) (clocked-kind m _ h n) (p .is-move) in (r .0, sym (p .guard) ∙ ap guardSet (r .1)) };
+    condB =
+        record {
+          guarded = λ l h n. let p = lead-is-made m l in let r = o .clocked (p .s-below) (clocked-kind m _ h n) (p .is-move) in (
+            r .0,
+            sym (p .guard) ∙ ap guardSet (r .1),
+          );
+        };
     condC = record { same = λ x i j l q. one-row-for-a-clock x i j (lead-is-made m l) (lead-is-made m q) };
     condD = record { row = heard };
     condE = record { same = λ h l q. one-move (lead-is-made m l) (lead-is-made m q) };

@@ -1,9 +1,10 @@
 -- Every signal has one number: no two places of `meanings` hold the same.
-use mathlib.Core.Path.{_≡_, refl, sym, _∙_, ap}
-use mathlib.Core.Logic.{_⊎_, inl, inr, ⊎-elim}
-use mathlib.Core.Option.{Option, none, some, Option·some-inj}
+use mathlib.Core.Path.{_≡_, refl, sym, ap}
+use mathlib.Core.Logic.{⊎-elim}
+use mathlib.Core.Option.{some, Option·some-inj}
 use mathlib.Core.Bool.{Bool, true, false, _&&_}
-use mathlib.Core.List.{List, [], _∷_, _++_, List·Memᴰ as In, List·Memᴰ·head as here, List·Memᴰ·tail as there, List·Memᴰ·not-nil as in-none, List·Memᴰ·append-cases as append-cases, Memᴰ·append-left as in-left, Memᴰ·append-right as in-right}
+use mathlib.Core.List.{List, [], _∷_, List·Memᴰ as In, List·Memᴰ·head as here, List·Memᴰ·tail as there, List·Memᴰ·not-nil as in-none}
+use mathlib.Core.List.{List·Memᴰ·append-cases as append-cases, Memᴰ·append-left as in-left, Memᴰ·append-right as in-right}
 use Prim.Native.Nat.{ℕ, zero, suc, _+_, _*_, _≤_, _<_}
 use native.Mathlib.Omega.{arith}
 use lib.Dec.{leb}
@@ -12,7 +13,8 @@ use borrow.Author.Tests.{leb-true}
 use Rattle.laws.proofs.TestLaws.{and-true}
 use Rattle.laws.proofs.SearchLaws.{no-some}
 use Rattle.laws.proofs.ListLaws.{Pairwise, pairwise-append}
-use Rattle.trees.specs.Tree.{Sort, be-sort, and-sort, or-sort, pand-sort, rbox-sort, Element, Tree, Signal, fl, up, f, u, r, Meaning, boxed, signalsOf, meant, meaningsFrom, meanings, at, meaningOf}
+use Rattle.trees.specs.Tree.{Sort, be-sort, and-sort, or-sort, pand-sort, rbox-sort, Element, Tree, Signal, fl, up, f, u, r, Meaning, boxed}
+use Rattle.trees.specs.Tree.{signalsOf, meant, meaningsFrom, meanings, at, meaningOf}
 
 -- "number 0 to 63 ascending"
 abbrev pub Ascends : List Element → Type 0
@@ -106,9 +108,11 @@ one-place (z ∷ zs) p zero (suc n) {x} {y} e g k = absurd (omega (arith, p .0 y
 one-place (z ∷ zs) p (suc m) zero {x} {y} e g k = absurd (omega (arith, p .0 x (at-member zs m e), k, ap keyOf (Option·some-inj .0 g)))
 one-place (z ∷ zs) p (suc m) (suc n) e g k = ap suc (one-place zs (p .1) m n e g k)
 
-pub one-number : (t : Tree) → Ascends t → (a b : ℕ) {x y : Meaning} → meaningOf t a ≡ some x → meaningOf t b ≡ some y → x .of ≡ y .of → x .signal ≡ y .signal → a ≡ b
+pub one-number : (t : Tree) → Ascends t → (a b : ℕ) {x y : Meaning} → meaningOf t a ≡ some x → meaningOf t b ≡ some y → x .of ≡ y .of
+    → x .signal ≡ y .signal → a ≡ b
 unfolding meaningOf meanings
-one-number t h a b {x} {y} e g k l = one-place (meaningsFrom t t) (meanings-ascend t t h) a b e g (let z : rank (x .signal) ≡ rank (y .signal) = ap rank l in omega (arith, k, z))
+one-number t h a b {x} {y} e g k l =
+    one-place (meaningsFrom t t) (meanings-ascend t t h) a b e g (let z : rank (x .signal) ≡ rank (y .signal) = ap rank l in omega (arith, k, z))
 
 -- ---- every signal of every element has a number
 in-at : (xs : List Meaning) {x : Meaning} → In x xs → (n : ℕ) × (n < length xs) × (at xs n ≡ some x)
@@ -120,11 +124,15 @@ meant-in : (v : ℕ) (ss : List Signal) {s : Signal} → In s ss → In (record 
 meant-in v (s ∷ ss) (here e) = here (ap (λ q. record { of = v; signal = q }) e)
 meant-in v (s ∷ ss) (there m) = there (meant-in v ss m)
 
-in-meanings : (t : Tree) (es : List Element) {e : Element} {s : Signal} → In e es → In s (signalsOf (e .sort) (boxed t (e .number))) → In (record { of = e .number; signal = s }) (meaningsFrom t es)
+in-meanings : (t : Tree) (es : List Element) {e : Element} {s : Signal} → In e es → In s (signalsOf (e .sort) (boxed t (e .number)))
+    → In (record { of = e .number; signal = s }) (meaningsFrom t es)
 unfolding meaningsFrom
-in-meanings t (q ∷ es) {e} {s} (here w) m = in-left {s = meant (q .number) (signalsOf (q .sort) (boxed t (q .number)))} (meaningsFrom t es) (rw (← w) (meant-in (e .number) (signalsOf (e .sort) (boxed t (e .number))) m))
+in-meanings t (q ∷ es) {e} {s} (here w) m =
+    in-left {s = meant (q .number) (signalsOf (q .sort) (boxed t (q .number)))} (meaningsFrom t es)
+    (rw (← w) (meant-in (e .number) (signalsOf (e .sort) (boxed t (e .number))) m))
 in-meanings t (q ∷ es) (there l) m = in-right (meant (q .number) (signalsOf (q .sort) (boxed t (q .number)))) (in-meanings t es l m)
 
-pub has-number : (t : Tree) (e : Element) (s : Signal) → In e t → In s (signalsOf (e .sort) (boxed t (e .number))) → (a : ℕ) × (a < length (meanings t)) × (meaningOf t a ≡ some (record { of = e .number; signal = s }))
+pub has-number : (t : Tree) (e : Element) (s : Signal) → In e t → In s (signalsOf (e .sort) (boxed t (e .number)))
+    → (a : ℕ) × (a < length (meanings t)) × (meaningOf t a ≡ some (record { of = e .number; signal = s }))
 unfolding meaningOf meanings
 has-number t e s l m = in-at (meaningsFrom t t) (in-meanings t t l m)

@@ -1,19 +1,20 @@
 -- Who has an action: its signal tells whether it is urgent, and one element alone puts it out.
-use mathlib.Core.Path.{_≡_, refl, sym, _∙_, ap}
-use mathlib.Core.Logic.{_⊎_, inl, inr, ⊎-elim}
+use mathlib.Core.Path.{_≡_, refl, sym, ap}
 use mathlib.Core.Option.{Option, none, some, Option·some-inj}
-use mathlib.Core.Bool.{Bool, true, false, false≢true, true≢false, cond, _||_}
+use mathlib.Core.Bool.{Bool, true, false, false≢true, cond, _||_}
 use mathlib.Core.List.{List, [], _∷_}
-use Prim.Native.Nat.{ℕ, zero, suc}
+use Prim.Native.Nat.{ℕ, suc}
 use lib.Dec.{eqb}
 use lib.ListN.{getD}
 use borrow.Author.Tests.{eqb-true}
 use Rattle.laws.specs.Search.{when, mapSome}
 use Rattle.laws.proofs.SearchLaws.{no-some}
 use Rattle.model.specs.Text.{Kind, in-kind, out-kind, uin-kind, uout-kind}
-use Rattle.trees.specs.Module.{Module}
-use Rattle.trees.specs.Tree.{Sort, be-sort, and-sort, or-sort, pand-sort, rbox-sort, Element, Tree, isBox, among, Signal, fl, up, f, u, r, Meaning, meaningOf}
-use Rattle.trees.specs.Modules.{beKind, beRole, GateRole, own-f, own-u, f0, u0, f1, u1, tick, gateKind, gateRole, told, ticked, pandRole, BoxRole, box-fl, box-up, box-r, boxKind, boxHears, boxRole, placeOf, ofMeaning, clockless, beModule, countModule, pandModule, boxModule, moduleFor}
+use Rattle.trees.specs.Tree.{Sort, be-sort, and-sort, or-sort, pand-sort, rbox-sort, Element, Tree, isBox, among, Signal, fl, up, f, u, r}
+use Rattle.trees.specs.Tree.{Meaning, meaningOf}
+use Rattle.trees.specs.Modules.{beKind, beRole, GateRole, own-f, own-u, f0, u0, f1, u1, tick, gateKind, gateRole, told, ticked, pandRole}
+use Rattle.trees.specs.Modules.{BoxRole, box-fl, box-up, box-r, boxKind, boxHears, boxRole, placeOf, ofMeaning, clockless, beModule}
+use Rattle.trees.specs.Modules.{countModule, pandModule, boxModule, moduleFor}
 
 abbrev pub urgentSignal : Signal → Bool
 urgentSignal fl = false
@@ -75,7 +76,8 @@ own-part e x y u h w k = let z : own-u ≡ y = Option·some-inj .0 k in rw (← 
 own-part e x y r h w k = absurd (no-some refl k)
 
 -- an urgent input
-heard-part : (e : Element) (x : Meaning) (y a b : GateRole) (s : Signal) → gateKind a ≡ uin-kind → gateKind b ≡ uin-kind → x .signal ≡ s → told a b s ≡ some y → Part e x (gateKind y)
+heard-part : (e : Element) (x : Meaning) (y a b : GateRole) (s : Signal) → gateKind a ≡ uin-kind → gateKind b ≡ uin-kind → x .signal ≡ s
+    → told a b s ≡ some y → Part e x (gateKind y)
 heard-part e x y a b fl p q h k = absurd (no-some refl k)
 heard-part e x y a b up p q h k = absurd (no-some refl k)
 heard-part e x y a b f p q h k = let z : a ≡ y = Option·some-inj .0 k in rw (← z, p) (record { urgency = rw h; owner = λ o. absurd (false≢true o) })
@@ -86,7 +88,8 @@ pub gate-part : (e : Element) (x : Meaning) (y : GateRole) → gateRole e x ≡ 
 unfolding gateRole
 gate-part e x y h = go (eqb (x .of) (e .number)) refl (eqb (x .of) (getD (e .ins) 0 0)) (eqb (x .of) (getD (e .ins) 1 0)) h
   where
-    go : (b : Bool) → eqb (x .of) (e .number) ≡ b → (c d : Bool) → cond b (told own-f own-u (x .signal)) (cond c (told f0 u0 (x .signal)) (cond d (told f1 u1 (x .signal)) none)) ≡ some y → Part e x (gateKind y)
+    go : (b : Bool) → eqb (x .of) (e .number) ≡ b → (c d : Bool)
+        → cond b (told own-f own-u (x .signal)) (cond c (told f0 u0 (x .signal)) (cond d (told f1 u1 (x .signal)) none)) ≡ some y → Part e x (gateKind y)
     go true w c d h = own-part e x y (x .signal) refl (eqb-true (x .of) (e .number) w) h
     go false w true d h = heard-part e x y f0 u0 (x .signal) refl refl refl h
     go false w false true h = heard-part e x y f1 u1 (x .signal) refl refl refl h
@@ -116,7 +119,8 @@ place-among v (x ∷ xs) i h = go (λ j. place-among v xs j) (eqb v x) h
     further ih none w h = absurd (no-some refl h)
     further ih (some j) w h = ih j w
 
-    go : ((j : ℕ) → placeOf v xs ≡ some j → among v xs ≡ true) → (b : Bool) → (elim b as (λ _. Option ℕ) [ true ↦ some 0 | false ↦ mapSome suc (placeOf v xs) ]) ≡ some i → (b || among v xs) ≡ true
+    go : ((j : ℕ) → placeOf v xs ≡ some j → among v xs ≡ true) → (b : Bool)
+        → (elim b as (λ _. Option ℕ) [ true ↦ some 0 | false ↦ mapSome suc (placeOf v xs) ]) ≡ some i → (b || among v xs) ≡ true
     go ih true h = refl
     go ih false h = further ih (placeOf v xs) refl h
 
@@ -131,7 +135,8 @@ box-part e x y b h = go (placeOf (x .of) (e .ins)) refl h
     by-signal u i w m h = absurd (no-some refl h)
     by-signal r i w m h = let z : box-r i ≡ y = Option·some-inj .0 h in rw (← z) (record { urgency = rw w; owner = λ o. repairs (rw w) b m })
 
-    go : (o : Option ℕ) → placeOf (x .of) (e .ins) ≡ o → (elim o as (λ _. Option BoxRole) [ none ↦ none | some i ↦ boxHears (x .signal) i ]) ≡ some y → Part e x (boxKind y)
+    go : (o : Option ℕ) → placeOf (x .of) (e .ins) ≡ o → (elim o as (λ _. Option BoxRole) [ none ↦ none | some i ↦ boxHears (x .signal) i ]) ≡ some y
+        → Part e x (boxKind y)
     go none w h = absurd (no-some refl h)
     go (some i) w h = by-signal (x .signal) i refl (place-among (x .of) (e .ins) i w) h
 

@@ -1,6 +1,6 @@
 -- A line of a tree is scanned as it is printed, and printed as it was scanned.
 use mathlib.Core.Path.{_≡_, refl, sym, _∙_, ap}
-use mathlib.Core.Logic.{_⊎_, ⊎-elim, _↔_}
+use mathlib.Core.Logic.{⊎-elim, _↔_}
 use mathlib.Core.Bool.{Bool, true, false}
 use mathlib.Core.List.{List, [], _∷_, _++_, append-assoc, map}
 use Prim.Native.Nat.{ℕ, zero, suc, _+_, _≤_}
@@ -12,7 +12,7 @@ use Rattle.model.specs.Text.{tab, lf, decimal, fieldsAfter}
 use Rattle.model.specs.Reading.{Got, Scan, is, stops, got, then, furthest, exactly, theByte, number, field}
 use Rattle.model.specs.Line.{Fits, AllFit, Any, Exact}
 use Rattle.model.proofs.Reading.Scans.{is-inj, no-is, then-is}
-use Rattle.model.proofs.Reading.Fields.{exactly-printed, exactly-scanned, number-exact, furthest-is}
+use Rattle.model.proofs.Reading.Fields.{exactly-scanned, number-exact, furthest-is}
 use Rattle.model.proofs.Reading.Lines.{field-printed, field-scanned, field-before}
 use Rattle.trees.specs.Tree.{Sort, be-sort, and-sort, or-sort, pand-sort, rbox-sort, Element}
 use Rattle.trees.specs.TreeText.{sortWord, fewest, atMostMore, numbersOf, elementText, sortScan, moreInputs, inputs, ended, behindWord, element}
@@ -59,7 +59,8 @@ pub num-back : (bs : List ℕ) (g : Got ℕ) → field number bs ≡ is g → (b
 num-back = field-scanned number decimal Fits number-exact
 
 -- a tab, and a number
-pub more-step : (k b : ℕ) (bs : List ℕ) → eqb b tab ≡ true → moreInputs (suc k) (b ∷ bs) ≡ then (number bs) (λ n cs. then (moreInputs k cs) (λ ns ds. got (n ∷ ns) ds))
+pub more-step : (k b : ℕ) (bs : List ℕ) → eqb b tab ≡ true → moreInputs (suc k) (b ∷ bs)
+    ≡ then (number bs) (λ n cs. then (moreInputs k cs) (λ ns ds. got (n ∷ ns) ds))
 unfolding moreInputs
 more-step k b bs e = rw (e, moreInputs)
 
@@ -82,7 +83,8 @@ more-printed zero (x ∷ xs) bs h l = absurd (omega arith)
 more-printed (suc k) [] bs h l = refl
 more-printed (suc k) (x ∷ xs) bs h l = rw (num x (h .0) (map decimal xs) bs) (rw (more-printed k xs bs (h .1) (omega arith)))
 
-inputs-printed : (n k : ℕ) (xs bs : List ℕ) → AllFit xs → n ≤ length xs → length xs ≤ n + k → inputs n k (fieldsAfter (map decimal xs) ++ bs) ≡ got xs (fieldsAfter [] ++ bs)
+inputs-printed : (n k : ℕ) (xs bs : List ℕ) → AllFit xs → n ≤ length xs → length xs ≤ n + k → inputs n k (fieldsAfter (map decimal xs) ++ bs)
+    ≡ got xs (fieldsAfter [] ++ bs)
 unfolding inputs
 inputs-printed zero k xs bs h l m = more-printed k xs bs h (omega arith)
 inputs-printed (suc n) k [] bs h l m = absurd (omega arith)
@@ -106,7 +108,8 @@ pub record Inputs (n k : ℕ) (bs : List ℕ) (g : Got (List ℕ)) : Type 0 wher
   pub front : bs ≡ tabbed (g .value) ++ g .rest
 
 -- one input in front
-one-more : (n n′ k k′ : ℕ) (bs cs : List ℕ) (x : ℕ) (h g : Got (List ℕ)) → Fits x → bs ≡ (tab ∷ decimal x) ++ cs → Inputs n k cs h → got (x ∷ h .value) (h .rest) ≡ is g
+one-more : (n n′ k k′ : ℕ) (bs cs : List ℕ) (x : ℕ) (h g : Got (List ℕ)) → Fits x → bs ≡ (tab ∷ decimal x) ++ cs → Inputs n k cs h
+    → got (x ∷ h .value) (h .rest) ≡ is g
     → n′ ≤ suc n → suc (n + k) ≤ n′ + k′ → Inputs n′ k′ bs g
 one-more n n′ k k′ bs cs x h g fit at i e l m =
     let q = is-inj e in
@@ -137,7 +140,8 @@ more-scanned (suc k) (b ∷ bs) g e = go (more-scanned k) (eqb b tab) refl
         let t = then-is (number bs) (λ n cs. then (moreInputs k cs) (λ ns ds. got (n ∷ ns) ds)) (sym (more-step k b bs q) ∙ e) in
         let u = then-is (moreInputs k (t .0 .rest)) (λ ns ds. got (t .0 .value ∷ ns) ds) (t .2) in
         let r = number-exact .scanned bs (t .0) (t .1) in
-        let at : b ∷ bs ≡ (tab ∷ decimal (t .0 .value)) ++ t .0 .rest = ap {B = List ℕ} (λ x. x ∷ bs) (eqb-true b tab q) ∙ ap {B = List ℕ} (λ l. tab ∷ l) (r .0) in
+        let at : b ∷ bs ≡ (tab ∷ decimal (t .0 .value)) ++ t .0 .rest = ap {B = List ℕ} (λ x. x ∷ bs) (eqb-true b tab q)
+        ∙ ap {B = List ℕ} (λ l. tab ∷ l) (r .0) in
         one-more 0 0 k (suc k) (b ∷ bs) (t .0 .rest) (t .0 .value) (u .0) g (r .1) at (ih (t .0 .rest) (u .0) (u .1)) (u .2) (omega arith) (omega arith)
 
 pub inputs-scanned : (n k : ℕ) (bs : List ℕ) (g : Got (List ℕ)) → inputs n k bs ≡ is g → Inputs n k bs g
@@ -147,7 +151,8 @@ inputs-scanned (suc n) k bs g e =
     let t = then-is (field number bs) (λ x cs. then (inputs n k cs) (λ xs ds. got (x ∷ xs) ds)) e in
     let u = then-is (inputs n k (t .0 .rest)) (λ xs ds. got (t .0 .value ∷ xs) ds) (t .2) in
     let r = num-back bs (t .0) (t .1) in
-    one-more n (suc n) k k bs (t .0 .rest) (t .0 .value) (u .0) g (r .1) (r .0) (inputs-scanned n k (t .0 .rest) (u .0) (u .1)) (u .2) (omega arith) (omega arith)
+    one-more n (suc n) k k bs (t .0 .rest) (t .0 .value) (u .0) g (r .1) (r .0) (inputs-scanned n k (t .0 .rest) (u .0) (u .1)) (u .2) (omega arith)
+    (omega arith)
 
 -- ---- a line
 ended-printed : (e : Element) (bs : List ℕ) → ended e (fieldsAfter [] ++ bs) ≡ got e bs
@@ -174,7 +179,8 @@ unfolding element elementText behindWord
 element-scanned bs g h =
     let s = then-is (sortScan bs) behindWord h in
     let w = s .0 .value in
-    let n = then-is (field number (s .0 .rest)) (λ n cs. then (inputs (fewest w) (atMostMore w) cs) (λ xs ds. ended (record { sort = w; number = n; ins = xs }) ds)) (s .2) in
+    let n = then-is (field number (s .0 .rest))
+    (λ n cs. then (inputs (fewest w) (atMostMore w) cs) (λ xs ds. ended (record { sort = w; number = n; ins = xs }) ds)) (s .2) in
     let v = n .0 .value in
     let i = then-is (inputs (fewest w) (atMostMore w) (n .0 .rest)) (λ xs ds. ended (record { sort = w; number = v; ins = xs }) ds) (n .2) in
     let e : Element = record { sort = w; number = v; ins = i .0 .value } in
@@ -186,7 +192,8 @@ element-scanned bs g h =
     ∙ ap (λ (l : List ℕ). l ++ g .rest) (sym (tabbed-fields (i .0 .value))) in
     let f = field-before (decimal v) (map decimal (i .0 .value)) (g .rest) (p .0) ended-by in
     rw (sym (z .1)) (
-      sort-scanned bs (s .0) (s .1) ∙ ap (λ (l : List ℕ). sortWord w ++ l) f ∙ sym (append-assoc (sortWord w) (fieldsAfter (map decimal (numbersOf e))) (g .rest)),
+      sort-scanned bs (s .0) (s .1) ∙ ap (λ (l : List ℕ). sortWord w ++ l) f
+          ∙ sym (append-assoc (sortWord w) (fieldsAfter (map decimal (numbersOf e))) (g .rest)),
       record { digits = (p .1, x .fit); enough = x .enough; no-more = x .no-more },
     )
 

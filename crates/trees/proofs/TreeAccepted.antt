@@ -1,26 +1,24 @@
--- "Each component written is proved to pass 10 to 14 and the system 15 to 17" (02, 9/13): where a tree's text is answered with a model, that is well formed and accepted.
-use mathlib.Core.Path.{_≡_, refl, sym, _∙_, ap, subst}
-use mathlib.Core.Logic.{_↔_}
-use mathlib.Core.Option.{Option, none, some}
-use mathlib.Core.Bool.{Bool, true, false, not}
+-- "Each component written is proved to pass 10 to 14 and the system 15 to 17" (02, 9/13): where a tree's text is answered with a model, that is well
+-- formed and accepted.
+use mathlib.Core.Path.{_≡_, refl, ap, subst}
+use mathlib.Core.Option.{none, some}
 use mathlib.Core.List.{List, [], _∷_, List·Memᴰ as In, List·Memᴰ·head as here, List·Memᴰ·tail as there, List·Memᴰ·not-nil as in-none}
-use Prim.Native.Nat.{ℕ, zero, suc, _+_, _*_, _≤_, _<_}
+use Prim.Native.Nat.{ℕ, suc, _+_, _≤_}
 use native.Mathlib.Omega.{arith}
 use lib.ListN.{length}
 use Rattle.laws.proofs.ListLaws.{Pairwise}
-use Rattle.answer.specs.Limits.{maxComponents}
-use Rattle.answer.specs.Told.{Told, tell, Answer, answered, refused}
+use Rattle.answer.specs.Told.{Told, Answer, answered, refused}
 use Rattle.model.specs.Model.{Model}
 use Rattle.model.specs.WellFormed.{WellFormed}
 use Rattle.iosa.specs.Checks.{acceptOf}
-use Rattle.iosa.specs.Automaton.{Conforming, Joinable}
 use Rattle.iosa.proofs.Acceptance.Accepted.{accepted-exactly}
-use Rattle.trees.specs.Tree.{Sort, be-sort, and-sort, or-sort, pand-sort, rbox-sort, Element, Tree, isBox, among}
+use Rattle.trees.specs.Tree.{Sort, be-sort, and-sort, or-sort, pand-sort, rbox-sort, Element, Tree}
 use Rattle.trees.specs.Modules.{componentsFrom, treeModel}
-use Rattle.trees.specs.TreeText.{fewest, atMostMore, treeOf, treeText}
+use Rattle.trees.specs.TreeText.{fewest, atMostMore}
 use Rattle.trees.specs.Conditions.{OneTop, OneBox, Proper}
 use Rattle.trees.specs.ReadTree.{InLimits, readTreeOf}
-use Rattle.trees.specs.TreeFaults.{ElementFits, Ascending, no-line, line, Drawn, TreeAnswer, is-fault, is5, is47, is48, is-model, TextOf, AllKnown, Accepted}
+use Rattle.trees.specs.TreeFaults.{Ascending, line, Drawn, TreeAnswer, is-fault, is5, is47, is48, is-model}
+use Rattle.trees.specs.TreeFaults.{Accepted}
 use Rattle.trees.proofs.Numbers.{Ascends}
 use Rattle.trees.proofs.Lookup.{low-enough, among-in}
 use Rattle.trees.proofs.Accepted.{Sees, Good, every-component-conforms, every-component-is-well-formed, every-two-are-compatible}
@@ -40,7 +38,12 @@ pairs-see t a o = go t a (λ e m. m)
     go (e ∷ es) a m = (
       λ d i. (
         a .0 d i,
-        λ p q v x y. let z = o .same e d (m e (here refl)) (m d (there i)) p q v (among-in v (e .ins) x) (among-in v (d .ins) y) in let l = a .0 d i in omega (arith, z, l),
+        λ p q v x y. let z =
+            o .same e d (m e (here refl)) (m d (there i)) p q v (among-in v (e .ins) x) (among-in v (d .ins) y) in let l = a .0 d i in omega (
+              arith,
+              z,
+              l,
+            ),
       ),
       go es (a .1) (λ d i. m d (there i)),
     )

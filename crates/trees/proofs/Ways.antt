@@ -1,7 +1,7 @@
 -- (i): the sets closed step by step hold exactly what is reached by edges; so the test finds a cycle exactly where there is one.
 use mathlib.Core.Path.{_≡_, refl, sym, _∙_, ap, subst}
 use mathlib.Core.Logic.{_↔_, _⊎_, inl, inr, ⊎-elim}
-use mathlib.Core.Bool.{Bool, true, false, false≢true, true≢false, cond}
+use mathlib.Core.Bool.{Bool, true, false, true≢false, cond}
 use mathlib.Core.List.{List, [], _∷_, map, List·Memᴰ as In, List·Memᴰ·head as here, List·Memᴰ·tail as there}
 use Prim.Native.Nat.{ℕ, zero, suc, _+_, _≤_, _<_}
 use native.Mathlib.Omega.{arith}
@@ -11,7 +11,7 @@ use Rattle.laws.specs.Sets.{has, _∪_, _∈_}
 use Rattle.laws.specs.Search.{any}
 use Rattle.laws.specs.Fold.{tab}
 use Rattle.laws.proofs.SetLaws.{in-or, or-in-l, or-in-r}
-use Rattle.laws.proofs.SearchLaws.{any-true, any-false, true-any}
+use Rattle.laws.proofs.SearchLaws.{any-true, any-false}
 use Rattle.laws.proofs.FoldLaws.{tab-at}
 use Rattle.answer.specs.Limits.{maxElements}
 use Rattle.trees.specs.Tree.{Element, Tree, among}
@@ -107,7 +107,8 @@ module _ (rows : List ℕ) where
   closed-is (suc k) v w h l = (
     λ m. ⊎-elim
         (λ x. wider E k (closed-is k v w (omega arith) l .0 x))
-        (λ x. join {k = k} (omega arith) (wider E k (closed-is k v k (omega arith) l .0 (x .0))) (wider E k (closed-is k k w (omega arith) (omega arith) .0 (x .1))))
+        (λ x. join {k = k} (omega arith) (wider E k (closed-is k v k (omega arith) l .0 (x .0)))
+        (wider E k (closed-is k k w (omega arith) (omega arith) .0 (x .1))))
         (in-cond (s v) (s k) k w (subst (λ x. w ∈ x) step m)),
     λ p. subst (λ x. w ∈ x) (sym step) (⊎-elim
         (λ x. cond-left (s v) (s k) k w (closed-is k v w (omega arith) l .1 x))

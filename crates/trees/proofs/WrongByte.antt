@@ -10,18 +10,18 @@ use lib.Dec.{eqb}
 use borrow.Author.Tests.{eqb-true}
 use Rattle.model.specs.Text.{tab, lf, decimal, fieldsAfter}
 use Rattle.model.specs.Reading.{Got, Scan, is, stops, got, then, furthest, exactly, theByte, number, field, stopColumn}
-use Rattle.model.specs.Line.{Fits, AllFit, Any, Exact}
-use Rattle.model.specs.Column.{BeginsOf, WrongByteOf}
+use Rattle.model.specs.Line.{Fits, AllFit}
+use Rattle.model.specs.Column.{BeginsOf}
 use Rattle.model.proofs.Reading.Scans.{stops-inj, no-is}
-use Rattle.model.proofs.Reading.Fields.{exactly-scanned, number-exact}
-use Rattle.model.proofs.Reading.Lines.{field-scanned}
-use Rattle.model.proofs.Reading.Local.{Local, StopLocal, stop-local, local-as, got-local, testing, test-local, then-local, exactly-local, number-local, field-local, exact-local, furthest-local, both-stop, shorter-either}
-use Rattle.model.proofs.Reading.WrongByte.{Opens, AlwaysOpens, exactly-opens, number-opens, byte-stops, field-opens}
+use Rattle.model.proofs.Reading.Fields.{number-exact}
+use Rattle.model.proofs.Reading.Local.{Local, StopLocal, stop-local, local-as, got-local, testing, test-local, then-local, exactly-local}
+use Rattle.model.proofs.Reading.Local.{number-local, field-local, exact-local, furthest-local, both-stop, shorter-either}
+use Rattle.model.proofs.Reading.WrongByte.{exactly-opens, number-opens, byte-stops, field-opens}
 use Rattle.model.proofs.Reading.Stopped.{front-begins, stop-is-wrong, one-wrong}
 use Rattle.trees.specs.Tree.{Sort, be-sort, and-sort, or-sort, pand-sort, rbox-sort, Element}
-use Rattle.trees.specs.TreeText.{sortWord, fewest, atMostMore, numbersOf, elementText, sortScan, moreInputs, inputs, ended, behindWord, element}
+use Rattle.trees.specs.TreeText.{sortWord, fewest, atMostMore, elementText, sortScan, moreInputs, inputs, ended, behindWord, element}
 use Rattle.trees.specs.TreeFaults.{ElementFits, WrongByte}
-use Rattle.trees.proofs.Scans.{sort-exact, tabbed, tabbed-fields, num-back, Inputs, inputs-scanned, element-exact, more-step, more-end}
+use Rattle.trees.proofs.Scans.{sort-exact, tabbed, tabbed-fields, num-back, inputs-scanned, element-exact, more-step, more-end}
 
 -- ---- what a scan says up to the byte where it stops does not depend on the bytes behind that byte
 word-local : (s : Sort) → StopLocal (λ bs. then (exactly (sortWord s) bs) (λ _ cs. got s cs))
@@ -31,12 +31,14 @@ sort-local : Local sortScan
 unfolding sortScan
 sort-local =
     exact-local sort-exact
-    (furthest-local (word-local be-sort) (furthest-local (word-local and-sort) (furthest-local (word-local or-sort) (furthest-local (word-local pand-sort) (word-local rbox-sort)))))
+    (furthest-local (word-local be-sort) (furthest-local (word-local and-sort)
+    (furthest-local (word-local or-sort) (furthest-local (word-local pand-sort) (word-local rbox-sort)))))
 
 more-local : (k : ℕ) → Local (moreInputs k)
 unfolding moreInputs
 more-local zero = local-as (λ bs. refl) (got-local [])
-more-local (suc k) = local-as computes (test-local (λ b. eqb b tab) (λ _ bs. list bs) (λ bs. got [] bs) (λ _. listed (more-local k)) (got-local []) (λ bs. refl))
+more-local (suc k) =
+    local-as computes (test-local (λ b. eqb b tab) (λ _ bs. list bs) (λ bs. got [] bs) (λ _. listed (more-local k)) (got-local []) (λ bs. refl))
   where
     list : List ℕ → Scan (List ℕ)
     list bs = then (number bs) (λ n cs. then (moreInputs k cs) (λ ns ds. got (n ∷ ns) ds))
@@ -89,7 +91,8 @@ record OpensInputs (n k : ℕ) (bs m : List ℕ) : Type 0 where
   printed : fieldsAfter (map decimal ins) ≡ front ++ rest
 
 -- an input more in front
-more-opens : (n n′ k k′ : ℕ) (bs cs m : List ℕ) (x : ℕ) → Fits x → bs ≡ (tab ∷ decimal x) ++ cs → n′ ≤ suc n → suc (n + k) ≤ n′ + k′ → OpensInputs n k cs m → OpensInputs n′ k′ bs m
+more-opens : (n n′ k k′ : ℕ) (bs cs m : List ℕ) (x : ℕ) → Fits x → bs ≡ (tab ∷ decimal x) ++ cs → n′ ≤ suc n → suc (n + k) ≤ n′ + k′
+    → OpensInputs n k cs m → OpensInputs n′ k′ bs m
 unfolding fieldsAfter
 more-opens n n′ k k′ bs cs m x h at l o p =
     record {
@@ -202,7 +205,8 @@ inputs-begin s n xs f rest h e =
 number-begins : (s : Sort) (n : ℕ) (f rest : List ℕ) → Fits n → tab ∷ decimal n ≡ f ++ rest → Begins (sortWord s ++ f)
 number-begins s n f rest h e =
     let z = some-line s n h in
-    let whole : Begins (sortWord s ++ ((tab ∷ decimal n) ++ [])) = inputs-begin s n (replicate (fewest s) 0) [] (fieldsAfter (map decimal (replicate (fewest s) 0))) z refl in
+    let whole : Begins (sortWord s ++ ((tab ∷ decimal n) ++ [])) = inputs-begin s n (replicate (fewest s) 0) []
+    (fieldsAfter (map decimal (replicate (fewest s) 0))) z refl in
     front-begins elementText ElementFits (sortWord s ++ f) rest
     (subst Begins (ap (λ (l : List ℕ). sortWord s ++ l) (append-nil (tab ∷ decimal n) ∙ e) ∙ sym (append-assoc (sortWord s) f rest)) whole)
 
@@ -229,7 +233,8 @@ sort-opens bs m e =
         go (is g) q e = absurd (no-is e refl)
         go (stops l) q e = let t = exactly-opens (sortWord s) bs n (q ∙ ap (λ l. stops l) (stops-inj e)) in (t .0, t .2, begun s (t .0) (t .1) (t .3))
 
-    either : (o p : Scan Sort) → ((n : List ℕ) → o ≡ stops n → Up bs n) → ((n : List ℕ) → p ≡ stops n → Up bs n) → (n : List ℕ) → furthest o p ≡ stops n → Up bs n
+    either : (o p : Scan Sort) → ((n : List ℕ) → o ≡ stops n → Up bs n) → ((n : List ℕ) → p ≡ stops n → Up bs n) → (n : List ℕ)
+        → furthest o p ≡ stops n → Up bs n
     either o p f g n e = let t = both-stop o p e in subst (Up bs) (t .4) (shorter-either (Up bs) (t .0) (t .1) (f (t .0) (t .2)) (g (t .1) (t .3)))
 
 -- behind the first word: a number that is not there, inputs that are not there, or no LF
@@ -270,12 +275,14 @@ behind-opens s bs m e = first (field number bs) refl e
                   (record { digits = (num-back bs g w .1, x .fit); enough = x .enough; no-more = x .no-more }) (tabbed-fields (h .value)),
             )
 
-        second : (o : Scan (List ℕ)) → inputs (fewest s) (atMostMore s) (g .rest) ≡ o → then o (λ xs ds. ended (record { sort = s; number = n; ins = xs }) ds) ≡ stops m → Goal
+        second : (o : Scan (List ℕ)) → inputs (fewest s) (atMostMore s) (g .rest) ≡ o
+            → then o (λ xs ds. ended (record { sort = s; number = n; ins = xs }) ds) ≡ stops m → Goal
         second (stops l) y z =
             let p = inputs-open (fewest s) (atMostMore s) (g .rest) m (y ∙ ap (λ l. stops l) (stops-inj z)) in (
               (tab ∷ decimal n) ++ p .front,
               front-of (p .front) (p .bytes),
-              inputs-begin s n (p .ins) (p .front) (p .rest) (record { digits = (num-back bs g w .1, p .fit); enough = p .enough; no-more = p .no-more }) (p .printed),
+              inputs-begin s n (p .ins) (p .front) (p .rest)
+                  (record { digits = (num-back bs g w .1, p .fit); enough = p .enough; no-more = p .no-more }) (p .printed),
             )
         second (is h) y z = last h y (theByte lf (h .rest)) refl z
 

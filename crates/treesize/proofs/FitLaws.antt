@@ -1,7 +1,7 @@
 -- 48: components, actions, rows and bytes; the clocks follow from the actions.
 use mathlib.Core.Path.{_≡_, refl, sym, _∙_, ap, ap₂}
-use mathlib.Core.Option.{Option, some}
-use mathlib.Core.Bool.{Bool, true, false, _&&_}
+use mathlib.Core.Option.{some}
+use mathlib.Core.Bool.{false, _&&_}
 use mathlib.Core.List.{List, [], _∷_, map}
 use Prim.Native.Nat.{ℕ, zero, suc, _+_, _*_, _≤_, _<_}
 use native.Mathlib.Omega.{arith}
@@ -11,11 +11,8 @@ use lib.Dec.{leb}
 use borrow.Author.Tests.{le-leb, lt-leb}
 use Rattle.answer.specs.Limits.{maxComponents, maxActions, maxClocks, maxRows, maxBytes}
 use Rattle.reading.proofs.SetsLaws.{sets-inside}
-use Rattle.model.specs.Model.{rowCount}
-use Rattle.model.specs.Text.{textOf}
 use Rattle.product.specs.declared.Tally.{Tally}
-use Rattle.trees.specs.Tree.{Tree, Meaning, bes, meanings, at, meaningOf}
-use Rattle.trees.specs.Modules.{treeModel}
+use Rattle.trees.specs.Tree.{Tree, bes, meanings, at, meaningOf}
 use Rattle.trees.specs.ReadTree.{fitting}
 use Rattle.elements.specs.Parts.{meaningAt}
 use Rattle.meanings.specs.declared.Named.{Named}
@@ -44,7 +41,8 @@ named-hold t old new r n l h = record {
       ap (λ x. at x a) (sym (words-mean t)) ∙ at-map (wordsOf t) a here ∙ ap (λ x. some (meaningAt x)) (sym there);
 }
 
-pub named-long : (t : Tree) (old new : List ℕ) (r : Named) → NamedBy t old r new → length old ≡ maxActions → length (meanings t) ≤ maxActions → length new ≡ maxActions
+pub named-long : (t : Tree) (old new : List ℕ) (r : Named) → NamedBy t old r new → length old ≡ maxActions → length (meanings t) ≤ maxActions
+    → length new ≡ maxActions
 named-long t old new r n l h = ap length (n .words h) ∙ length-sets old 0 (wordsOf t) ∙ l
 
 -- ---- the limits
@@ -56,7 +54,8 @@ pub many-actions : (t : Tree) (c n : ℕ) → c ≡ length t → c ≤ maxCompon
 unfolding fitting
 many-actions t c n d g e h = rw (le-leb (length t) maxComponents (omega (arith, d, g)), lt-leb (length (meanings t)) maxActions (omega (arith, e, h)))
 
-pub sized-fits : (t : Tree) (c k : ℕ) (n : Tally) → c ≡ length t → c ≤ maxComponents → k ≡ length (meanings t) → k ≤ maxActions → Sized t n → (leb (n .rows) maxRows && leb (n .bytes) maxBytes) ≡ fitting t
+pub sized-fits : (t : Tree) (c k : ℕ) (n : Tally) → c ≡ length t → c ≤ maxComponents → k ≡ length (meanings t) → k ≤ maxActions → Sized t n
+    → (leb (n .rows) maxRows && leb (n .bytes) maxBytes) ≡ fitting t
 unfolding fitting
 sized-fits t c k n d g e h s =
     rw (

@@ -1,32 +1,33 @@
 -- The rows and bytes of a tree's model, line by line: what is counted so far, with what is left, is the whole.
-use mathlib.Core.Path.{_≡_, refl, sym, _∙_, ap, ap₂, subst}
-use mathlib.Core.Option.{Option, none, some}
+use mathlib.Core.Path.{_≡_, refl, sym, _∙_, ap, ap₂}
+use mathlib.Core.Option.{Option, none}
 use mathlib.Core.Bool.{Bool, true, false, cond}
-use mathlib.Core.List.{List, [], _∷_, _++_}
+use mathlib.Core.List.{List, [], _∷_}
 use Prim.Native.Nat.{ℕ, zero, suc, _+_, _*_, _-_, _≤_, _<_}
 use native.Mathlib.Omega.{arith}
-use lib.ListN.{length, length-append, getD}
+use lib.ListN.{length, length-append}
 use lib.Bits.{or-comm, or-zero-r}
 use Rattle.laws.specs.Sets.{_∪_, only}
-use Rattle.laws.specs.Fold.{spread, tab, sum}
+use Rattle.laws.specs.Fold.{spread}
 use Rattle.laws.proofs.TabLaws.{spread-length, sum-at-most}
-use Rattle.answer.specs.Limits.{maxActions, maxClocks, maxComponents, maxElements}
+use Rattle.answer.specs.Limits.{maxActions, maxComponents}
 use Rattle.model.specs.Model.{Row, Comp, rowCount}
 use Rattle.model.specs.Text.{Kind, compText, rowLines, textOf}
 use Rattle.measure.specs.Measure.{bare}
 use Rattle.measure.proofs.Lines.{comp-by-head, text-more, no-text, rows-most}
-use Rattle.measure.proofs.Bounds.{headBytes, bare-most}
+use Rattle.measure.proofs.Bounds.{bare-most}
 use Rattle.product.specs.declared.Tally.{Tally}
 use Rattle.product.specs.Walk.{outOf, listed}
 use Rattle.product.proofs.WalkLaws.{listed-rows, listed-bytes, listed-dry}
-use Rattle.trees.specs.Module.{Module, those, isIn, isOut, isUin, isUout, allRows, compBy}
-use Rattle.trees.specs.Tree.{Sort, be-sort, and-sort, or-sort, pand-sort, rbox-sort, Element as TheElement, Tree, isBe, bes, Signal, Meaning, boxed, signalsOf, meant, meaningsFrom, meanings, at, meaningOf}
+use Rattle.trees.specs.Module.{Module, those, isIn, isOut, isUin, isUout, compBy}
+use Rattle.trees.specs.Tree.{Sort, be-sort, and-sort, or-sort, pand-sort, rbox-sort, Element as TheElement, Tree, isBe, bes, boxed}
+use Rattle.trees.specs.Tree.{signalsOf, meant, meaningsFrom, meanings, at, meaningOf}
 use Rattle.trees.specs.Modules.{bound, beModule, countModule, pandModule, boxModule, clockless, moduleFor, componentsFrom, treeModel}
 use Rattle.treelines.specs.declared.Element.{Element}
 use Rattle.treelines.specs.Elements.{sortIs}
 use Rattle.treenames.specs.Names.{treeIn, LinesOf}
 use Rattle.treenames.proofs.Passing.{Left, all-left, none-left, First}
-use Rattle.elements.specs.Parts.{meaningAt, elementOf, Fit, statesBy, kindFor}
+use Rattle.elements.specs.Parts.{elementOf, Fit, statesBy, kindFor}
 use Rattle.meanings.proofs.FirstLine.{it-is}
 use Rattle.treerows.specs.Rows.{stateRows, elementRows}
 use Rattle.treerows.specs.KindSets.{kindsBelow, wordKind}
@@ -91,7 +92,15 @@ module _ (t : Tree) (words : List ℕ) (h : Hold t words) (k : ℕ) (e : TheElem
 
   bare-is : bare (c .states) (c .start) (c .ins) (c .outs) (c .uins) (c .uouts) (c .clocks) ≡ bareBy words n e k
   unfolding compBy bareBy kindsBelow
-  bare-is = rw (module-states t k e (e .sort), clocks-are (e .sort), kinds-whole isIn refl, kinds-whole isOut refl, kinds-whole isUin refl, kinds-whole isUout refl)
+  bare-is =
+      rw (
+        module-states t k e (e .sort),
+        clocks-are (e .sort),
+        kinds-whole isIn refl,
+        kinds-whole isOut refl,
+        kinds-whole isUin refl,
+        kinds-whole isUout refl,
+      )
 
   rows-are : c .rows ≡ elementRows words n e k
   unfolding compBy
@@ -110,12 +119,15 @@ spread-few g b j l h = omega (arith, spread-length g j l, sum-at-most (λ i. len
 pub element-few : (words : List ℕ) (count : ℕ) (e : Element) (k : ℕ) → Fit e → count ≤ maxActions → length (elementRows words count (elementOf e) k) ≤ 4096
 unfolding elementRows
 element-few words count e k f h =
-    let g = spread-few (stateRows words count (elementOf e) k) maxActions 0 (statesBy (elementOf e)) (λ s. let z = state-few words count (elementOf e) k s in omega (arith, z, h)) in
+    let g = spread-few (stateRows words count (elementOf e) k) maxActions 0 (statesBy (elementOf e))
+    (λ s. let z = state-few words count (elementOf e) k s in omega (arith, z, h)) in
     omega (arith, g, states-low e f)
 
 pub bare-few : (words : List ℕ) (count : ℕ) (e : TheElement) (k : ℕ) → length (compText (bareBy words count e k)) ≤ 5000
 unfolding bareBy
-bare-few words count e k = let h = kindsBelow (wordKind words e) count in bare-most (statesBy e) 0 (h .ins) (h .outs) (h .uins) (h .uouts) (clocksFor (e .sort) k)
+bare-few words count e k =
+    let h = kindsBelow (wordKind words e) count in
+    bare-most (statesBy e) 0 (h .ins) (h .outs) (h .uins) (h .uouts) (clocksFor (e .sort) k)
 
 -- ---- what the walk that counts says
 module _ (words : List ℕ) (count : ℕ) (e : TheElement) (k b : ℕ) (n r : Tally) (l l′ : List ℕ) (eb : b ≡ length (compText (bareBy words count e k)))
@@ -167,7 +179,8 @@ pub record Sizing (text words : List ℕ) (count : ℕ) (n : Tally) (k at : ℕ)
   pub rows-low : n .rows ≤ 4096 * done
   pub bytes-low : n .bytes ≤ 2102152 * done
 
-pub sizing-begins : (text words : List ℕ) (count : ℕ) → LinesOf text (treeIn text) → Hold (treeIn text) words → count ≡ length (meanings (treeIn text)) → length (treeIn text) ≤ maxComponents
+pub sizing-begins : (text words : List ℕ) (count : ℕ) → LinesOf text (treeIn text) → Hold (treeIn text) words
+    → count ≡ length (meanings (treeIn text)) → length (treeIn text) ≤ maxComponents
     → Sizing text words count (record { rows = 0; bytes = 0 }) 0 0
 unfolding treeModel
 sizing-begins text words count h w e r = record {
@@ -231,7 +244,8 @@ module _ (text words : List ℕ) (count : ℕ) (n : Tally) (k at : ℕ) (c : Siz
         let few = element-few words count e k f count-low in
         let head = bare-few words count E k in
         let long = rows-most (elementRows words count E k) in
-        let rows-here : length (C .rows) ≡ length (elementRows words count E k) = line-rows-are t words (c .hold) k E ∙ ap (λ x. length (elementRows words x E k)) (sym (c .all)) in
+        let rows-here : length (C .rows) ≡ length (elementRows words count E k) = line-rows-are t words (c .hold) k E
+        ∙ ap (λ x. length (elementRows words x E k)) (sym (c .all)) in
         let bytes-here : length (compText C) ≡ length (compText (bareBy words count E k)) + length (rowLines (elementRows words count E k)) =
         line-bytes-are t words (c .hold) k E ∙ ap (λ x. length (compText (bareBy words x E k)) + length (rowLines (elementRows words x E k))) (sym (c .all)) in
         let rows-all = ap rowCount more in
@@ -255,7 +269,8 @@ module _ (text words : List ℕ) (count : ℕ) (n : Tally) (k at : ℕ) (c : Siz
         }
 
 -- the lines beside the rows, as the code has them
-pub bytes-by : (words : List ℕ) (count : ℕ) (e : TheElement) (k : ℕ) (h : Kinds) (states clocks : ℕ) → h ≡ kindsBelow (wordKind words e) count → states ≡ statesBy e → clocks ≡ clocksFor (e .sort) k
+pub bytes-by : (words : List ℕ) (count : ℕ) (e : TheElement) (k : ℕ) (h : Kinds) (states clocks : ℕ) → h ≡ kindsBelow (wordKind words e) count
+    → states ≡ statesBy e → clocks ≡ clocksFor (e .sort) k
     → length (compText (bare states 0 (h .ins) (h .outs) (h .uins) (h .uouts) clocks)) ≡ length (compText (bareBy words count e k))
 unfolding bareBy
 bytes-by words count e k h states clocks p q r =

@@ -151,7 +151,8 @@ module _ (i : Inputs) (begin : LineSets) where
     unfolding takenAll insIn
     taking-done h = ap (takenAll s) (sym (tab-done (inputAt i) j (i .count) h)) ∙ t .same
 
-pub line-done : (e : Element) (own : ℕ) → own ≡ only (e .number) → (s : LineSets) → s ≡ takenAll (record { own = own; all = 0; twice = false }) (insIn (e .inputs))
+pub line-done : (e : Element) (own : ℕ) → own ≡ only (e .number) → (s : LineSets) → s ≡ takenAll (record { own = own; all = 0; twice = false })
+    (insIn (e .inputs))
     → s ≡ lineSets e
 unfolding lineSets
 line-done e own p s q = q ∙ ap (λ o. takenAll (record { own = o; all = 0; twice = false }) (insIn (e .inputs))) p

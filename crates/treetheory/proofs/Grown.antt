@@ -1,6 +1,6 @@
 -- The system of a tree: its lines and their components, its actions, and what holds in every composed state that it reaches.
 use mathlib.Core.Path.{_≡_, refl, sym, _∙_, ap, subst}
-use mathlib.Core.Logic.{_≢_, _⊎_, inl, inr}
+use mathlib.Core.Logic.{_⊎_, inl, inr}
 use mathlib.Core.Option.{some, Option·some-inj}
 use mathlib.Core.Bool.{true, false, true≢false}
 use mathlib.Core.List.{List, _∷_}
@@ -185,7 +185,10 @@ module _ (S : Grown) where
       let n = reached-known c cs well conf join closed at-start in
       let w = start-in-range m well in
       let e = one-list n (startAll m) w (sym (start-of-the-product c cs .0)) in
-      record { knows = n; sane = rw e (start-sane t (S .drawn) (S .proper) (S .known) (g .ascends) (startAll m) (within-length m (startAll m) w ∙ many) start-zero) }
+      record {
+        knows = n;
+        sane = rw e (start-sane t (S .drawn) (S .proper) (S .known) (g .ascends) (startAll m) (within-length m (startAll m) w ∙ many) start-zero);
+      }
 
   pub held-row : (C a R : ℕ) (y z : product c cs .State) → (a ∈ product c cs .urgent) ⊎ Stable (product c cs) y → product c cs .Row y C a R z → Held y → Held z
   held-row C a R y z way row h =

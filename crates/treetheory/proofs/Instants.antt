@@ -22,7 +22,8 @@ use Rattle.triggering.specs.Triggering.{Enabled, part, Triggers, Woken}
 use Rattle.triggering.specs.Test.{uoutsAt}
 use Rattle.triggering.proofs.Enabling.{uouts-exactly}
 use Rattle.triggering.proofs.Known.{On, go-at}
-use Rattle.trees.specs.Tree.{Sort, be-sort, and-sort, or-sort, pand-sort, rbox-sort, Element, Tree, boxed, Signal, fl, up, f as told-f, u as told-u, r as told-r, Meaning, signalsOf, meaningOf}
+use Rattle.trees.specs.Tree.{Sort, be-sort, and-sort, or-sort, pand-sort, rbox-sort, Element, Tree, boxed, Signal, fl, up, f as told-f, u as told-u}
+use Rattle.trees.specs.Tree.{r as told-r, Meaning, signalsOf, meaningOf}
 use Rattle.trees.specs.Modules.{own-f, own-u, gateKind, pandRole}
 use Rattle.treetheory.specs.AsDrawn.{downIn, downAt, mendingIn, mendingAt, firstOf, secondOf, Instant, AfterInstant}
 use Rattle.treetheory.proofs.Colours.{signalAt, signal-at, codeOf, toldAs, Wakes, failure-told, failure-ordered, repair-told, repair-ordered}
@@ -33,8 +34,10 @@ use Rattle.treetheory.proofs.Lawful.{pand-moved, pand-quiet}
 use Rattle.treetheory.proofs.Sane.{Sane, pand-flags}
 use Rattle.treetheory.proofs.Roles.{Moved}
 use Rattle.treetheory.proofs.TellingGates.{pandGo}
-use Rattle.treetheory.proofs.Priority.{During, tells, orders, during-urgent, inInstant, firstFlag, secondFlag, end-at, pand-begins, pand-goes, be-goes, be-fails, be-mends, be-repaired, be-keeps}
-use Rattle.treetheory.proofs.Grown.{Grown, g, well, conf, join, inside, meaning, everywhere, taken, tame, Held, range, one-list, held-row, held, told-is-down, pand-line, be-at, not-urgent-part, calm-meaning, down-is, mend-is, long}
+use Rattle.treetheory.proofs.Priority.{During, tells, orders, during-urgent, inInstant, firstFlag, secondFlag, end-at, pand-begins, pand-goes}
+use Rattle.treetheory.proofs.Priority.{be-goes, be-fails, be-mends, be-repaired, be-keeps}
+use Rattle.treetheory.proofs.Grown.{Grown, g, well, conf, join, inside, meaning, everywhere, taken, tame, Held, range, one-list, held-row}
+use Rattle.treetheory.proofs.Grown.{held, told-is-down, pand-line, be-at, not-urgent-part, calm-meaning, down-is, mend-is, long}
 
 module _ (S : Grown) where
   abbrev t : Tree
@@ -124,7 +127,9 @@ module _ (S : Grown) where
       record {
         holds = held-z;
         hued = rw e (hued-on b (row .urgent) (n .parts) (q .1) on (h .hued));
-        pands = λ i hi wi. rw e (pand-goes (lineAt t i) b (getD s i 0) (pand-still s ws st i hi wi .0) (x .0) (getD (n .list) i 0) (getD (q .0) i 0) now (h .pands i hi wi)
+        pands =
+            λ i hi wi. rw e (pand-goes (lineAt t i) b (getD s i 0) (pand-still s ws st i hi wi .0) (x .0) (getD (n .list) i 0) (getD (q .0) i 0) now
+            (h .pands i hi wi)
             (pand-at (x .1) (x .2) (q .1) i hi wi));
         bes = λ i hi wi. rw e (
             let mv = be-at S (x .1) (x .2) (q .1) i hi wi in
@@ -198,7 +203,9 @@ module _ (S : Grown) where
         };
         failed = λ i hi wi of sig. let mv = be-at S means ha (q .1) i hi wi in be-fails (lineAt t i) (mv .0) y (getD s i 0) (getD (q .0) i 0) of sig (mv .1);
         mended = λ i hi wi of sig. let mv = be-at S means ha (q .1) i hi wi in be-mends (lineAt t i) (mv .0) y (getD s i 0) (getD (q .0) i 0) of sig (mv .1);
-        repaired = λ i hi wi of sig. let mv = be-at S means ha (q .1) i hi wi in be-repaired (lineAt t i) (mv .0) y (getD s i 0) (getD (q .0) i 0) of sig (mv .1);
+        repaired =
+            λ i hi wi of sig. let mv = be-at S means ha (q .1) i hi wi in be-repaired (lineAt t i) (mv .0) y (getD s i 0) (getD (q .0) i 0) of sig
+            (mv .1);
         kept = λ i hi wi ne. let mv = be-at S means ha (q .1) i hi wi in be-keeps (lineAt t i) (mv .0) y (getD s i 0) (getD (q .0) i 0) ne (mv .1);
       }
 
@@ -221,8 +228,12 @@ module _ (S : Grown) where
       → (i : ℕ) × (i < length t) × (lineAt t i .sort ≡ be-sort) × (y .of ≡ lineAt t i .number)
   clock-line a {y} cause means =
       let n = named t a means in
-      let i = in-line t (n .element) (n .line) in
-      (i .0, i .1, ap (λ (k : Element). k .sort) (i .2) ∙ be-of (n .element .sort) (boxed t (n .element .number)) (y .signal) cause (n .signal), n .number ∙ ap (λ (k : Element). k .number) (sym (i .2)))
+      let i = in-line t (n .element) (n .line) in (
+        i .0,
+        i .1,
+        ap (λ (k : Element). k .sort) (i .2) ∙ be-of (n .element .sort) (boxed t (n .element .number)) (y .signal) cause (n .signal),
+        n .number ∙ ap (λ (k : Element). k .number) (sym (i .2)),
+      )
 
   record Ended (y : Meaning) (s z : List ℕ) : Type 0 where
     began : List ℕ
@@ -264,7 +275,8 @@ module _ (S : Grown) where
 
     prior : (j : ℕ) → j < length t → lineAt t j .sort ≡ pand-sort
         → downAt t z (lineAt t j .number)
-        ≡ (downAt t z (secondOf (lineAt t j)) && (downAt t s (lineAt t j .number) || (not (downAt t s (secondOf (lineAt t j))) && downAt t z (firstOf (lineAt t j)))))
+        ≡ (downAt t z (secondOf (lineAt t j)) && (downAt t s (lineAt t j .number) || (not (downAt t s (secondOf (lineAt t j))) && downAt t z
+        (firstOf (lineAt t j)))))
     prior j hj wj =
         let e = lineAt t j in
         let sj = getD s j 0 in
@@ -289,7 +301,9 @@ module _ (S : Grown) where
           cause = cause;
           failed = λ sig. ap (downAt t z) (cl .3) ∙ be-down (cl .0) (cl .1) (cl .2) ∙ x .failed (cl .0) (cl .1) (cl .2) (cl .3) sig;
           mended = λ sig. ap (downAt t z) (cl .3) ∙ be-down (cl .0) (cl .1) (cl .2) ∙ x .mended (cl .0) (cl .1) (cl .2) (cl .3) sig;
-          repaired = λ sig. ap (mendingAt t s) (cl .3) ∙ mend-is S s (x .before .long) (cl .0) (cl .1) (cl .2) ∙ x .repaired (cl .0) (cl .1) (cl .2) (cl .3) sig;
+          repaired =
+              λ sig. ap (mendingAt t s) (cl .3) ∙ mend-is S s (x .before .long) (cl .0) (cl .1) (cl .2) ∙ x .repaired (cl .0) (cl .1) (cl .2) (cl .3)
+              sig;
           others = λ e l w ne.
               let j = in-line t e l in
               let n = ap (λ (k : Element). k .number) (j .2) in
@@ -298,7 +312,8 @@ module _ (S : Grown) where
           priority = λ e l w.
               let j = in-line t e l in
               let q = prior (j .0) (j .1) (ap (λ (k : Element). k .sort) (j .2) ∙ w) in
-              subst (λ k. downAt t z (k .number) ≡ (downAt t z (secondOf k) && (downAt t s (k .number) || (not (downAt t s (secondOf k)) && downAt t z (firstOf k))))) (j .2) q;
+              subst (λ k. downAt t z (k .number) ≡ (downAt t z (secondOf k)
+              && (downAt t s (k .number) || (not (downAt t s (secondOf k)) && downAt t z (firstOf k))))) (j .2) q;
         }
 
   pub instant : (a : ℕ) (s z : List ℕ) → Instant c cs a s z → (y : Meaning) × (meaningOf t a ≡ some y) × AfterInstant t y s z

@@ -1,6 +1,6 @@
 -- A step of the system, at one element: the states are kept, what it has told changes by its own f and u, and a gate counts what it hears.
 use mathlib.Core.Path.{_≡_, refl, sym, _∙_, ap, subst}
-use mathlib.Core.Logic.{_≢_, _⊎_, ⊎-elim}
+use mathlib.Core.Logic.{_≢_, ⊎-elim}
 use mathlib.Core.Option.{Option, none, some}
 use mathlib.Core.Bool.{Bool, true, false}
 use mathlib.Core.List.{List·Memᴰ as In, List·Memᴰ·head as here, List·Memᴰ·tail as there, List·Memᴰ·not-nil as in-none}
@@ -15,7 +15,8 @@ use Rattle.iosa.specs.Automaton.{autoOf, Stable}
 use Rattle.iosa.specs.Parts.{Go}
 use Rattle.trees.specs.Module.{Move, Module, isUout, compBy, Sound}
 use Rattle.trees.specs.Tree.{Sort, be-sort, and-sort, or-sort, pand-sort, rbox-sort, Element, Tree, boxed, Signal, fl, f, u, Meaning, signalsOf, meaningOf}
-use Rattle.trees.specs.Modules.{ofMeaning, bound, beKind, beRole, own-f, own-u, gateKind, gateRole, pandRole, box-r, boxKind, boxRole, clockless, beModule, countModule, pandModule, boxModule, moduleFor}
+use Rattle.trees.specs.Modules.{ofMeaning, bound, beKind, beRole, own-f, own-u, gateKind, gateRole, pandRole, box-r, boxKind, boxRole, clockless}
+use Rattle.trees.specs.Modules.{beModule, countModule, pandModule, boxModule, moduleFor}
 use Rattle.trees.proofs.Numbers.{has-number}
 use Rattle.trees.proofs.Owners.{Has, has-part}
 use Rattle.trees.proofs.Accepted.{Good}
@@ -24,7 +25,8 @@ use Rattle.treetheory.proofs.Colours.{Peaceful, Clear}
 use Rattle.treetheory.proofs.Owned.{named}
 use Rattle.treetheory.proofs.Roles.{Moved, go-moved, clear-none}
 use Rattle.treetheory.proofs.Telling.{fineIn, toldIn, ToldStep, stays, not-fl}
-use Rattle.treetheory.proofs.TellingGates.{countGo, pandGo, CountStep, own-role-f, own-role-u, and-told, or-told, pand-told, and-counted, or-counted, first-counted, second-counted, and-rests, or-rests, pand-rests}
+use Rattle.treetheory.proofs.TellingGates.{countGo, pandGo, CountStep, own-role-f, own-role-u, and-told, or-told, pand-told, and-counted}
+use Rattle.treetheory.proofs.TellingGates.{or-counted, first-counted, second-counted, and-rests, or-rests, pand-rests}
 use Rattle.treetheory.proofs.Mending.{boxGo}
 use Rattle.treetheory.proofs.TellingBasic.{beGo, own-signal, be-told, be-rests}
 
@@ -165,24 +167,35 @@ module _ (t : Tree) (g : Good t) where
     unfolding compBy beModule countModule pandModule clockless
     lawful be-sort w o hx far {z = z} {y = y} means ha go fi clear =
         let k = be-free w o hx clear in
-        let mv = moved e listed (beModule t n e) (beRole e) beKind (beGo n) (λ a. refl) (λ s a. refl) (part-of be-sort n e w) (λ s a v. o .target-below) means ha go in
+        let mv = moved e listed (beModule t n e) (beRole e) beKind (beGo n) (λ a. refl) (λ s a. refl) (part-of be-sort n e w)
+        (λ s a v. o .target-below) means ha go in
         let l = be-told e n y x z fi (k .0) (k .1) mv in
         record { fine = l .0; told = l .1; counts = tt }
     lawful and-sort w o hx far {z = z} {y = y} means ha go fi clear =
         let k = and-free w o hx clear in
-        let mv = moved e listed (countModule 2 t e) (gateRole e) gateKind (countGo 2) (λ a. refl) (λ s a. refl) (part-of and-sort n e w) (λ s a v. o .target-below) means ha go in
+        let mv = moved e listed (countModule 2 t e) (gateRole e) gateKind (countGo 2) (λ a. refl) (λ s a. refl) (part-of and-sort n e w)
+        (λ s a v. o .target-below) means ha go in
         let l = and-told e y x z fi (k .0) (k .1) mv in
         record { fine = l .0; told = l .1; counts = and-counted e y x z (far refl .first) (far refl .second) mv }
     lawful or-sort w o hx far {z = z} {y = y} means ha go fi clear =
         let k = or-free w o hx clear in
-        let mv = moved e listed (countModule 1 t e) (gateRole e) gateKind (countGo 1) (λ a. refl) (λ s a. refl) (part-of or-sort n e w) (λ s a v. o .target-below) means ha go in
+        let mv = moved e listed (countModule 1 t e) (gateRole e) gateKind (countGo 1) (λ a. refl) (λ s a. refl) (part-of or-sort n e w)
+        (λ s a v. o .target-below) means ha go in
         let l = or-told e y x z fi (k .0) (k .1) mv in
         record { fine = l .0; told = l .1; counts = or-counted e y x z (far refl .first) (far refl .second) mv }
     lawful pand-sort w o hx far {z = z} {y = y} means ha go fi clear =
         let k = pand-free w o hx clear in
-        let mv = moved e listed (pandModule t e) (pandRole e) gateKind pandGo (λ a. refl) (λ s a. refl) (part-of pand-sort n e w) (λ s a v. o .target-below) means ha go in
+        let mv = moved e listed (pandModule t e) (pandRole e) gateKind pandGo (λ a. refl) (λ s a. refl) (part-of pand-sort n e w)
+        (λ s a v. o .target-below) means ha go in
         let l = pand-told e y x z fi (k .0) (k .1) mv in
-        record { fine = l .0; told = l .1; counts = (first-counted e y x z (far refl .first) (far refl .second) mv, second-counted e y x z (far refl .first) (far refl .second) mv) }
+        record {
+          fine = l .0;
+          told = l .1;
+          counts = (
+            first-counted e y x z (far refl .first) (far refl .second) mv,
+            second-counted e y x z (far refl .first) (far refl .second) mv,
+          );
+        }
     lawful rbox-sort w o hx far {a = a} means ha go fi clear = record {
       fine = refl;
       told = stays (λ v s. box-silent e listed w a means v) (λ v s. box-silent e listed w a means v) refl;

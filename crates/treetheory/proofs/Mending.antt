@@ -229,7 +229,8 @@ module _ (l : List ℕ) (y : Meaning) (x z : ℕ) (d m d' m' : ℕ → Bool) (ok
   at-failure : (k : ℕ) → placeOf (y .of) l ≡ some k → y .signal ≡ fl → x ∪ only (length l - k) ≡ z → BoxKnows l z d' m'
   at-failure k p s e = rw (← e) (record {
     bits = λ v i q. elim (ℕ-discrete (y .of) v) [
-      | yes w ↦ ap (has (x ∪ only (length l - k))) (ap (λ j. length l - j) (sym (same-place w p q))) ∙ or-in-r x (only (length l - k)) (length l - k) (in-one (length l - k)) ∙ sym (failed-one v i q w s .2)
+      | yes w ↦ ap (has (x ∪ only (length l - k))) (ap (λ j. length l - j) (sym (same-place w p q))) ∙ or-in-r x (only (length l - k)) (length l - k)
+          (in-one (length l - k)) ∙ sym (failed-one v i q w s .2)
       | no w ↦ join-other x (length l - k) (length l - i) (other-place w p q) ∙ ok .bits v i q ∙ sym (stay v i q w .0)
     ];
     free = λ h v i q. elim (ℕ-discrete (y .of) v) [
@@ -249,7 +250,8 @@ module _ (l : List ℕ) (y : Meaning) (x z : ℕ) (d m d' m' : ℕ → Bool) (ok
   at-repair k p s e = rw (← e) (record {
     bits = λ v i q.
         drop-other (x ∖ only (length l - k)) 0 (length l - i) (λ h. not-zero v q (sym h)) ∙ elim (ℕ-discrete (y .of) v) [
-          | yes w ↦ ap (has (x ∖ only (length l - k))) (ap (λ j. length l - j) (sym (same-place w p q))) ∙ drop-same x (length l - k) ∙ sym (mended-one v i q w s .2)
+          | yes w ↦ ap (has (x ∖ only (length l - k))) (ap (λ j. length l - j) (sym (same-place w p q))) ∙ drop-same x (length l - k)
+              ∙ sym (mended-one v i q w s .2)
           | no w ↦ drop-other x (length l - k) (length l - i) (other-place w p q) ∙ ok .bits v i q ∙ sym (stay v i q w .0)
         ];
     free = λ h v i q. not-so (m' v) (λ g. none-left v i q g);

@@ -1,9 +1,10 @@
 -- Every action of a tree is somebody's output: the model is closed (45 never arises).
 use mathlib.Core.Path.{_≡_, refl, sym, _∙_, ap}
-use mathlib.Core.Logic.{_⊎_, ⊎-elim}
+use mathlib.Core.Logic.{⊎-elim}
 use mathlib.Core.Option.{Option, none, some}
 use mathlib.Core.Bool.{Bool, true, false, false≢true, cond, _&&_, _||_}
-use mathlib.Core.List.{List, [], _∷_, List·Memᴰ as In, List·Memᴰ·head as here, List·Memᴰ·tail as there, List·Memᴰ·not-nil as in-none, List·Memᴰ·append-cases as append-cases}
+use mathlib.Core.List.{List, [], _∷_, List·Memᴰ as In, List·Memᴰ·head as here, List·Memᴰ·tail as there, List·Memᴰ·not-nil as in-none}
+use mathlib.Core.List.{List·Memᴰ·append-cases as append-cases}
 use Prim.Native.Nat.{ℕ, suc, _<_}
 use native.Mathlib.Omega.{arith}
 use lib.Dec.{eqb}
@@ -18,8 +19,10 @@ use Rattle.model.specs.Text.{Kind, in-kind, out-kind, uin-kind, uout-kind}
 use Rattle.model.specs.Model.{compAt, inputs, outputs}
 use Rattle.triggering.specs.Triggering.{NoOpenInput}
 use Rattle.trees.specs.Module.{Module, those, isOut, isUout, compBy}
-use Rattle.trees.specs.Tree.{Sort, be-sort, and-sort, or-sort, pand-sort, rbox-sort, Element, Tree, isBe, isBox, among, boxed, Signal, fl, up, f, u, r, Meaning, signalsOf, meant, meaningsFrom, meanings, meaningOf}
-use Rattle.trees.specs.Modules.{ofMeaning, GateRole, beKind, beRole, own-f, own-u, gateKind, gateRole, ticked, pandRole, BoxRole, boxKind, boxHears, boxRole, placeOf, clockless, beModule, countModule, pandModule, boxModule, moduleFor, componentsFrom, treeModel}
+use Rattle.trees.specs.Tree.{Sort, be-sort, and-sort, or-sort, pand-sort, rbox-sort, Element, Tree, isBe, isBox, among, boxed, Signal, fl, up, f, u}
+use Rattle.trees.specs.Tree.{r, Meaning, signalsOf, meant, meaningsFrom, meanings, meaningOf}
+use Rattle.trees.specs.Modules.{ofMeaning, GateRole, beKind, beRole, own-f, own-u, gateKind, gateRole, ticked, pandRole, BoxRole, boxKind, boxHears}
+use Rattle.trees.specs.Modules.{boxRole, placeOf, clockless, beModule, countModule, pandModule, boxModule, moduleFor, componentsFrom, treeModel}
 use Rattle.trees.proofs.Modules.{those-in}
 use Rattle.trees.proofs.Numbers.{at-member}
 use Rattle.trees.proofs.Owners.{isOutput, has-part}

@@ -28,7 +28,8 @@ use Rattle.iosa.proofs.Reaching.Refused19.{part-at}
 use Rattle.triggering.proofs.Known.{go-at}
 use Rattle.triggering.proofs.WhereReached.{Known, row-keeps-known, reached-known}
 use Rattle.trees.specs.Module.{compBy, Sound}
-use Rattle.trees.specs.Tree.{Sort, be-sort, and-sort, or-sort, pand-sort, rbox-sort, Element, Tree, isBe, isBox, among, boxed, Signal, fl, up, r as told-r, Meaning, signalsOf, meaningOf}
+use Rattle.trees.specs.Tree.{Sort, be-sort, and-sort, or-sort, pand-sort, rbox-sort, Element, Tree, isBe, isBox, among, boxed, Signal, fl, up}
+use Rattle.trees.specs.Tree.{r as told-r, Meaning, signalsOf, meaningOf}
 use Rattle.trees.specs.Modules.{plainMove, BoxRole, box-r, boxMove, boxHears, boxRole, placeOf, boxModule, moduleFor}
 use Rattle.trees.proofs.Numbers.{has-number}
 use Rattle.trees.proofs.Lookup.{in-among}
@@ -40,8 +41,10 @@ use Rattle.treetheory.proofs.Owned.{named, among-place}
 use Rattle.treetheory.proofs.Standing.{lineAt, line-in, in-line}
 use Rattle.treetheory.proofs.Lawful.{same-line, box-moved, box-quiet}
 use Rattle.treetheory.proofs.TameBoxes.{place-tells}
-use Rattle.treetheory.proofs.Mending.{MendStep, m-fails, m-mends, m-begins, m-stays, mend-step, BoxStep, x-fails, x-mends, x-orders, x-rests, boxSignal, box-step, boxGo, BoxKnows, box-knows-on}
-use Rattle.treetheory.proofs.Grown.{Grown, g, well, conf, join, inside, comp-is, meaning, taken, range, one-list, closed, start-zero, be-at, calm-meaning, down-is, mend-is, long, on-urgent}
+use Rattle.treetheory.proofs.Mending.{MendStep, m-fails, m-mends, m-begins, m-stays, mend-step, BoxStep, x-fails, x-mends, x-orders, x-rests}
+use Rattle.treetheory.proofs.Mending.{boxSignal, box-step, boxGo, BoxKnows, box-knows-on}
+use Rattle.treetheory.proofs.Grown.{Grown, g, well, conf, join, inside, comp-is, meaning, taken, range, one-list, closed, start-zero, be-at}
+use Rattle.treetheory.proofs.Grown.{calm-meaning, down-is, mend-is, long, on-urgent}
 
 module _ (S : Grown) where
   abbrev t : Tree
@@ -85,7 +88,8 @@ module _ (S : Grown) where
       (q .1 ∙ ap (λ k. compBy (moduleFor k t (q .0) (lineAt t i))) w, subst (λ k. Sound (moduleFor k t (q .0) (lineAt t i))) w (q .2))
 
   -- a step at a box, and at the elements of its list
-  module _ {a C R : ℕ} {s z : List ℕ} {y : Meaning} (means : meaningOf t a ≡ some y) (ha : a < maxActions) (ws : Within m s) (wz : Within m z) (go : GoAll a m s C R z) where
+  module _ {a C R : ℕ} {s z : List ℕ} {y : Meaning} (means : meaningOf t a ≡ some y) (ha : a < maxActions) (ws : Within m s) (wz : Within m z)
+      (go : GoAll a m s C R z) where
     box-at : (i : ℕ) → i < length t → lineAt t i .sort ≡ rbox-sort → BoxStep (lineAt t i .ins) y (getD s i 0) (getD z i 0)
     box-at i h w =
         let k = box-line i h w in
@@ -94,7 +98,8 @@ module _ (S : Grown) where
         (box-moved t (g S) 0 (lineAt t i) (line-in t i h) (getD s i 0) w (k .1) means ha (rw (k .0) at (x .2)))
 
     mend-at : (j : ℕ) → j < length t → lineAt t j .sort ≡ be-sort
-        → MendStep (lineAt t j .number) y (downAt t s (lineAt t j .number)) (mendingAt t s (lineAt t j .number)) (downAt t z (lineAt t j .number)) (mendingAt t z (lineAt t j .number))
+        → MendStep (lineAt t j .number) y (downAt t s (lineAt t j .number)) (mendingAt t s (lineAt t j .number)) (downAt t z (lineAt t j .number))
+        (mendingAt t z (lineAt t j .number))
     mend-at j h w =
         let mv = be-at S means ha go j h w in
         let ds = down-is S s (long S s ws) j h w in
@@ -143,7 +148,8 @@ module _ (S : Grown) where
   unboxed-start : Unboxed (startAll m)
   unboxed-start j h w b = mend-is S (startAll m) (long S (startAll m) (start-in-range m (well S))) j h w ∙ ap (mendingIn be-sort) (start-zero S j h)
 
-  no-order : (a : ℕ) {y : Meaning} → meaningOf t a ≡ some y → (j : ℕ) → j < length t → lineAt t j .sort ≡ be-sort → boxed t (lineAt t j .number) ≡ false → y .of ≡ lineAt t j .number
+  no-order : (a : ℕ) {y : Meaning} → meaningOf t a ≡ some y → (j : ℕ) → j < length t → lineAt t j .sort ≡ be-sort → boxed t (lineAt t j .number)
+      ≡ false → y .of ≡ lineAt t j .number
       → y .signal ≡ told-r → ⊥
   no-order a {y} means j h w b of sig =
       let n = named t a means in
@@ -164,7 +170,8 @@ module _ (S : Grown) where
   unmended never ok (m-begins q h i j) = absurd (never q h)
   unmended never ok (m-stays q i j) = j ∙ ok
 
-  unboxed-on : {a C R : ℕ} {s z : List ℕ} {y : Meaning} → meaningOf t a ≡ some y → a < maxActions → Within m s → Within m z → GoAll a m s C R z → Unboxed s → Unboxed z
+  unboxed-on : {a C R : ℕ} {s z : List ℕ} {y : Meaning} → meaningOf t a ≡ some y → a < maxActions → Within m s → Within m z → GoAll a m s C R z
+      → Unboxed s → Unboxed z
   unboxed-on {a} means ha ws wz go ok j h w b = unmended (no-order a means j h w b) (ok j h w b) (mend-at means ha ws wz go j h w)
 
   -- every composed state that is reached
@@ -249,7 +256,8 @@ module _ (S : Grown) where
       let below = part-at (λ k x. x < k .states) m s ws i (inside S i h) in
       let calm = part-at (λ k x. Stable (autoOf k) x) m s (stable-parts c cs (well S) (conf S) (join S) s ws st) i (inside S i h) in
       can-order (length (e .ins)) (getD s i 0) k idle bit before
-      (box-quiet t (g S) 0 e (line-in t i h) (getD s i 0) w (q .1) (rw (q .0) at below) (rw (q .0) at calm) (b .0) k (b .2) (b .1) (order-role e v k (pl .1 ∙ ap some same-k)))
+      (box-quiet t (g S) 0 e (line-in t i h) (getD s i 0) w (q .1) (rw (q .0) at below) (rw (q .0) at calm) (b .0) k (b .2) (b .1)
+      (order-role e v k (pl .1 ∙ ap some same-k)))
 
   never-idle : (s : List ℕ) → Within m s → Stable (product c cs) (stateOf c cs s) → Boxes s → (i : ℕ) → i < length t → lineAt t i .sort ≡ rbox-sort → (v : ℕ)
       → In v (lineAt t i .ins)
@@ -259,7 +267,8 @@ module _ (S : Grown) where
       free-bit : has (getD s i 0) 0 ≡ false → (o : Option ℕ) → least (λ j. has (getD s i 0) (length (lineAt t i .ins) - j)) (length (lineAt t i .ins)) ≡ o → ⊥
       free-bit idle none q =
           let pl = in-place v (lineAt t i .ins) iv in
-          let no-bit = least-none (λ j. has (getD s i 0) (length (lineAt t i .ins) - j)) (length (lineAt t i .ins)) q (pl .0) (place-below v (lineAt t i .ins) (pl .0) (pl .1)) in
+          let no-bit = least-none (λ j. has (getD s i 0) (length (lineAt t i .ins) - j)) (length (lineAt t i .ins)) q (pl .0)
+          (place-below v (lineAt t i .ins) (pl .0) (pl .1)) in
           true≢false (sym dv ∙ sym (bx i h w .bits v (pl .0) (pl .1)) ∙ no-bit)
       free-bit idle (some k) q =
           let f : (ℕ → Bool) = (λ j. has (getD s i 0) (length (lineAt t i .ins) - j)) in
@@ -348,7 +357,8 @@ module _ (S : Grown) where
   first-on s l z y i v k ur ok bs pl ih (m-fails q h a b e) mz w n pw lt mw = absurd (true≢false (sym ur ∙ ap urgentSignal h))
   first-on s l z y i v k ur ok bs pl ih (m-mends q h a b e) mz w n pw lt mw = absurd (true≢false (sym ur ∙ ap urgentSignal h))
   first-on s l z y i v k ur ok bs pl ih (m-begins q h a b) mz w n pw lt mw =
-      kept-down ur mw ∙ by-order (lineAt t i .ins) y (getD l i 0) (getD z i 0) k (downAt t l) (mendingAt t l) ok bs (ap (λ x. placeOf x (lineAt t i .ins)) q ∙ pl) h w n pw lt
+      kept-down ur mw ∙ by-order (lineAt t i .ins) y (getD l i 0) (getD z i 0) k (downAt t l) (mendingAt t l) ok bs
+      (ap (λ x. placeOf x (lineAt t i .ins)) q ∙ pl) h w n pw lt
   first-on s l z y i v k ur ok bs pl ih (m-stays q a b) mz w n pw lt mw = kept-down ur mw ∙ ih w (sym b ∙ mz) n pw lt
 
   mends-on : (s : List ℕ) (C a R : ℕ) (y z : product c cs .State) → UrgentRow (product c cs) y C a R z → Mends s y → Mends s z
@@ -365,7 +375,9 @@ module _ (S : Grown) where
       record {
         holds = st;
         on = λ j hj wj ms. rw e (kept-mend ur (mend-at (x .1) (x .2) w v (q .1) j hj wj) (h .on j hj wj ms));
-        firsts = λ i hi wi u0 k0 pl ns mz w0 l0 pw lt. rw e (first-on s (n .list) (q .0) (x .0) i u0 k0 ur (h .holds .boxes i hi wi) (box-at (x .1) (x .2) w v (q .1) i hi wi) pl
+        firsts =
+            λ i hi wi u0 k0 pl ns mz w0 l0 pw lt. rw e (first-on s (n .list) (q .0) (x .0) i u0 k0 ur (h .holds .boxes i hi wi)
+            (box-at (x .1) (x .2) w v (q .1) i hi wi) pl
             (λ w1 ml n1 p1 lt1. h .firsts i hi wi u0 k0 pl ns ml w1 n1 p1 lt1) (mend-of (x .1) (x .2) w v (q .1) i hi wi u0 k0 pl) (rw e at mz) w0 l0 pw lt
             (mend-of (x .1) (x .2) w v (q .1) i hi wi w0 l0 pw));
       }
@@ -430,7 +442,8 @@ module _ (S : Grown) where
       first-of : {x : Element} → (q : (i : ℕ) × (i < length t) × (lineAt t i ≡ x)) → lineAt t (q .0) .sort ≡ rbox-sort → In x t → (j k : ℕ) → j < k
           → k < length (x .ins)
           → mendingAt t s (getD (x .ins) k 0) ≡ false → mendingAt t z (getD (x .ins) k 0) ≡ true
-          → ((v n : ℕ) → placeOf v (lineAt t (q .0) .ins) ≡ some n → (w m : ℕ) → placeOf w (lineAt t (q .0) .ins) ≡ some m → mendingAt t s v ≡ false → mendingAt t z v ≡ true → m < n → downAt t z w ≡ false)
+          → ((v n : ℕ) → placeOf v (lineAt t (q .0) .ins) ≡ some n → (w m : ℕ) → placeOf w (lineAt t (q .0) .ins) ≡ some m → mendingAt t s v ≡ false
+          → mendingAt t z v ≡ true → m < n → downAt t z w ≡ false)
           → downAt t z (getD (x .ins) j 0) ≡ false
       first-of {x} q wq l j k lt hk ns mz all-so =
           let ins = ap (λ (y : Element). y .ins) (q .2) in

@@ -193,7 +193,12 @@ module _ (t : Tree) (asc : Ascends t) (e : Element) (m : Module) {A : Type 0} (g
             guard = _;
             resets = _;
             target = _;
-            row = record { output = output-in m b (kindOf p) hb (kind-is y) (k .0); urgent = urgent-in m b (kindOf p) hb (kind-is y) (k .1); row = row-of y hx hb h };
+            row =
+                record {
+                  output = output-in m b (kindOf p) hb (kind-is y) (k .0);
+                  urgent = urgent-in m b (kindOf p) hb (kind-is y) (k .1);
+                  row = row-of y hx hb h;
+                };
           }) in
           let d : q .0 ≡ z .signal = Option·some-inj .0 (sym (q .1) ∙ signal-at t b means) in
           absurd (no-peace (rw d at (q .2)))

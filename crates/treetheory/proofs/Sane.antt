@@ -148,7 +148,8 @@ all-in h (y ∷ ys) k x (there m) = all-in h ys (and-true (h y) (allIn h ys) k .
 flagged : (x : ℕ) → fineIn pand-sort x ≡ true → eqb (x % 5) 2 ≡ true → x / 5 % 2 ≡ 1
 unfolding allIn
 flagged x h k =
-    let z = all-in (λ x. not (eqb (x % 5) 2) || eqb (x / 5 % 2) 1) (0 ∷ 3 ∷ 5 ∷ 7 ∷ 9 ∷ 10 ∷ 13 ∷ 16 ∷ 17 ∷ 19 ∷ []) refl x (among-in x (0 ∷ 3 ∷ 5 ∷ 7 ∷ 9 ∷ 10 ∷ 13 ∷ 16 ∷ 17 ∷ 19 ∷ []) h) in
+    let z = all-in (λ x. not (eqb (x % 5) 2) || eqb (x / 5 % 2) 1) (0 ∷ 3 ∷ 5 ∷ 7 ∷ 9 ∷ 10 ∷ 13 ∷ 16 ∷ 17 ∷ 19 ∷ []) refl x
+    (among-in x (0 ∷ 3 ∷ 5 ∷ 7 ∷ 9 ∷ 10 ∷ 13 ∷ 16 ∷ 17 ∷ 19 ∷ []) h) in
     eqb-true (x / 5 % 2) 1 (rw k at z)
 
 gate-two : (q : Sort) → isGate q ≡ true → fewest q ≡ 2
@@ -313,7 +314,8 @@ module _ (t : Tree) (d : Drawn t) (p : Proper t) (known : AllKnown t) (asc : Asc
     where
       -- the state of a line
       own : (e : Element) → In e t
-          → (x : ℕ) × Counted t (e .sort) e s x × (lookAt false downIn t s (e .number) ≡ downIn (e .sort) x) × (lookAt 0 (λ q x. x) t s (e .number) ≡ x) × (fineIn (e .sort) x ≡ true)
+          → (x : ℕ) × Counted t (e .sort) e s x × (lookAt false downIn t s (e .number) ≡ downIn (e .sort) x)
+          × (lookAt 0 (λ q x. x) t s (e .number) ≡ x) × (fineIn (e .sort) x ≡ true)
       own e m =
           let i = in-line t e m in
           let x = getD s (i .0) 0 in
@@ -340,7 +342,8 @@ module _ (t : Tree) (d : Drawn t) (p : Proper t) (known : AllKnown t) (asc : Asc
       sum-is : (e : Element) (x : ℕ) → In e t → isGate (e .sort) ≡ true → Weighs t e s 1 1 (x % 3) → lookAt 0 (λ q x. x) t s (e .number) ≡ x
           → lookAt 0 (λ q x. x) t s (e .number) % 3 ≡ oneIf (lookAt false downIn t s (firstOf e)) + oneIf (lookAt false downIn t s (secondOf e))
       sum-is e x m g k n =
-          ap (λ z. z % 3) n ∙ k ∙ ap (λ b. oneIf b + oneIf (toldAt t s (secondOf e))) (first-is e m g) ∙ ap (λ b. oneIf (lookAt false downIn t s (firstOf e)) + oneIf b) (second-is e m g)
+          ap (λ z. z % 3) n ∙ k ∙ ap (λ b. oneIf b + oneIf (toldAt t s (secondOf e))) (first-is e m g)
+          ∙ ap (λ b. oneIf (lookAt false downIn t s (firstOf e)) + oneIf b) (second-is e m g)
 
       count : (e : Element) → In e t → (e .sort ≡ and-sort) ⊎ (e .sort ≡ or-sort)
           → lookAt 0 (λ q x. x) t s (e .number) % 3 ≡ oneIf (lookAt false downIn t s (firstOf e)) + oneIf (lookAt false downIn t s (secondOf e))

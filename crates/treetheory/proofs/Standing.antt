@@ -42,7 +42,8 @@ module _ {A : Type 0} (d : A) (h : Sort → ℕ → A) where
 
 -- ---- the component of a line
 component-from : (t : Tree) (k : ℕ) (es : List Element) (i : ℕ) → i < length es
-    → (n : ℕ) × (compAt (componentsFrom t k es) i ≡ compBy (moduleFor (lineAt es i .sort) t n (lineAt es i))) × (isBe (lineAt es i .sort) ≡ true → n < k + bes es)
+    → (n : ℕ) × (compAt (componentsFrom t k es) i ≡ compBy (moduleFor (lineAt es i .sort) t n (lineAt es i))) × (isBe (lineAt es i .sort) ≡ true
+    → n < k + bes es)
 unfolding componentsFrom bes
 component-from t k [] i h = absurd (omega arith)
 component-from t k (e ∷ es) zero h = (k, refl, λ b. rw b (omega arith))

@@ -56,7 +56,9 @@ module _ (k : ℕ) where
   orders signal broken = go (eqb broken 1)
     where
       go : (b : Bool)
-          → _≡_ {A = Option Move} (some (cond b (record { guard = 0; resets = only (2 * k + 1); target = beState signal 2 }) (plainMove (beState signal broken))))
+          → _≡_ {A =
+          Option Move} (some (cond b (record { guard = 0; resets = only (2 * k + 1); target = beState signal 2 })
+          (plainMove (beState signal broken))))
           (some (record { guard = 0; resets = cond b (only (2 * k + 1)) 0; target = beState signal (cond b 2 broken) }))
       go true = refl
       go false = refl

@@ -117,12 +117,14 @@ module _ (to : ℕ → GateRole → Option ℕ) where
   -- if q gets enabled by p, both are urgent and alike
   unfoldable kept : ℕ → GateRole → GateRole → Bool
   kept s p q =
-      cond (isUout (some (gateKind q)) && (isSome (bound (to s p) (λ v. to v q)) && not (isSome (to s q)))) (isUrgent (gateKind p) && same (fails p) (fails q)) true
+      cond (isUout (some (gateKind q)) && (isSome (bound (to s p) (λ v. to v q)) && not (isSome (to s q))))
+      (isUrgent (gateKind p) && same (fails p) (fails q)) true
 
   -- two different urgent actions that are alike meet again
   unfoldable met : ℕ → GateRole → GateRole → Bool
   met s p q =
-      cond (not (eqb (place p) (place q)) && (isUrgent (gateKind p) && (isUrgent (gateKind q) && (same (fails p) (fails q) && (isSome (to s p) && isSome (to s q))))))
+      cond (not (eqb (place p) (place q)) && (isUrgent (gateKind p)
+      && (isUrgent (gateKind q) && (same (fails p) (fails q) && (isSome (to s p) && isSome (to s q))))))
       (meeting (bound (to s p) (λ v. to v q)) (bound (to s q) (λ v. to v p))) true
 
   unfoldable tamed : ℕ → Bool

@@ -114,12 +114,14 @@ module _ {A : Type 0} (every : (A → Bool) → Bool) (fine told : ℕ → Bool)
       alike (told s) (down s) (rw (fi, w) at z)
 
   -- ---- and what they tell
-  module _ (at-every : (k : A → Bool) → every k ≡ true → (p : A) → k p ≡ true) (e : Element) (g : Meaning → Option A) (kindOf : A → Kind) (n : ℕ) (tells : A → Option Bool) (bars : A → List A) (ownF ownU : A)
+  module _ (at-every : (k : A → Bool) → every k ≡ true → (p : A) → k p ≡ true) (e : Element) (g : Meaning → Option A) (kindOf : A → Kind) (n : ℕ)
+      (tells : A → Option Bool) (bars : A → List A) (ownF ownU : A)
       (test : tellings tells bars n ≡ true)
       (role-f : (y : Meaning) → y .of ≡ e .number → y .signal ≡ f → g y ≡ some ownF) (tells-f : tells ownF ≡ some true)
       (role-u : (y : Meaning) → y .of ≡ e .number → y .signal ≡ u → g y ≡ some ownU) (tells-u : tells ownU ≡ some false)
       (teller : (y : Meaning) (p : A) (b : Bool) → g y ≡ some p → tells p ≡ some b → (y .of ≡ e .number) × (y .signal ≡ toldAs b))
-      (barring : (y : Meaning) (p b : A) → g y ≡ some p → In b (bars p) → ((b ≡ ownF) × (Peaceful (y .signal) f → ⊥)) ⊎ ((b ≡ ownU) × (Peaceful (y .signal) u → ⊥))) where
+      (barring : (y : Meaning) (p b : A) → g y ≡ some p → In b (bars p)
+      → ((b ≡ ownF) × (Peaceful (y .signal) f → ⊥)) ⊎ ((b ≡ ownU) × (Peaceful (y .signal) u → ⊥))) where
     at : (s : ℕ) (p : A) (v : Move) → s < n → fine s ≡ true → ((b : A) → In b (bars p) → to s b ≡ none) → to s p ≡ some v
         → (fine (v .target) ≡ true) × (toldBy (tells p) (told s) (told (v .target)) ≡ true)
     unfolding tellings telling

@@ -129,7 +129,8 @@ heard-role : (e : Element) (y : Meaning) (b : Bool) → y .signal ≡ toldAs b �
 unfolding gateRole
 heard-role e y b s ne w h =
     go (eqb (y .of) (firstOf e)) (eqb (y .of) (secondOf e)) refl refl w
-    (ap (λ c. cond c (told own-f own-u (y .signal)) (cond (eqb (y .of) (firstOf e)) (told f0 u0 (y .signal)) (cond (eqb (y .of) (secondOf e)) (told f1 u1 (y .signal)) none))) (sym (ne-eqb (y .of) (e .number) ne)) ∙ h)
+    (ap (λ c. cond c (told own-f own-u (y .signal)) (cond (eqb (y .of) (firstOf e)) (told f0 u0 (y .signal))
+    (cond (eqb (y .of) (secondOf e)) (told f1 u1 (y .signal)) none))) (sym (ne-eqb (y .of) (e .number) ne)) ∙ h)
   where
     some-told : (p q : GateRole) (b : Bool) → y .signal ≡ toldAs b → told p q (y .signal) ≡ none → ⊥
     some-told p q true s h = no-some h (ap (told p q) s)
@@ -191,7 +192,8 @@ module _ (e : Element) (g : Meaning → Option GateRole) (n : ℕ) (to : ℕ →
     at : (s : ℕ) (p : GateRole) (v : Move) → s < n → to s p ≡ some v → counts a b p (k s) (k (v .target)) ≡ true
     unfolding counting
     at s p v h i =
-        let z = at-role (λ p. onto (λ v. counts a b p (k s) (k v)) (to s p)) (all-true (λ s. everyRole (λ p. onto (λ v. counts a b p (k s) (k v)) (to s p))) 0 n test s (omega arith) h) p in
+        let z = at-role (λ p. onto (λ v. counts a b p (k s) (k v)) (to s p))
+        (all-true (λ s. everyRole (λ p. onto (λ v. counts a b p (k s) (k v)) (to s p))) 0 n test s (omega arith) h) p in
         sym (ap (onto (λ v. counts a b p (k s) (k v))) i) ∙ z
 
     own-unheard : (y : Meaning) (l m : ℕ) → y .of ≡ e .number → l ≡ m → CountStep e y a b m l

@@ -14,7 +14,8 @@ use Rattle.triggering.proofs.WhereReached.{demand-3-where-reached}
 use Rattle.triggering.proofs.Passing.{passes-exactly}
 use Rattle.trees.specs.Module.{compBy, Sound}
 use Rattle.trees.specs.Tree.{Sort, be-sort, and-sort, or-sort, pand-sort, rbox-sort, Element, Tree}
-use Rattle.trees.specs.Modules.{plainMove, beKind, beMove, beRole, gateKind, gateRole, pandRole, countMove, pandMove, boxKind, boxMove, boxRole, clockless, beModule, countModule, pandModule, boxModule, moduleFor, treeModel}
+use Rattle.trees.specs.Modules.{plainMove, beKind, beMove, beRole, gateKind, gateRole, pandRole, countMove, pandMove, boxKind, boxMove, boxRole}
+use Rattle.trees.specs.Modules.{clockless, beModule, countModule, pandModule, boxModule, moduleFor, treeModel}
 use Rattle.trees.specs.Conditions.{Proper}
 use Rattle.trees.specs.ReadTree.{InLimits, readTreeOf}
 use Rattle.trees.specs.TreeFaults.{Drawn, TreeAnswer, is-fault, is5, is47, is48, is-model}

@@ -1,17 +1,17 @@
 -- The urgent outputs that are enabled in a state, exactly.
-use mathlib.Core.Path.{_≡_, refl, sym, _∙_, ap}
+use mathlib.Core.Path.{refl, sym}
 use mathlib.Core.Logic.{_↔_}
-use mathlib.Core.Bool.{Bool, true, false, cond}
+use mathlib.Core.Bool.{cond}
 use Prim.Native.Nat.{ℕ, _<_}
 use lib.ListN.{length}
 use lib.Dec.{eqb}
 use borrow.Author.Tests.{eqb-true, eq-eqb}
-use Rattle.laws.specs.Sets.{has, _∈_, only}
+use Rattle.laws.specs.Sets.{_∈_, only}
 use Rattle.laws.proofs.SetLaws.{in-and, and-in, or-in-r, in-one, one-in}
 use Rattle.answer.specs.Limits.{maxActions}
 use Rattle.model.specs.Model.{Comp, rowAt}
 use Rattle.model.specs.WellFormed.{WellComp}
-use Rattle.iosa.specs.Automaton.{Leads, autoOf}
+use Rattle.iosa.specs.Automaton.{autoOf}
 use Rattle.iosa.proofs.Acceptance.Rows.{output-below}
 use Rattle.iosa.proofs.Acceptance.Enabled.{urgent-output}
 use Rattle.triggering.specs.Triggering.{Enabled}

@@ -1,16 +1,13 @@
 -- What one component's rows trigger and enable, exactly.
-use mathlib.Core.Path.{_≡_, refl, sym, _∙_, ap}
+use mathlib.Core.Path.{_≡_, sym, _∙_}
 use mathlib.Core.Logic.{_≢_, _↔_}
-use mathlib.Core.Bool.{Bool, true, false, _&&_, not, cond, true≢false}
-use mathlib.Core.List.{List}
+use mathlib.Core.Bool.{false, _&&_, not, true≢false}
 use Prim.Native.Nat.{ℕ, _<_}
-use native.Mathlib.Decide.{ℕ-discrete}
 use lib.ListN.{length}
 use borrow.Author.Tests.{not-true}
 use Rattle.laws.specs.Sets.{has, _∈_, _∖_, only}
 use Rattle.laws.proofs.SetLaws.{in-without, without-in, in-one, one-in}
 use Rattle.laws.proofs.TestLaws.{and-true, not-so}
-use Rattle.answer.specs.Limits.{maxActions}
 use Rattle.model.specs.Model.{Row, Comp, rowAt, urgents}
 use Rattle.model.specs.WellFormed.{WellComp}
 use Rattle.iosa.specs.Automaton.{autoOf, Stable, Reachable}

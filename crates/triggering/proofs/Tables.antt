@@ -3,7 +3,7 @@ use mathlib.Core.Path.{_≡_, refl, sym, _∙_, ap}
 use mathlib.Core.Logic.{_≢_, _↔_, _⊎_, inl, inr, ⊎-elim}
 use mathlib.Core.Bool.{Bool, true, false, cond, true≢false, false≢true}
 use mathlib.Core.List.{List}
-use Prim.Native.Nat.{ℕ, zero, suc, _+_, _^_, _<_}
+use Prim.Native.Nat.{ℕ, zero, suc, _^_, _<_}
 use native.Mathlib.Omega.{arith}
 use native.Mathlib.Nat.{pow-suc}
 use native.Mathlib.Numerals.{add-one}
@@ -55,9 +55,7 @@ grows-crossed X Y = record {
       tab-here (λ a. getD T a 0 ∪ cond (has X a) Y 0) maxActions a h in
       rw e (
         λ x. ⊎-elim inl (λ p. inr (cond-in (has X a) Y b .0 p)) (in-or (getD T a 0) (cond (has X a) Y 0) b x),
-        ⊎-elim
-            (λ x. or-in-l (getD T a 0) (cond (has X a) Y 0) b x)
-            (λ p. or-in-r (getD T a 0) (cond (has X a) Y 0) b (cond-in (has X a) Y b .1 p)),
+        ⊎-elim (λ x. or-in-l (getD T a 0) (cond (has X a) Y 0) b x) (λ p. or-in-r (getD T a 0) (cond (has X a) Y 0) b (cond-in (has X a) Y b .1 p)),
       );
 }
 

@@ -1,24 +1,24 @@
 -- Which urgent outputs are together, and which pairs are led to, exactly.
-use mathlib.Core.Path.{_≡_, refl, sym, _∙_, ap}
+use mathlib.Core.Path.{_≡_, sym, _∙_}
 use mathlib.Core.Logic.{_≢_, _↔_, _⊎_, inl, inr, ⊎-elim}
-use mathlib.Core.Bool.{Bool, true, false, not, cond, true≢false}
+use mathlib.Core.Bool.{not, cond, true≢false}
 use mathlib.Core.List.{List}
 use Prim.Native.Nat.{ℕ, _<_}
-use native.Mathlib.Omega.{arith}
 use lib.ListN.{length, getD}
 use lib.Dec.{eqb}
-use borrow.Author.Tests.{eqb-true, eqb-false, ne-eqb, not-true}
+use borrow.Author.Tests.{eqb-false, ne-eqb, not-true}
 use Rattle.laws.specs.Sets.{has, _∩_, _∖_, _∈_, only}
 use Rattle.laws.proofs.SetLaws.{in-and, and-in, in-without, without-in, or-in-r, in-one, one-in, none-in}
 use Rattle.laws.proofs.TestLaws.{not-so, apart-cases}
 use Rattle.answer.specs.Limits.{maxActions}
 use Rattle.model.specs.Model.{Model, compAt, outputs}
 use Rattle.model.specs.WellFormed.{WellFormed}
-use Rattle.iosa.specs.Automaton.{autoOf, Joinable}
+use Rattle.iosa.specs.Automaton.{Joinable}
 use Rattle.iosa.proofs.Acceptance.Enabled.{urgent-output}
-use Rattle.triggering.specs.Triggering.{Enabled, part, LeadsOn, AtStart, Woken, Together, start, inOneSet, inTwoParts, Led}
-use Rattle.triggering.specs.Test.{crossed, uoutsAt, setsIn, wakersIn, leadsOf, startsOf, setsOf, wakersOf, ownOf, sharing, elsewhere, togetherOf, spreadBy, ledBy, ledOf}
-use Rattle.triggering.proofs.Tables.{cond-in, in-joined, Grows, grows-as, grows-crossed, grows-over, in-nothing, grown, some-member}
+use Rattle.triggering.specs.Triggering.{Enabled, part, LeadsOn, AtStart, Together, start, inOneSet, inTwoParts, Led}
+use Rattle.triggering.specs.Test.{crossed, uoutsAt, setsIn, wakersIn, leadsOf, startsOf, setsOf, wakersOf, ownOf, sharing, elsewhere}
+use Rattle.triggering.specs.Test.{togetherOf, spreadBy, ledBy, ledOf}
+use Rattle.triggering.proofs.Tables.{cond-in, in-joined, Grows, grows-as, grows-crossed, grows-over, grown, some-member}
 use Rattle.triggering.proofs.Enabling.{uouts-exactly, enabled-below}
 use Rattle.triggering.proofs.Rows.{InOneSet, grows-sets, Wakes, grows-wakers}
 use Rattle.triggering.proofs.Leading.{leads-exactly}
@@ -29,7 +29,12 @@ module _ (m : Model) (w : WellFormed m) where
   unfolding startsOf
   starts-exactly b =
       let p = in-joined (λ i. uoutsAt (compAt m i) (compAt m i .start)) (length m) b in (
-        λ h. let x = p .0 h in record { index = x .0; inside = x .1; enabled = uouts-exactly (compAt m (x .0)) (w .each (x .0) (x .1)) (compAt m (x .0) .start) b .0 (x .2) },
+        λ h. let x =
+            p .0 h in record {
+              index = x .0;
+              inside = x .1;
+              enabled = uouts-exactly (compAt m (x .0)) (w .each (x .0) (x .1)) (compAt m (x .0) .start) b .0 (x .2);
+            },
         λ e. p .1 (e .index, e .inside, uouts-exactly (compAt m (e .index)) (w .each (e .index) (e .inside)) (compAt m (e .index) .start) b .1 (e .enabled)),
       )
 
@@ -81,7 +86,9 @@ module _ (m : Model) (w : WellFormed m) where
   module _ (join : Joinable m) where
     -- an action is an output of one component at most
     one-owner : (a i j : ℕ) → i < length m → j < length m → a ∈ compAt m i .uouts → a ∈ compAt m j .uouts → i ≡ j
-    one-owner a i j h k p q = apart-cases i j (λ e. e) (λ l. absurd (join .pair i j l k .outputs a (output i p) (output j q))) (λ l. absurd (join .pair j i l h .outputs a (output j q) (output i p)))
+    one-owner a i j h k p q =
+        apart-cases i j (λ e. e) (λ l. absurd (join .pair i j l k .outputs a (output i p) (output j q)))
+        (λ l. absurd (join .pair j i l h .outputs a (output j q) (output i p)))
       where
         output : (i : ℕ) → a ∈ compAt m i .uouts → a ∈ outputs (compAt m i)
         output i p = or-in-r (compAt m i .outs) (compAt m i .uouts) a p
@@ -148,7 +155,8 @@ module _ (m : Model) (w : WellFormed m) where
         let all = grows-elsewhere .at (setsOf m (crossed S S _)) a b h in (
           λ x. ⊎-elim
               (λ y. ⊎-elim (λ z. at-start (first .0 z)) (λ p. inOneSet (p .0) (p .1) (p .2 .wakes) (p .2 .left) (p .2 .right)) (sets .0 y))
-              (λ e. inTwoParts (e .left) (e .right) (e .left-in) (e .right-in) (e .apart) (e .here .wakes) (e .there .wakes) (e .here .enabled) (e .there .enabled))
+              (λ e. inTwoParts (e .left) (e .right) (e .left-in) (e .right-in) (e .apart) (e .here .wakes) (e .there .wakes) (e .here .enabled)
+              (e .there .enabled))
               (all .0 x),
           λ t. all .1 (back t (λ p. sets .1 (inl (first .1 p))) (λ p. sets .1 (inr p))),
         )

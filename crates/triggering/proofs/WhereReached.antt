@@ -10,17 +10,17 @@ use lib.ListN.{length, getD}
 use Rattle.laws.specs.Sets.{has, _∈_}
 use Rattle.laws.proofs.SetLaws.{or-in-r, in-or}
 use Rattle.model.specs.Model.{Comp, Model, compAt, inputs, outputs, urgents, acts}
-use Rattle.model.specs.WellFormed.{WellComp, WellFormed}
+use Rattle.model.specs.WellFormed.{WellFormed}
 use Rattle.iosa.specs.Automaton.{alphabet, autoOf, Stable, Reachable, at-start, by-row, ReachedIn, MeetsAt, Meets, Confluent, Conforming, Joinable}
-use Rattle.iosa.specs.Product.{product, stateOf, EachPart, Within, Reached, MadeOf}
+use Rattle.iosa.specs.Product.{product, stateOf, EachPart, Within, Reached}
 use Rattle.iosa.specs.Parts.{GoAll}
 use Rattle.iosa.specs.Start.{startAll}
 use Rattle.iosa.specs.Step.{urgentStep}
 use Rattle.iosa.specs.Demand3.{Demand3}
 use Rattle.iosa.proofs.Acceptance.Rows.{Single}
-use Rattle.iosa.proofs.Settling.Each.{All, Any, all-each}
+use Rattle.iosa.proofs.Settling.Each.{Any, all-each}
 use Rattle.iosa.proofs.Settling.Parts.{go-row, row-parts, within-length, label-parts, parts-label, action-parts}
-use Rattle.iosa.proofs.Settling.ProductOfMany.{Pairwise, joinable-pairwise, wells, system-own}
+use Rattle.iosa.proofs.Settling.ProductOfMany.{joinable-pairwise, wells, system-own}
 use Rattle.iosa.proofs.Settling.Moves.{go-within}
 use Rattle.iosa.proofs.Settling.UrgentOutputs.{urgent-everywhere}
 use Rattle.iosa.proofs.Settling.SystemConfluent.{system-meets-at}
@@ -31,7 +31,7 @@ use Rattle.iosa.proofs.Settling.Commute.{confluent-steps-commute}
 use Rattle.iosa.proofs.Settling.Demand3.{commuting-steps-settle}
 use Rattle.iosa.proofs.Reaching.Keeps.{reached-within, stable-parts, row-keeps-reached-parts, reached-state-has-reached-parts}
 use Rattle.iosa.proofs.Reaching.Refused19.{part-at}
-use Rattle.triggering.specs.Triggering.{Enabled, part, Led, Passes, NoOpenInput}
+use Rattle.triggering.specs.Triggering.{part, Passes, NoOpenInput}
 use Rattle.triggering.proofs.Known.{On, AllLed, go-at, start-led, urgent-led, calm-led}
 
 -- what holds of some component, by index, and back
@@ -147,7 +147,8 @@ module _ (c : Comp) (cs : List Comp) (well : WellFormed (c ∷ cs)) (conf : Conf
     reached-known (by-row {s = y} {t = z} {C = C} {a = a} {R = R} r way row) = row-keeps-known C a R y z way row (reached-known r)
 
     -- ---- where the test passes, two urgent actions of a known state meet again
-    row-on : (C a R : ℕ) {y : product c cs .State} (z : product c cs .State) (n : Known c cs y) → a ∈ product c cs .urgent → product c cs .Row y C a R z → On m (n .list) a
+    row-on : (C a R : ℕ) {y : product c cs .State} (z : product c cs .State) (n : Known c cs y) → a ∈ product c cs .urgent
+        → product c cs .Row y C a R z → On m (n .list) a
     row-on C a R z n u row =
         let h = system-own c cs well .rows row .action in
         let p = row-parts c cs a {C = C} {R = R} (n .list) z (within-length m (n .list) (range (n .list) (n .parts))) h (rw (n .state) at row) in
@@ -160,7 +161,12 @@ module _ (c : Comp) (cs : List Comp) (well : WellFormed (c ∷ cs)) (conf : Conf
 
     pub known-confluent : Passes m → Confluent (product c cs) (Known c cs)
     known-confluent test = record {
-      pair = λ a b ne ua ub. record { meets = λ y n. record { meet = λ {R} {Q} {t} {u} p q. known-meet test n ne (row-on 0 a R t n ua p) (row-on 0 b Q u n ub q) .meet p q } };
+      pair =
+          λ a b ne ua ub. record {
+            meets = λ y n. record {
+              meet = λ {R} {Q} {t} {u} p q. known-meet test n ne (row-on 0 a R t n ua p) (row-on 0 b Q u n ub q) .meet p q;
+            };
+          };
     }
 
     -- ---- demand 3

@@ -52,7 +52,9 @@ module _ (m : Model) (i : ℕ) (l s : List ℕ) where
 
   walk-odd : 2 * i + 1 ≡ length l → walk m i (drop (2 * i) l) s ≡ refused (tell 46 (i ∷ []))
   unfolding walk
-  walk-odd h = ap (λ r. walk m i r s) (drop-cons l (2 * i) 0 (omega arith) ∙ ap (λ r. getD l (2 * i) 0 ∷ r) (drop-of-length-le l {i = suc (2 * i)} (omega arith)))
+  walk-odd h =
+      ap (λ r. walk m i r s) (drop-cons l (2 * i) 0 (omega arith) ∙ ap (λ r. getD l (2 * i) 0 ∷ r)
+      (drop-of-length-le l {i = suc (2 * i)} (omega arith)))
 
 -- ---- as the code answers it
 pub says-stops : (o : Answer (List ℕ)) (i : ℕ) → o ≡ refused (tell 46 (i ∷ [])) → (r : Walked) → r ≡ stopsAt i → Walks o r

@@ -43,7 +43,8 @@ module _ (m : Model) (well : WellFormed m) (good : Conforming m) (fit : Joinable
   module _ (r : Row) (e : clockRowOf m s x ≡ some r) where
     shoots : Shoots m s x r
     shoots =
-        let p = enabling-shoots m (wells m well) (each-all (λ d. Conditions (autoOf d)) m (good .each)) (joinable-pairwise m fit) s w x (row-enables m s x r e) in
+        let p = enabling-shoots m (wells m well) (each-all (λ d. Conditions (autoOf d)) m (good .each)) (joinable-pairwise m fit) s w x
+        (row-enables m s x r e) in
         subst (Shoots m s x) (Option·some-inj .0 (sym (p .1 .row) ∙ e)) (p .1)
 
     row-action : r .action < maxActions

@@ -34,11 +34,13 @@ state-numbers bs h = parts-front (stateOf bs) (omega (arith, parts-length (place
 own : (bs : List ℕ) (b : Bool) → ltb maxComponents (length bs) ≡ b → take (length bs) (partsOf (places bs)) ++ drop (length (partsOf (places bs))) bs ≡ bs
 own bs false h =
     let less = ltb-false maxComponents (length bs) h in
-    let none : drop (length (partsOf (places bs))) bs ≡ [] = drop-of-length-le bs {i = length (partsOf (places bs))} (omega (arith, less, parts-length (places bs))) in
+    let none : drop (length (partsOf (places bs))) bs ≡ [] = drop-of-length-le bs {i = length (partsOf (places bs))}
+    (omega (arith, less, parts-length (places bs))) in
     ap₂ (λ a b. a ++ b) (few bs less) none ∙ append-nil bs
 own bs true h =
     let more = ltb-true maxComponents (length bs) h in
-    let all : take (length bs) (partsOf (places bs)) ≡ partsOf (places bs) = take-all (length bs) (partsOf (places bs)) (omega (arith, more, parts-length (places bs))) in
+    let all : take (length bs) (partsOf (places bs)) ≡ partsOf (places bs) = take-all (length bs) (partsOf (places bs))
+    (omega (arith, more, parts-length (places bs))) in
     ap₂ (λ a k. a ++ drop k bs) (all ∙ parts-front (places bs) (omega (arith, more))) (parts-length (places bs)) ∙ take-append-drop maxComponents bs
 
 pub laid-own : (bs : List ℕ) → laidOver (stateOf bs .parts) bs ≡ bs

@@ -5,7 +5,7 @@ use mathlib.Core.List.{List}
 use Prim.Native.Nat.{ℕ}
 use native.Mathlib.Omega.{arith}
 use Rattle.answer.specs.declared.Refusal.{Refusal}
-use Rattle.answer.specs.Told.{Told, Answer, answered, refused, told, tell, asRefused, same-shape, shapeOf, shapeAt, valuesAt}
+use Rattle.answer.specs.Told.{Told, Answer, answered, told, tell, asRefused, same-shape, shapeOf, shapeAt, valuesAt}
 use Rattle.words.specs.Words.{toldWords, refusalWords, saidWords}
 
 -- a refusal that tells something tells its own number and values

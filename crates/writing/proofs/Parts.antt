@@ -5,32 +5,28 @@ use mathlib.Core.List.{List, [], _∷_, _++_, append-assoc}
 use Prim.Native.Nat.{ℕ, _+_, _-_, _≤_, _<_}
 use native.Mathlib.Omega.{arith}
 use native.Mathlib.Numerals.{add-one}
-use lib.ListN.{length}
 use Rattle.laws.specs.Sets.{has}
 use Rattle.laws.specs.Fold.{tab, spread}
 use Rattle.laws.proofs.TabLaws.{tab-next, tab-done, spread-next, spread-done}
 use Rattle.answer.specs.Limits.{maxActions, maxClocks}
 use Rattle.model.specs.Model.{Row, Comp, acts}
-use Rattle.model.specs.Text.{tab as tabByte, lf, compWord, actWord, clkWord, rowWord, in-kind, out-kind, uin-kind, uout-kind, kindWord, decimal, guardField, setField, fieldsAfter, compLine, actLine, clkLine, rowLine, kindOf, actPart, clkPart, rowLines, compText, textOf}
+use Rattle.model.specs.Text.{tab as tabByte, lf, compWord, actWord, clkWord, rowWord, in-kind, out-kind, uin-kind, uout-kind, kindWord}
+use Rattle.model.specs.Text.{decimal, guardField, setField, fieldsAfter, compLine, actLine, clkLine, rowLine, kindOf, actPart, clkPart}
+use Rattle.model.specs.Text.{rowLines, compText, textOf}
 use Rattle.layout.specs.Layout.{countOf, blockWord, firstOf, actionAt, guardAt, resetsAt, targetAt}
 use Rattle.layout.specs.Image.{rowIn, rowsLeaving, compOf, modelOf}
 use Rattle.measure.specs.Measure.{actLines, clkLines}
-use Rattle.print.specs.Put.{Room, Put}
-use Rattle.print.proofs.LaidLaws.{Left, laid-length}
-
-pub left-is : {old : List ℕ} {at : ℕ} {whole now : List ℕ} {here : ℕ} {rest : List ℕ} → Left old at whole now here rest → (other : List ℕ) → rest ≡ other → Left old at whole now here other
-left-is l other e = rw e at l
-
-pub put-length : {old : List ℕ} {at : ℕ} {bytes new : List ℕ} {next : ℕ} → Put old at bytes new next → Room old at bytes → length new ≡ length old
-put-length {old} {at} {bytes} p h = ap length (p .buffer) ∙ laid-length old at bytes h
 
 -- ---- the lines by their fields
 module _ (t : List ℕ) (s r g a x y : ℕ) (eg : g ≡ guardAt t r) (ea : a ≡ actionAt t r) (ex : x ≡ resetsAt t r) (ey : y ≡ targetAt t r) where
-  pub row-parts : rowLine (rowIn t s r) ≡ rowWord ++ ((tabByte ∷ decimal s) ++ ((tabByte ∷ []) ++ (guardField g ++ ((tabByte ∷ decimal a) ++ ((tabByte ∷ []) ++ (setField x ++ ((tabByte ∷ decimal y) ++ lf ∷ [])))))))
+  pub row-parts : rowLine (rowIn t s r)
+      ≡ rowWord ++ ((tabByte ∷ decimal s) ++ ((tabByte ∷ []) ++ (guardField g ++ ((tabByte ∷ decimal a) ++ ((tabByte ∷ [])
+      ++ (setField x ++ ((tabByte ∷ decimal y) ++ lf ∷ [])))))))
   unfolding rowLine fieldsAfter
   row-parts = rw (eg, ea, ex, ey)
 
-pub comp-line-parts : (c : Comp) (n s : ℕ) → n ≡ c .states → s ≡ c .start → compLine c ≡ compWord ++ ((tabByte ∷ decimal n) ++ ((tabByte ∷ decimal s) ++ lf ∷ []))
+pub comp-line-parts : (c : Comp) (n s : ℕ) → n ≡ c .states → s ≡ c .start
+    → compLine c ≡ compWord ++ ((tabByte ∷ decimal n) ++ ((tabByte ∷ decimal s) ++ lf ∷ []))
 unfolding compLine fieldsAfter
 comp-line-parts c n s p q = rw (p, q)
 
@@ -38,7 +34,8 @@ pub no-act : (c : Comp) (a : ℕ) → has (acts c) a ≡ false → actPart c a �
 unfolding actPart
 no-act c a e = rw e
 
-pub act-parts : (c : Comp) (a : ℕ) → has (acts c) a ≡ true → actPart c a ≡ actWord ++ ((tabByte ∷ decimal a) ++ ((tabByte ∷ []) ++ (kindWord (kindOf c a) ++ lf ∷ [])))
+pub act-parts : (c : Comp) (a : ℕ) → has (acts c) a ≡ true
+    → actPart c a ≡ actWord ++ ((tabByte ∷ decimal a) ++ ((tabByte ∷ []) ++ (kindWord (kindOf c a) ++ lf ∷ [])))
 unfolding actPart actLine fieldsAfter
 act-parts c a e = rw e
 
@@ -46,7 +43,8 @@ pub no-clk : (c : Comp) (x : ℕ) → has (c .clocks) x ≡ false → clkPart c 
 unfolding clkPart
 no-clk c x e = rw e
 
-pub clk-parts : (c : Comp) (x n : ℕ) → has (c .clocks) x ≡ true → n ≡ cond (has (c .started) x) 1 0 → clkPart c x ≡ clkWord ++ ((tabByte ∷ decimal x) ++ ((tabByte ∷ decimal n) ++ lf ∷ []))
+pub clk-parts : (c : Comp) (x n : ℕ) → has (c .clocks) x ≡ true → n ≡ cond (has (c .started) x) 1 0
+    → clkPart c x ≡ clkWord ++ ((tabByte ∷ decimal x) ++ ((tabByte ∷ decimal n) ++ lf ∷ []))
 unfolding clkPart clkLine fieldsAfter
 clk-parts c x n e f = rw (e, f)
 
@@ -100,7 +98,8 @@ module _ (f : ℕ → Row) (r hi : ℕ) where
 
 module _ (t : List ℕ) (i s states : ℕ) where
   pub states-next : (lo hi : ℕ) → lo ≡ firstOf t i s → hi ≡ firstOf t i (s + 1) → s < states
-      → rowLines (spread (rowsLeaving t i) s (states - s)) ≡ rowLines (tab (rowIn t s) lo (hi - lo)) ++ rowLines (spread (rowsLeaving t i) (s + 1) (states - (s + 1)))
+      → rowLines (spread (rowsLeaving t i) s (states - s))
+      ≡ rowLines (tab (rowIn t s) lo (hi - lo)) ++ rowLines (spread (rowsLeaving t i) (s + 1) (states - (s + 1)))
   unfolding rowsLeaving
   states-next lo hi p q h =
       ap rowLines (spread-next (rowsLeaving t i) s states h)

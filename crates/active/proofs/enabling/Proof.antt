@@ -1,9 +1,7 @@
 -- `active::enabling` meets its contract: the guards of the range, joined row by row.
-use mathlib.Core.Path.{_≡_, refl, sym, ap, ap₂, _∙_}
-use Prim.Native.Nat.{ℕ, zero, suc, _+_, _-_, _≤_, _<_}
+use mathlib.Core.Path.{_≡_, refl, sym, ap, _∙_}
+use Prim.Native.Nat.{ℕ, _+_, _-_, _≤_}
 use native.Mathlib.Omega.{arith}
-use native.Mathlib.Numerals.{add-one}
-use lib.ListN.{length, getD, set}
 use denote.Ref.{now}
 use Rattle.laws.specs.Sets.{_∪_}
 use Rattle.laws.specs.Fold.{over}
@@ -15,12 +13,6 @@ use Rattle.rows.proofs.Ready.{first-ready, next-ready, range-ready, row-ready, 
 use borrow.Author.Needs.{needs}
 use Rattle.active.proofs.enabling.Statement.{statement}
 use Rattle.active.proofs.enabling.Tie as tie
-use Rattle.active.proofs.enabling.Reads as reads
-use Rattle.active.proofs.enabling.Lts as lts
-use Rattle.active.proofs.guard_set.Reads as guard-set-reads
-use Rattle.layout.proofs.first_of.Reads as first-of-reads
-use Rattle.layout.proofs.guard_at.Reads as guard-at-reads
-use Rattle.sets.proofs.union.Reads as union-reads
 
 abbrev Inv-loop : tie.InvT-loop
 Inv-loop t i s lo hi all₀ k₀ all k = (lo ≤ k) × (over (λ r x. x ∪ guardSet (guardAt t r)) k hi all ≡ over (λ r x. x ∪ guardSet (guardAt t r)) lo hi 0)
@@ -43,14 +35,17 @@ loop-holds c = (search needs, refl)
 guard-at-requires : tie.Need-guard-at-requires Inv-loop μ-loop
 guard-at-requires c κs =
     let s0 = c .before .before .before .before .before in
-    let r = range-ready _ (s0 .pre .0) _ (s0 .pre .1) _ (s0 .pre .2) _ _ (c .before .before .before .first-of .ensures) (c .before .before .first-of2 .ensures) in
+    let r = range-ready _ (s0 .pre .0) _ (s0 .pre .1) _ (s0 .pre .2) _ _ (c .before .before .before .first-of .ensures)
+    (c .before .before .first-of2 .ensures) in
     (r .0, omega (arith, r .1))
 
 guard-set-requires : tie.Need-guard-set-requires Inv-loop μ-loop
 guard-set-requires c κs =
-    let s0 = c .before .before .before .before .before .before in
+    let d = c .before .before .before .before in
+    let s0 = d .before .before in
     let l = c .before .before .loop in
-    rw (c .guard-at .ensures) (row-ready _ (s0 .pre .0) _ (s0 .pre .1) _ (s0 .pre .2) _ _ (c .before .before .before .before .first-of .ensures) (c .before .before .before .first-of2 .ensures) (l .k) (l .inv .0) (search needs) .guard)
+    rw (c .guard-at .ensures) (row-ready _ (s0 .pre .0) _ (s0 .pre .1) _ (s0 .pre .2) _ _ (d .first-of .ensures)
+    (c .before .before .before .first-of2 .ensures) (l .k) (l .inv .0) (search needs) .guard)
 
 union-requires : tie.Need-union-requires Inv-loop μ-loop
 union-requires c κs = search needs
@@ -63,11 +58,13 @@ loop-less c = search needs
 
 loop-again : tie.Need-loop-again Inv-loop μ-loop
 loop-again c =
-    let l = c .before .before .before .before .loop in
-    let s0 = c .before .before .before .before .before .before .before .before in
+    let d = c .before .before .before .before in
+    let s0 = d .before .before .before .before in
+    let l = d .loop in
     let t = now (s0 .args .t) in (
       search needs,
-      ap (over (λ r x. x ∪ guardSet (guardAt t r)) (l .k + 1) _) (c .union .ensures ∙ ap (λ g. l .all ∪ g) (c .before .guard-set .ensures ∙ ap guardSet (c .before .before .guard-at .ensures)))
+      ap (over (λ r x. x ∪ guardSet (guardAt t r)) (l .k + 1) _)
+          (c .union .ensures ∙ ap (λ g. l .all ∪ g) (c .before .guard-set .ensures ∙ ap guardSet (c .before .before .guard-at .ensures)))
           ∙ sym (over-next (λ r x. x ∪ guardSet (guardAt t r)) (l .k) _ (l .all) (search needs)) ∙ l .inv .1,
     )
 

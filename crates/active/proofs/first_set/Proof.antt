@@ -1,12 +1,9 @@
 -- `active::first_set` meets its contract: what the start allows, and what stability allows.
-use mathlib.Core.Path.{_≡_, refl, sym, ap, ap₂, _∙_}
-use Prim.Native.Nat.{ℕ, zero, suc, _+_, _-_, _≤_, _<_}
+use mathlib.Core.Path.{_≡_, sym, ap, ap₂, _∙_}
 use native.Mathlib.Omega.{arith}
-use native.Mathlib.Numerals.{add-one}
-use lib.ListN.{length, getD, set}
 use denote.Ref.{now}
 use mathlib.Core.Logic.{⊎-elim}
-use mathlib.Core.Bool.{true, false, cond}
+use mathlib.Core.Bool.{cond}
 use lib.Dec.{eqb}
 use borrow.Author.Tests.{eq-eqb, ne-eqb}
 use Rattle.laws.specs.Sets.{_∩_}
@@ -17,11 +14,6 @@ use Rattle.rows.proofs.Ready.{word-ready}
 use borrow.Author.Needs.{needs}
 use Rattle.active.proofs.first_set.Statement.{statement}
 use Rattle.active.proofs.first_set.Tie as tie
-use Rattle.active.proofs.first_set.Reads as reads
-use Rattle.active.proofs.first_set.Lts as lts
-use Rattle.active.proofs.enabling.Reads as enabling-reads
-use Rattle.active.proofs.is_unstable.Reads as is-unstable-reads
-use Rattle.layout.proofs.block_word.Reads as block-word-reads
 
 block-word-requires : tie.Need-block-word-requires
 block-word-requires c κs = let s0 = c .before in word-ready _ (s0 .pre .0) _ (s0 .pre .1) _ (omega arith)
@@ -41,20 +33,24 @@ enabling-requires c κs = search needs
 returns : tie.Need-returns
 unfolding allowed compOf
 returns c =
-    let s0 = c .before .before .before .before .before .before .before .before .before in
+    let d = c .before .before .before .before in
+    let s0 = d .before .before .before .before .before in
     let t = now (s0 .args .t) in
     let i = s0 .args .i in
     let s = s0 .args .s in
-    let clocks = c .before .before .before .before .before .before .before .block-word in
-    let started = c .before .before .before .before .before .before .block-word2 in
-    let start = c .before .before .before .before .before .block-word3 in
-    let one : c .before .before .before .before .if1 .first ≡ cond (eqb s (blockWord t i 1)) (blockWord t i 7) (blockWord t i 6) = ⊎-elim
+    let clocks = d .before .before .before .block-word in
+    let started = d .before .before .block-word2 in
+    let start = d .before .block-word3 in
+    let one : d .if1 .first ≡ cond (eqb s (blockWord t i 1)) (blockWord t i 7) (blockWord t i 6) = ⊎-elim
     (λ w. w .1 ∙ started .ensures ∙ sym (ap (λ b. cond b (blockWord t i 7) (blockWord t i 6)) (eq-eqb s (blockWord t i 1) (w .0 .taken ∙ start .ensures))))
-    (λ w. w .1 ∙ clocks .ensures ∙ sym (ap (λ b. cond b (blockWord t i 7) (blockWord t i 6)) (ne-eqb s (blockWord t i 1) (λ e. w .0 .left (e ∙ sym (start .ensures))))))
-    (c .before .before .before .before .if1 .came) in
+    (λ w. w .1 ∙ clocks .ensures ∙ sym (ap (λ b. cond b (blockWord t i 7) (blockWord t i 6))
+    (ne-eqb s (blockWord t i 1) (λ e. w .0 .left (e ∙ sym (start .ensures))))))
+    (d .if1 .came) in
     let two : c .before .before .if2 .rest ≡ cond (unstable (compOf t i) s) (blockWord t i 6) (enablingOf (compOf t i) s) = ⊎-elim
-    (λ w. w .1 ∙ clocks .ensures ∙ ap (λ b. cond b (blockWord t i 6) (enablingOf (compOf t i) s)) (sym (w .0 .taken) ∙ c .before .before .before .is-unstable .ensures))
-    (λ w. w .2 ∙ w .1 .ensures ∙ ap (λ b. cond b (blockWord t i 6) (enablingOf (compOf t i) s)) (sym (w .0 .left) ∙ c .before .before .before .is-unstable .ensures))
+    (λ w. w .1 ∙ clocks .ensures ∙ ap (λ b. cond b (blockWord t i 6) (enablingOf (compOf t i) s))
+    (sym (w .0 .taken) ∙ c .before .before .before .is-unstable .ensures))
+    (λ w. w .2 ∙ w .1 .ensures ∙ ap (λ b. cond b (blockWord t i 6) (enablingOf (compOf t i) s))
+    (sym (w .0 .left) ∙ c .before .before .before .is-unstable .ensures))
     (c .before .before .if2 .came) in
     ap₂ _∩_ (clocks .ensures) (ap₂ _∩_ one two)
 

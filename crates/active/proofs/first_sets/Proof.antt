@@ -30,7 +30,9 @@ first-set-requires : tie.Need-first-set-requires Inv-loop μ-loop
 first-set-requires c κs = let s0 = c .before .before .before .before in (s0 .pre .0, s0 .pre .1, omega (arith, c .before .before .block-word .ensures))
 
 element-write-act : tie.Need-element-write-act Inv-loop μ-loop
-element-write-act c = let s0 = c .before .before .before .before .before in omega (arith, c .before .before .before .block-word .ensures, comp-ranges _ (s0 .pre .0) _ (s0 .pre .1) .states)
+element-write-act c =
+    let s0 = c .before .before .before .before .before in
+    omega (arith, c .before .before .before .block-word .ensures, comp-ranges _ (s0 .pre .0) _ (s0 .pre .1) .states)
 
 mul-act : tie.Need-mul-act Inv-loop μ-loop
 mul-act c = omega (arith, element-write-act c)

@@ -1,18 +1,12 @@
 -- `active::guard_set` meets its contract.
-use mathlib.Core.Path.{_≡_, refl, sym, ap, ap₂, _∙_}
-use Prim.Native.Nat.{ℕ, zero, suc, _+_, _-_, _≤_, _<_}
+use mathlib.Core.Path.{_≡_, refl, ap, _∙_}
+use Prim.Native.Nat.{ℕ, zero, suc, _-_}
 use native.Mathlib.Omega.{arith}
-use native.Mathlib.Numerals.{add-one}
-use lib.ListN.{length, getD, set}
-use denote.Ref.{now}
 use Rattle.laws.specs.Sets.{only}
 use Rattle.model.specs.Model.{guardSet}
 use borrow.Author.Needs.{needs}
 use Rattle.active.proofs.guard_set.Statement.{statement}
 use Rattle.active.proofs.guard_set.Tie as tie
-use Rattle.active.proofs.guard_set.Reads as reads
-use Rattle.active.proofs.guard_set.Lts as lts
-use Rattle.sets.proofs.single.Reads as single-reads
 
 single-guard : (g : ℕ) → (g ≡ 0 → ⊥) → only (g - 1) ≡ guardSet g
 single-guard zero h = absurd (h refl)

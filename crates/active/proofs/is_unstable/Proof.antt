@@ -1,9 +1,6 @@
 -- `active::is_unstable` meets its contract: a row of the range has an urgent output, or none has.
-use mathlib.Core.Path.{_≡_, refl, sym, ap, ap₂, _∙_}
-use Prim.Native.Nat.{ℕ, zero, suc, _+_, _-_, _≤_, _<_}
+use mathlib.Core.Path.{ap, _∙_}
 use native.Mathlib.Omega.{arith}
-use native.Mathlib.Numerals.{add-one}
-use lib.ListN.{length, getD, set}
 use denote.Ref.{now}
 use Rattle.rows.specs.Ranges.{foundOf, bySet}
 use Rattle.rows.proofs.Ready.{word-ready, first-ready, next-ready, range-ready, range-actions}
@@ -11,11 +8,6 @@ use Rattle.active.proofs.Stability.{unstable-at, unstable-nothing}
 use borrow.Author.Needs.{needs}
 use Rattle.active.proofs.is_unstable.Statement.{statement}
 use Rattle.active.proofs.is_unstable.Tie as tie
-use Rattle.active.proofs.is_unstable.Reads as reads
-use Rattle.active.proofs.is_unstable.Lts as lts
-use Rattle.layout.proofs.block_word.Reads as block-word-reads
-use Rattle.layout.proofs.first_of.Reads as first-of-reads
-use Rattle.rows.proofs.find_in.Reads as find-in-reads
 
 first-of-requires : tie.Need-first-of-requires
 first-of-requires c κs = let s0 = c .before in first-ready _ (s0 .pre .0) _ (s0 .pre .1) _ (s0 .pre .2)
@@ -43,17 +35,21 @@ enum-told-2 c = search needs
 
 returns : tie.Need-returns
 returns c =
-    let s0 = c .before .before .before .before .before .before .before in
     let d = c .before .before in
-    let e = d .find-in .ensures ∙ ap (λ w. foundOf (bySet (now (s0 .args .t)) w (d .before .before .before .first-of .result) (d .before .before .first-of2 .result))) (d .before .block-word .ensures) in
-    unstable-at _ (s0 .pre .0) _ (s0 .pre .1) _ (s0 .pre .2) _ _ (d .before .before .before .first-of .ensures) (d .before .before .first-of2 .ensures) _ e _ (c .enum-told .given .1)
+    let s0 = d .before .before .before .before .before in
+    let e = d .find-in .ensures ∙ ap (λ w. foundOf (bySet (now (s0 .args .t)) w (d .before .before .before .first-of .result)
+    (d .before .before .first-of2 .result))) (d .before .block-word .ensures) in
+    unstable-at _ (s0 .pre .0) _ (s0 .pre .1) _ (s0 .pre .2) _ _ (d .before .before .before .first-of .ensures)
+    (d .before .before .first-of2 .ensures) _ e _ (c .enum-told .given .1)
 
 returns-2 : tie.Need-returns-2
 returns-2 c =
-    let s0 = c .before .before .before .before .before .before .before in
     let d = c .before .before in
-    let e = d .find-in .ensures ∙ ap (λ w. foundOf (bySet (now (s0 .args .t)) w (d .before .before .before .first-of .result) (d .before .before .first-of2 .result))) (d .before .block-word .ensures) in
-    unstable-nothing _ (s0 .pre .0) _ (s0 .pre .1) _ (s0 .pre .2) _ _ (d .before .before .before .first-of .ensures) (d .before .before .first-of2 .ensures) _ e (c .enum-told2 .given .1)
+    let s0 = d .before .before .before .before .before in
+    let e = d .find-in .ensures ∙ ap (λ w. foundOf (bySet (now (s0 .args .t)) w (d .before .before .before .first-of .result)
+    (d .before .before .first-of2 .result))) (d .before .block-word .ensures) in
+    unstable-nothing _ (s0 .pre .0) _ (s0 .pre .1) _ (s0 .pre .2) _ _ (d .before .before .before .first-of .ensures)
+    (d .before .before .first-of2 .ensures) _ e (c .enum-told2 .given .1)
 
 pub is-unstable-spec : {M : Type 1} → statement M
 is-unstable-spec =

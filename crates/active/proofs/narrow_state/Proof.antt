@@ -49,11 +49,14 @@ loop-holds c = (search needs, refl, refl)
 target-at-requires : tie.Need-target-at-requires Inv-loop μ-loop
 target-at-requires c κs =
     let s0 = c .before .before .before .before .before in
-    let r = range-ready _ (s0 .pre .0) _ (s0 .pre .1) _ (s0 .pre .2) _ _ (c .before .before .before .first-of .ensures) (c .before .before .first-of2 .ensures) in
+    let r = range-ready _ (s0 .pre .0) _ (s0 .pre .1) _ (s0 .pre .2) _ _ (c .before .before .before .first-of .ensures)
+    (c .before .before .first-of2 .ensures) in
     (r .0, omega (arith, r .1))
 
 element-copy-out-minus : tie.Need-element-copy-out-minus Inv-loop μ-loop
-element-copy-out-minus c = let s0 = c .before .before .before .before .before .before in omega (arith, next-ready _ (s0 .pre .0) _ (s0 .pre .1) _ (s0 .pre .2) .2)
+element-copy-out-minus c =
+    let s0 = c .before .before .before .before .before .before in
+    omega (arith, next-ready _ (s0 .pre .0) _ (s0 .pre .1) _ (s0 .pre .2) .2)
 
 mul-minus : tie.Need-mul-minus Inv-loop μ-loop
 mul-minus c = omega (arith, element-copy-out-minus c)
@@ -63,9 +66,11 @@ guard-at-requires c κs = target-at-requires (c .before .before) κs
 
 guard-set-requires : tie.Need-guard-set-requires Inv-loop μ-loop
 guard-set-requires c κs =
-    let s0 = c .before .before .before .before .before .before .before .before in
-    let l = c .before .before .before .before .loop in
-    let r = row-ready _ (s0 .pre .0) _ (s0 .pre .1) _ (s0 .pre .2) _ _ (c .before .before .before .before .before .before .first-of .ensures) (c .before .before .before .before .before .first-of2 .ensures) (l .k) (l .inv .0) (search needs) in
+    let d = c .before .before .before .before in
+    let s0 = d .before .before .before .before in
+    let l = d .loop in
+    let r = row-ready _ (s0 .pre .0) _ (s0 .pre .1) _ (s0 .pre .2) _ _ (d .before .before .first-of .ensures) (d .before .first-of2 .ensures) (l .k)
+    (l .inv .0) (search needs) in
     rw (c .guard-at .ensures) (r .guard)
 
 minus-requires : tie.Need-minus-requires Inv-loop μ-loop
@@ -73,10 +78,13 @@ minus-requires c κs = search needs
 
 element-copy-out-old : tie.Need-element-copy-out-old Inv-loop μ-loop
 element-copy-out-old c =
-    let s0 = c .before .before .before .before .before .before .before .before .before .before in
-    let l = c .before .before .before .before .before .before .loop in
-    let r = row-ready _ (s0 .pre .0) _ (s0 .pre .1) _ (s0 .pre .2) _ _ (c .before .before .before .before .before .before .before .before .first-of .ensures) (c .before .before .before .before .before .before .before .first-of2 .ensures) (l .k) (l .inv .0) (search needs) in
-    omega (arith, c .before .before .before .before .target-at .ensures, r .target, comp-ranges _ (s0 .pre .0) _ (s0 .pre .1) .states)
+    let d₁ = c .before .before .before .before in
+    let d₂ = d₁ .before .before .before .before in
+    let s0 = d₂ .before .before in
+    let l = d₁ .before .before .loop in
+    let r = row-ready _ (s0 .pre .0) _ (s0 .pre .1) _ (s0 .pre .2) _ _ (d₂ .first-of .ensures) (d₁ .before .before .before .first-of2 .ensures) (l .k)
+    (l .inv .0) (search needs) in
+    omega (arith, d₁ .target-at .ensures, r .target, comp-ranges _ (s0 .pre .0) _ (s0 .pre .1) .states)
 
 mul-old : tie.Need-mul-old Inv-loop μ-loop
 mul-old c = omega (arith, element-copy-out-old c)
@@ -101,11 +109,13 @@ loop-less c = search needs
 
 loop-again : tie.Need-loop-again Inv-loop μ-loop
 loop-again c =
-    let s0 = c .before .before .before .before .before .before .before .before .before .before .before .before .before in
-    let l = c .before .before .before .before .before .before .before .before .before .loop in
+    let m = c .before .before .before .before .before .before in
+    let d = m .before in
+    let s0 = d .before .before .before .before .before .before in
+    let l = d .before .before .loop in
     let t = now (s0 .args .t) in
     let s = s0 .args .s in
-    let to = c .before .before .before .before .before .before .before .target-at in
+    let to = d .target-at in
     let hands : c .union .result ≡ getD (l .act) s 0 ∖ guardSet (guardAt t (l .k)) ∪ resetsAt t (l .k) = cc in
     let n = one-row t _ (l .act) s (l .k) (to .result) (c .union .result) (l .less) (l .inv .2) (to .ensures) hands in (
       search needs,
@@ -116,11 +126,12 @@ loop-again c =
 returns : tie.Need-returns Inv-loop μ-loop
 unfolding narrowState
 returns c =
-    let l = c .before .loop in
     let s0 = c .before .before .before .before .before in
+    let l = c .before .loop in
     let t = now (s0 .args .t) in (
       sym (over-end _ (l .k) _ (l .act) (search needs)) ∙ l .inv .1
-          ∙ range-over t (s0 .pre .0) _ (s0 .pre .1) _ (s0 .pre .2) _ _ (c .before .before .before .first-of .ensures) (c .before .before .first-of2 .ensures) _ _,
+          ∙ range-over t (s0 .pre .0) _ (s0 .pre .1) _ (s0 .pre .2) _ _ (c .before .before .before .first-of .ensures)
+          (c .before .before .first-of2 .ensures) _ _,
       l .inv .2,
     )
 

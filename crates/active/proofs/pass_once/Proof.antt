@@ -1,6 +1,6 @@
 -- `active::pass_once` meets its contract: what is left of the states narrows the sets so far.
 use mathlib.Core.Path.{_≡_, refl, sym, ap, _∙_}
-use Prim.Native.Nat.{_+_, _-_, _≤_}
+use Prim.Native.Nat.{_-_, _≤_}
 use native.Mathlib.Omega.{arith}
 use denote.Ref.{now}
 use Rattle.laws.specs.Fold.{over}
@@ -25,7 +25,9 @@ loop-holds : tie.Need-loop-holds Inv-loop μ-loop
 loop-holds c = (search needs, refl, refl)
 
 narrow-state-requires : tie.Need-narrow-state-requires Inv-loop μ-loop
-narrow-state-requires c κs = let s0 = c .before .before .before .before .before in (s0 .pre .0, s0 .pre .1, omega (arith, c .before .before .before .block-word .ensures))
+narrow-state-requires c κs =
+    let s0 = c .before .before .before .before .before in
+    (s0 .pre .0, s0 .pre .1, omega (arith, c .before .before .before .block-word .ensures))
 
 add-s : tie.Need-add-s Inv-loop μ-loop
 add-s c = search needs
@@ -35,19 +37,25 @@ loop-less c = search needs
 
 loop-again : tie.Need-loop-again Inv-loop μ-loop
 loop-again c =
-    let l = c .before .before .before .loop in
     let s0 = c .before .before .before .before .before .before in
+    let l = c .before .before .before .loop in
     let n = c .narrow-state in
-    let f = narrowState (now (s0 .args .t)) (s0 .args .i) in
-    (search needs, rw (n .ensures .0) (sym (over-next f (l .s) _ (l .act) (search needs)) ∙ l .inv .1), fell-on _ (l .act) _ (l .less) (n .result) (l .inv .2) (n .ensures .1))
+    let f = narrowState (now (s0 .args .t)) (s0 .args .i) in (
+      search needs,
+      rw (n .ensures .0) (sym (over-next f (l .s) _ (l .act) (search needs)) ∙ l .inv .1),
+      fell-on _ (l .act) _ (l .less) (n .result) (l .inv .2) (n .ensures .1),
+    )
 
 returns : tie.Need-returns Inv-loop μ-loop
 unfolding pass
 returns c =
-    let l = c .before .loop in
     let s0 = c .before .before .before .before in
-    let f = narrowState (now (s0 .args .t)) (s0 .args .i) in
-    (sym (over-end f (l .s) _ (l .act) (search needs)) ∙ l .inv .1 ∙ ap (λ n. over f 0 n (now (s0 .args .act))) (c .before .before .block-word .ensures), l .inv .2)
+    let l = c .before .loop in
+    let f = narrowState (now (s0 .args .t)) (s0 .args .i) in (
+      sym (over-end f (l .s) _ (l .act) (search needs)) ∙ l .inv .1 ∙ ap (λ n. over f 0 n (now (s0 .args .act)))
+          (c .before .before .block-word .ensures),
+      l .inv .2,
+    )
 
 pub pass-once-spec : {M : Type 1} → statement M
 pass-once-spec =

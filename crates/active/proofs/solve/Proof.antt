@@ -31,7 +31,12 @@ loop-again : tie.Need-loop-again Inv-loop μ-loop
 loop-again c =
     let b = c .before .before .before .loop .inv in
     let e = c .before .pass-once .ensures .0 in
-    record { image = b .image; inside = b .inside; low = rw e (pass-low _ (b .image) _ (b .inside) _ (b .low)); high = rw e (pass-high _ (b .image) _ (b .inside) _ (b .high)) }
+    record {
+      image = b .image;
+      inside = b .inside;
+      low = rw e (pass-low _ (b .image) _ (b .inside) _ (b .low));
+      high = rw e (pass-high _ (b .image) _ (b .inside) _ (b .high));
+    }
 
 returns : tie.Need-returns Inv-loop μ-loop
 returns c =

@@ -1,9 +1,7 @@
 -- `admit::check_meeting` meets its contract: the components passed are confluent, and what is left is the whole.
-use mathlib.Core.Path.{_≡_, refl, sym, ap, ap₂, _∙_}
-use Prim.Native.Nat.{ℕ, zero, suc, _+_, _-_, _≤_, _<_}
+use mathlib.Core.Path.{_≡_, refl, sym, ap, _∙_}
+use Prim.Native.Nat.{_+_, _-_, _≤_, _<_}
 use native.Mathlib.Omega.{arith}
-use native.Mathlib.Numerals.{add-one}
-use lib.ListN.{length, getD, set}
 use denote.Ref.{now}
 use Rattle.laws.specs.Search.{orElse}
 use Rattle.layout.specs.Layout.{countOf}
@@ -16,10 +14,6 @@ use Rattle.admit.proofs.EachInTurn.{clashesLeft, all-clashes, no-clash-
 use borrow.Author.Needs.{needs}
 use Rattle.admit.proofs.check_meeting.Statement.{statement}
 use Rattle.admit.proofs.check_meeting.Tie as tie
-use Rattle.admit.proofs.check_meeting.Reads as reads
-use Rattle.admit.proofs.check_meeting.Lts as lts
-use Rattle.layout.proofs.count_of.Reads as count-of-reads
-use Rattle.meets.proofs.check_confluence.Reads as check-confluence-reads
 
 abbrev Inv-loop : tie.InvT-loop
 Inv-loop t n i₀ i = (i ≤ n) × (clashesLeft t i ≡ clashesLeft t 0)
@@ -47,12 +41,14 @@ enum-told-2 c = search needs
 
 returns : tie.Need-returns Inv-loop μ-loop
 returns c =
-    let s0 = c .before .before .before .before .before .before .before in
-    let l = c .before .before .before .before .loop in
+    let d = c .before .before .before .before in
+    let s0 = d .before .before .before in
+    let l = d .loop in
     let t = now (s0 .args .t) in
-    let h : l .i < countOf t = omega (arith, c .before .before .before .before .before .count-of .ensures) in
+    let h : l .i < countOf t = omega (arith, d .before .count-of .ensures) in
     let r = c .before .before .check-confluence in
-    says-as _ _ _ (sym (clash-next t (s0 .pre .0) (l .i) h) ∙ l .inv .1 ∙ all-clashes t) (refused-first (r .result) (fault18 (l .i) (compOf t (l .i))) (clashesLeft t (l .i + 1)) (r .ensures) (not-fine (r .result) _ (c .enum-told2 .given .1)))
+    says-as _ _ _ (sym (clash-next t (s0 .pre .0) (l .i) h) ∙ l .inv .1 ∙ all-clashes t) (refused-first (r .result) (fault18 (l .i) (compOf t (l .i)))
+    (clashesLeft t (l .i + 1)) (r .ensures) (not-fine (r .result) _ (c .enum-told2 .given .1)))
 
 add-i : tie.Need-add-i Inv-loop μ-loop
 add-i c = search needs
@@ -62,10 +58,11 @@ loop-less c = search needs
 
 loop-again : tie.Need-loop-again Inv-loop μ-loop
 loop-again c =
-    let s0 = c .before .before .before .before .before .before .before in
-    let l = c .before .before .before .before .loop in
+    let d = c .before .before .before .before in
+    let s0 = d .before .before .before in
+    let l = d .loop in
     let t = now (s0 .args .t) in
-    let h : l .i < countOf t = omega (arith, c .before .before .before .before .before .count-of .ensures) in
+    let h : l .i < countOf t = omega (arith, d .before .count-of .ensures) in
     let r = c .before .before .check-confluence in
     let none = fine-none (fault18 (l .i) (compOf t (l .i))) (rw (c .enum-told .given .1) at (r .ensures)) in
     (search needs, sym (clash-next t (s0 .pre .0) (l .i) h ∙ ap (λ o. orElse o (clashesLeft t (l .i + 1))) none) ∙ l .inv .1)

@@ -24,7 +24,7 @@ use Rattle.iosa.specs.Checks.{acceptOf}
 use Rattle.merged.specs.Merge.{productRows, merged, mergedAt, neighbourFault, sizeFault, mergeOf}
 use Rattle.merged.specs.MergedExactly.{FitsIn, MergeAnswer, no-neighbour, too-large, small-enough}
 use Rattle.merged.specs.MergedAs.{ProductOf, Replaced, Small, MergedAnswer, is25, is26, is-merged}
-use Rattle.iosa.specs.InOrder.{_▹_, room, accepted}
+use Rattle.iosa.specs.InOrder.{_▹_, room}
 use Rattle.answering.specs.Answers.{MergeCallAnswer}
 use Rattle.iosa.proofs.Acceptance.Accepted.{accepted-exactly}
 use Rattle.iosa.proofs.Acceptance.Guards.{guard-same}

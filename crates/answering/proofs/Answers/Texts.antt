@@ -16,7 +16,7 @@ use Rattle.model.specs.Reading.{readOf}
 use Rattle.model.specs.Faulty.{ReadsAs, is-model, is-too-long, is-empty, has-fault}
 use Rattle.iosa.specs.Step.{stateFault}
 use Rattle.timing.specs.Timed.{unstableFault, valuesFault, enablingAll, timedFrom, timedOf}
-use Rattle.iosa.specs.TimedExactly.{Waits, InTicks, BelowZero, Shares, Fires, Timing, Shoots, no-shot, one-shot, Ready}
+use Rattle.iosa.specs.TimedExactly.{Waits, InTicks, BelowZero, Shares, Timing, Shoots, no-shot, one-shot, Ready}
 use Rattle.iosa.specs.TimedExactly.{TimedAnswer, is21, is27, is28, is29, is30, is-quiet, is-fired}
 use Rattle.iosa.specs.InOrder.{_▹_, refuses, passes, Gives, gives, needs, noClock}
 use Rattle.answering.specs.Answers.{stateOk, TimedStepAnswer, ReadAnswer, is1, is-fault, is8, is-text}
@@ -25,7 +25,7 @@ use Rattle.model.proofs.Reading.LowestFault.{fault-number}
 use Rattle.model.proofs.Reading.Faults.{too-long-exactly, no-component-exactly, fault-exactly, read-answers}
 use Rattle.model.proofs.Reading.ReadOfText.{read-exactly}
 use Rattle.timing.proofs.Timing.Exactly.{timed-exactly, not-negative, not-shared}
-use Rattle.answering.proofs.Answers.InOrder.{refusedOr, either, or-refused, check-exactly}
+use Rattle.answering.proofs.Answers.InOrder.{refusedOr, either, or-refused}
 use Rattle.answering.proofs.Answers.Models.{check-accepted}
 
 -- the timed step answer by answer, and as a chain of checks

@@ -53,7 +53,8 @@ hasty-reaches-two = (refl, refl, refl)
 -- from 1 and from 2, with a budget that is too large, from 3; and a step asks for no reached part
 pub hasty-answers : (settleOf (hasty ∷ []) (1 ∷ []) 9 9 ≡ answered (ended 0 0 (1 ∷ []))) × (settleOf (hasty ∷ []) (2 ∷ []) 9 9 ≡ refused (tell 19 (0 ∷ [])))
     × (settleOf (hasty ∷ []) (2 ∷ []) 9999 0 ≡ refused (tell 19 (0 ∷ []))) × (settleOf (hasty ∷ []) (3 ∷ []) 9 9 ≡ refused (tell 21 (0 ∷ [])))
-    × (settleListOf (hasty ∷ []) (2 ∷ []) [] ≡ refused (tell 19 (0 ∷ []))) × (stepOf (hasty ∷ []) (2 ∷ []) ≡ answered (record { step = stable; state = 2 ∷ [] }))
+    × (settleListOf (hasty ∷ []) (2 ∷ []) [] ≡ refused (tell 19 (0 ∷ [])))
+    × (stepOf (hasty ∷ []) (2 ∷ []) ≡ answered (record { step = stable; state = 2 ∷ [] }))
 unfolding reply hasty stepOf
 hasty-answers = (refl, refl, refl, refl, refl, refl)
 

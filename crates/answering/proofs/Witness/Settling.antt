@@ -42,7 +42,18 @@ unfoldable pub M₀ : Comp
 M₀ = record { states = 2; start = 0; ins = 0; outs = 1; uins = 0; uouts = 2; clocks = 1; started = 1; rows = row 0 1 0 0 1 ∷ row 1 0 1 1 0 ∷ [] }
 
 unfoldable pub M₁ : Comp
-M₁ = record { states = 3; start = 0; ins = 0; outs = 0; uins = 2; uouts = 4; clocks = 0; started = 0; rows = row 0 0 1 0 1 ∷ row 1 0 1 0 1 ∷ row 1 0 2 0 2 ∷ row 2 0 1 0 2 ∷ [] }
+M₁ =
+    record {
+      states = 3;
+      start = 0;
+      ins = 0;
+      outs = 0;
+      uins = 2;
+      uouts = 4;
+      clocks = 0;
+      started = 0;
+      rows = row 0 0 1 0 1 ∷ row 1 0 1 0 1 ∷ row 1 0 2 0 2 ∷ row 2 0 1 0 2 ∷ [];
+    }
 
 pub M-is-read : readOf (bytesOf M) ≡ answered (M₀ ∷ M₁ ∷ [])
 unfolding reply M₀ M₁
@@ -67,7 +78,8 @@ pub record TwoOrders (c : Comp) (cs : List Comp) (s l k : List ℕ) (d : Settlin
 
 two-orders : (c : Comp) (cs : List Comp) → WellFormed (c ∷ cs) → confluentOf (c ∷ cs) ≡ none → (s : List ℕ) → Within (c ∷ cs) s
     → reachFault (c ∷ cs) s ≡ none → (l k : List ℕ) (d d′ : Settling (List ℕ))
-    → play (c ∷ cs) 0 l s ≡ answered d → play (c ∷ cs) 0 k s ≡ answered d′ → d .stable ≡ true → d .resets ≡ d′ .resets → d .state ≡ d′ .state → TwoOrders c cs s l k d
+    → play (c ∷ cs) 0 l s ≡ answered d → play (c ∷ cs) 0 k s ≡ answered d′ → d .stable ≡ true → d .resets ≡ d′ .resets → d .state ≡ d′ .state
+    → TwoOrders c cs s l k d
 two-orders c cs well e s w r l k d d′ p q st f g =
     let a = accepted-exactly (c ∷ cs) well .0 (confluent-accepted (c ∷ cs) e) in
     let x = list-that-is-a-series c cs well (a .0) (a .1) s w l d .0 p in
@@ -114,7 +126,8 @@ T₂ =
       clocks = 4;
       started = 0;
       rows =
-          row 0 0 0 0 1 ∷ row 0 0 1 0 2 ∷ row 1 0 0 0 1 ∷ row 1 0 1 0 3 ∷ row 2 0 0 0 3 ∷ row 2 0 1 0 2 ∷ row 3 0 0 0 3 ∷ row 3 0 1 0 3 ∷ row 3 0 2 4 4 ∷ row 4 0 0 0 4
+          row 0 0 0 0 1 ∷ row 0 0 1 0 2 ∷ row 1 0 0 0 1 ∷ row 1 0 1 0 3 ∷ row 2 0 0 0 3 ∷ row 2 0 1 0 2 ∷ row 3 0 0 0 3 ∷ row 3 0 1 0 3 ∷ row 3 0 2 4
+          4 ∷ row 4 0 0 0 4
           ∷ row 4 0 1 0 4 ∷ row 4 3 5 0 0 ∷ [];
     }
 
@@ -130,7 +143,8 @@ T-confluent = refl
 pub three-in-two-orders : TwoOrders T₀ (T₁ ∷ T₂ ∷ []) (0 ∷ 0 ∷ 0 ∷ []) (0 ∷ 1 ∷ 2 ∷ []) (1 ∷ 0 ∷ 2 ∷ []) (ended 3 7 (1 ∷ 1 ∷ 4 ∷ []))
 unfolding reply T₀ T₁ T₂
 three-in-two-orders =
-    two-orders T₀ (T₁ ∷ T₂ ∷ []) T-well T-confluent (0 ∷ 0 ∷ 0 ∷ []) (range-exactly (T₀ ∷ T₁ ∷ T₂ ∷ []) (0 ∷ 0 ∷ 0 ∷ []) .0 refl) refl (0 ∷ 1 ∷ 2 ∷ []) (1 ∷ 0 ∷ 2 ∷ [])
+    two-orders T₀ (T₁ ∷ T₂ ∷ []) T-well T-confluent (0 ∷ 0 ∷ 0 ∷ []) (range-exactly (T₀ ∷ T₁ ∷ T₂ ∷ []) (0 ∷ 0 ∷ 0 ∷ []) .0 refl) refl
+    (0 ∷ 1 ∷ 2 ∷ []) (1 ∷ 0 ∷ 2 ∷ [])
     (ended 3 7 (1 ∷ 1 ∷ 4 ∷ [])) (ended 3 7 (1 ∷ 1 ∷ 4 ∷ [])) refl refl refl refl refl
 
 -- ---- "Inputs count": the third remembers which of 0 and 1 came first, so its two inputs clash and nothing else does
@@ -235,7 +249,8 @@ loop-never-settles budget =
     accepted : Conforming (looping ∷ []) × Joinable (looping ∷ [])
     accepted = accepted-exactly (looping ∷ []) looping-well .0 (confluent-accepted (looping ∷ []) looping-confluent)
 
-    stops : {l : List ℕ} {R : ℕ} {y : product looping [] .State} → (t : List ℕ) × Run (urgentStep (looping ∷ [])) (0 ∷ []) l R t × (y ≡ stateOf looping [] t) × Within (looping ∷ []) t
+    stops : {l : List ℕ} {R : ℕ} {y : product looping [] .State} → (t : List ℕ) × Run (urgentStep (looping ∷ [])) (0 ∷ []) l R t
+        × (y ≡ stateOf looping [] t) × Within (looping ∷ []) t
         → Stable (product looping []) y → ⊥
     stops p st =
         let e : stateOf looping [] (p .0) ≡ stateOf looping [] (0 ∷ []) = ap (stateOf looping []) (only-state (p .0) (p .3)) in

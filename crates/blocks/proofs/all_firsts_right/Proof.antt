@@ -27,16 +27,20 @@ unfolding endBefore
 loop-holds c = (refl, refl)
 
 firsts-right-requires : tie.Need-firsts-right-requires Inv-loop μ-loop
-firsts-right-requires c κs = (c .before .before .before .pre .0, omega arith, c .before .before .before .pre .2 (c .before .loop .i) (c .loop-test .taken), c .before .loop .inv .1)
+firsts-right-requires c κs =
+    let s = c .before .before .before in
+    (s .pre .0, omega arith, s .pre .2 (c .before .loop .i) (c .loop-test .taken), c .before .loop .inv .1)
 
 returns : tie.Need-returns Inv-loop μ-loop
 returns c =
-    let args = c .before .before .before .before .before .args in
+    let s = c .before .before .before .before .before in
+    let args = s .args in
     let loop = c .before .before .before .loop in
     let loop-test = c .before .before .loop-test in
     let firsts-right = c .before .firsts-right in
     let i = loop .i in
-    all-fails (firstsRight (args .t .now)) i (args .count) (loop .inv .0) (loop-test .taken) (sym (firsts-right .ensures) ∙ not-true (firsts-right .result) (c .if1 .taken))
+    all-fails (firstsRight (args .t .now)) i (args .count) (loop .inv .0) (loop-test .taken) (sym (firsts-right .ensures)
+    ∙ not-true (firsts-right .result) (c .if1 .taken))
 
 block-word-requires : tie.Need-block-word-requires Inv-loop μ-loop
 block-word-requires c κs = (c .before .before .before .before .before .pre .0, omega arith, omega arith)
@@ -56,18 +60,25 @@ loop-less c = omega arith
 
 loop-again : tie.Need-loop-again Inv-loop μ-loop
 loop-again c =
-    let args = c .before .before .before .before .before .before .before .args in
-    let loop = c .before .before .before .before .before .loop in
-    let loop-test = c .before .before .before .before .loop-test in
+    let d = c .before .before .before .before in
+    let s = d .before .before .before in
+    let args = s .args in
+    let loop = d .before .loop in
+    let loop-test = d .loop-test in
     let firsts-right = c .before .before .before .firsts-right in
     let if1 = c .before .before .if1 in
     let block-word = c .before .block-word in
     let t = args .t .now in
-    let i = loop .i in
-    (all-goes-on (firstsRight t) i (args .count) (loop .inv .0) (loop-test .taken) (sym (firsts-right .ensures) ∙ not-false (firsts-right .result) (if1 .left)), handed t i (block-word .result) (block-word .ensures) (c .first-of .ensures))
+    let i = loop .i in (
+      all-goes-on (firstsRight t) i (args .count) (loop .inv .0) (loop-test .taken) (sym (firsts-right .ensures) ∙ not-false (firsts-right .result)
+          (if1 .left)),
+      handed t i (block-word .result) (block-word .ensures) (c .first-of .ensures),
+    )
 
 returns-2 : tie.Need-returns-2 Inv-loop μ-loop
-returns-2 c = all-passed (firstsRight (c .before .before .before .args .t .now)) (c .before .loop .i) (c .before .before .before .args .count) (c .before .loop .inv .0) (c .loop-test .left)
+returns-2 c =
+    let s = c .before .before .before in
+    all-passed (firstsRight (s .args .t .now)) (c .before .loop .i) (s .args .count) (c .before .loop .inv .0) (c .loop-test .left)
 
 pub all-firsts-right-spec : {M : Type 1} → statement M
 all-firsts-right-spec =

@@ -52,8 +52,10 @@ all-firsts-right-requires c κs =
 returns-4 : tie.Need-returns-4
 unfolding blocksRight
 returns-4 c =
-    let args = c .before .before .before .before .before .before .before .args in
-    let count-of = c .before .before .before .before .before .count-of in
+    let d = c .before .before .before .before .before in
+    let s = d .before .before in
+    let args = s .args in
+    let count-of = d .count-of in
     let heads-right = c .before .before .heads-right in
     let t = args .t .now in
     c .all-firsts-right .ensures

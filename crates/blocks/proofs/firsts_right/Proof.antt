@@ -64,11 +64,13 @@ first-of-requires-2 c κs = search needs
 returns-3 : tie.Need-returns-3
 unfolding firstsRight
 returns-3 c =
-    let args = c .before .before .before .before .before .before .before .before .args in
-    let the-pre = c .before .before .before .before .before .before .before .before .pre in
-    let block-word = c .before .before .before .before .before .before .block-word in
-    let first-of = c .before .before .before .before .before .first-of in
-    let if1 = c .before .before .before .before .if1 in
+    let d = c .before .before .before .before in
+    let s = d .before .before .before .before in
+    let args = s .args in
+    let the-pre = s .pre in
+    let block-word = d .before .before .block-word in
+    let first-of = d .before .first-of in
+    let if1 = d .if1 in
     let the-in-order = c .before .before .before .in-order in
     let if2 = c .before .before .if2 in
     let i = args .i in
@@ -101,12 +103,14 @@ zero-words-requires c κs = search needs
 returns-4 : tie.Need-returns-4
 unfolding firstsRight
 returns-4 c =
-    let args = c .before .before .before .before .before .before .before .before .before .args in
-    let the-pre = c .before .before .before .before .before .before .before .before .before .pre in
-    let block-word = c .before .before .before .before .before .before .before .block-word in
-    let first-of = c .before .before .before .before .before .before .first-of in
-    let if1 = c .before .before .before .before .before .if1 in
-    let the-in-order = c .before .before .before .before .in-order in
+    let d = c .before .before .before .before in
+    let s = d .before .before .before .before .before in
+    let args = s .args in
+    let the-pre = s .pre in
+    let block-word = d .before .before .before .block-word in
+    let first-of = d .before .before .first-of in
+    let if1 = d .before .if1 in
+    let the-in-order = d .in-order in
     let if2 = c .before .before .before .if2 in
     let i = args .i in
     let t = args .t .now in

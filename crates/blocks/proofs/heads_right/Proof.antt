@@ -24,12 +24,14 @@ head-right-requires c κs = search needs
 
 returns : tie.Need-returns Inv-loop μ-loop
 returns c =
-    let args = c .before .before .before .before .before .args in
+    let s = c .before .before .before .before .before in
+    let args = s .args in
     let loop = c .before .before .before .loop in
     let loop-test = c .before .before .loop-test in
     let head-right = c .before .head-right in
     let i = loop .i in
-    all-fails (headRight (args .t .now)) i (args .count) (loop .inv) (loop-test .taken) (sym (head-right .ensures) ∙ not-true (head-right .result) (c .if1 .taken))
+    all-fails (headRight (args .t .now)) i (args .count) (loop .inv) (loop-test .taken) (sym (head-right .ensures) ∙ not-true (head-right .result)
+    (c .if1 .taken))
 
 add-i : tie.Need-add-i Inv-loop μ-loop
 add-i c = omega arith
@@ -39,15 +41,19 @@ loop-less c = omega arith
 
 loop-again : tie.Need-loop-again Inv-loop μ-loop
 loop-again c =
-    let args = c .before .before .before .before .before .args in
+    let s = c .before .before .before .before .before in
+    let args = s .args in
     let loop = c .before .before .before .loop in
     let loop-test = c .before .before .loop-test in
     let head-right = c .before .head-right in
     let i = loop .i in
-    all-goes-on (headRight (args .t .now)) i (args .count) (loop .inv) (loop-test .taken) (sym (head-right .ensures) ∙ not-false (head-right .result) (c .if1 .left))
+    all-goes-on (headRight (args .t .now)) i (args .count) (loop .inv) (loop-test .taken) (sym (head-right .ensures) ∙ not-false (head-right .result)
+    (c .if1 .left))
 
 returns-2 : tie.Need-returns-2 Inv-loop μ-loop
-returns-2 c = all-passed (headRight (c .before .before .before .args .t .now)) (c .before .loop .i) (c .before .before .before .args .count) (c .before .loop .inv) (c .loop-test .left)
+returns-2 c =
+    let s = c .before .before .before in
+    all-passed (headRight (s .args .t .now)) (c .before .loop .i) (s .args .count) (c .before .loop .inv) (c .loop-test .left)
 
 pub heads-right-spec : {M : Type 1} → statement M
 heads-right-spec =

@@ -34,29 +34,34 @@ union-requires c κs = search needs
 returns-4 : tie.Need-returns-4
 unfolding setsRight
 returns-4 c =
-    let args = c .before .before .before .before .before .before .before .before .before .before .before .before .before .args in
+    let d₁ = c .before .before .before .before in
+    let d₂ = d₁ .before .before .before .before in
+    let s = d₂ .before .before .before .before .before in
+    let args = s .args in
     let t = args .t .now in
     let i = args .i in
-    let ins = c .before .before .before .before .before .before .before .before .before .before .before .block-word .ensures in
-    let outs = c .before .before .before .before .before .before .before .before .before .before .block-word2 .ensures in
-    let uins = c .before .before .before .before .before .before .before .before .before .block-word3 .ensures in
-    let two = c .before .before .before .before .before .before .before .union .ensures ∙ ap₂ bitOr ins outs in
-    let three = c .before .before .before .before .before .union2 .ensures ∙ ap₂ bitOr two uins in
-    let uouts = c .before .before .before .before .block-word4 .ensures in
+    let ins = d₂ .before .before .before .block-word .ensures in
+    let outs = d₂ .before .before .block-word2 .ensures in
+    let uins = d₂ .before .block-word3 .ensures in
+    let two = d₁ .before .before .before .union .ensures ∙ ap₂ bitOr ins outs in
+    let three = d₁ .before .union2 .ensures ∙ ap₂ bitOr two uins in
+    let uouts = d₁ .block-word4 .ensures in
     c .lies-in .ensures
     ∙ ap₂ within (c .before .before .block-word5 .ensures) (c .before .block-word6 .ensures)
-    ∙ sym (shares-none (blockWord t i 2) (blockWord t i 3) (ap₂ bitAnd ins outs) (c .before .before .before .before .before .before .before .before .if1 .left)
-    ∙ shares-none ((blockWord t i 2) ∪ (blockWord t i 3)) (blockWord t i 4) (ap₂ bitAnd two uins) (c .before .before .before .before .before .before .if2 .left)
+    ∙ sym (shares-none (blockWord t i 2) (blockWord t i 3) (ap₂ bitAnd ins outs) (d₂ .if1 .left)
+    ∙ shares-none ((blockWord t i 2) ∪ (blockWord t i 3)) (blockWord t i 4) (ap₂ bitAnd two uins) (d₁ .before .before .if2 .left)
     ∙ shares-none ((blockWord t i 2) ∪ (blockWord t i 3) ∪ (blockWord t i 4)) (blockWord t i 5) (ap₂ bitAnd three uouts) (c .before .before .before .if3 .left))
 
 returns-2 : tie.Need-returns-2
 unfolding setsRight
 returns-2 c =
-    let args = c .before .before .before .before .before .before .before .args in
+    let d = c .before .before .before .before in
+    let s = d .before .before .before in
+    let args = s .args in
     let t = args .t .now in
     let i = args .i in
-    let ins = c .before .before .before .before .before .block-word .ensures in
-    let outs = c .before .before .before .before .block-word2 .ensures in
+    let ins = d .before .block-word .ensures in
+    let outs = d .block-word2 .ensures in
     let uins = c .before .before .before .block-word3 .ensures in
     let two = c .before .union .ensures ∙ ap₂ bitOr ins outs in
     sym (shares-none (blockWord t i 2) (blockWord t i 3) (ap₂ bitAnd ins outs) (c .before .before .if1 .left)
@@ -71,16 +76,19 @@ block-word-requires-4 c κs = search needs
 returns-3 : tie.Need-returns-3
 unfolding setsRight
 returns-3 c =
-    let args = c .before .before .before .before .before .before .before .before .before .before .args in
+    let d₁ = c .before .before .before .before in
+    let d₂ = d₁ .before .before .before .before in
+    let s = d₂ .before .before in
+    let args = s .args in
     let t = args .t .now in
     let i = args .i in
-    let ins = c .before .before .before .before .before .before .before .before .block-word .ensures in
-    let outs = c .before .before .before .before .before .before .before .block-word2 .ensures in
-    let uins = c .before .before .before .before .before .before .block-word3 .ensures in
-    let two = c .before .before .before .before .union .ensures ∙ ap₂ bitOr ins outs in
+    let ins = d₂ .block-word .ensures in
+    let outs = d₁ .before .before .before .block-word2 .ensures in
+    let uins = d₁ .before .before .block-word3 .ensures in
+    let two = d₁ .union .ensures ∙ ap₂ bitOr ins outs in
     let three = c .before .before .union2 .ensures ∙ ap₂ bitOr two uins in
     let uouts = c .before .block-word4 .ensures in
-    sym (shares-none (blockWord t i 2) (blockWord t i 3) (ap₂ bitAnd ins outs) (c .before .before .before .before .before .if1 .left)
+    sym (shares-none (blockWord t i 2) (blockWord t i 3) (ap₂ bitAnd ins outs) (d₁ .before .if1 .left)
     ∙ shares-none ((blockWord t i 2) ∪ (blockWord t i 3)) (blockWord t i 4) (ap₂ bitAnd two uins) (c .before .before .before .if2 .left)
     ∙ shares-some ((blockWord t i 2) ∪ (blockWord t i 3) ∪ (blockWord t i 4)) (blockWord t i 5) _ (ap₂ bitAnd three uouts) (c .if3 .taken))
 

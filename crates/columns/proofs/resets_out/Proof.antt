@@ -1,6 +1,5 @@
 -- `columns::resets_out` meets its contract.
 use mathlib.Core.Path.{_∙_}
-use native.Mathlib.Omega.{arith}
 use denote.Ref.{now}
 use Rattle.columns.proofs.OutLaws.{out-dash, out-other, out-past}
 use borrow.Author.Needs.{needs}

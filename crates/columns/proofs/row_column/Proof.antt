@@ -84,8 +84,7 @@ add-resets-out c =
       g .ensures,
       wide-most (a .args .row .guard),
       c .width2 .ensures,
-      width-most
-          (a .args .row .action),
+      width-most (a .args .row .action),
       a .pre,
       a .good,
     )

@@ -12,7 +12,10 @@ box-kind-requires : tie.Need-box-kind-requires
 box-kind-requires c κs = search needs
 
 returns : tie.Need-returns
-returns c = let p = c .before .before .before in let a = p .before .args in c .box-kind .ensures _ ∙ box-kind-is (a .i) (a .of) _ (a .signal) (p .place-of .ensures) (c .before .if1 .taken)
+returns c =
+    let p = c .before .before .before in
+    let a = p .before .args in
+    c .box-kind .ensures _ ∙ box-kind-is (a .i) (a .of) _ (a .signal) (p .place-of .ensures) (c .before .if1 .taken)
 
 returns-2 : tie.Need-returns-2
 returns-2 c = let p = c .before .before in let a = p .before .args in box-kind-none (a .i) (a .of) _ (a .signal) (p .place-of .ensures) (c .if1 .left)

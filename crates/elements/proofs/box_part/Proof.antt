@@ -15,10 +15,16 @@ nowhere-requires : tie.Need-nowhere-requires
 nowhere-requires c κs = search needs
 
 returns : tie.Need-returns
-returns c = let p = c .before .before .before in let a = p .before .args in c .box-move .ensures ∙ box-move-is (a .i) (a .of) _ (a .signal) (p .place-of .ensures) (a .s) (c .before .if1 .taken)
+returns c =
+    let p = c .before .before .before in
+    let a = p .before .args in
+    c .box-move .ensures ∙ box-move-is (a .i) (a .of) _ (a .signal) (p .place-of .ensures) (a .s) (c .before .if1 .taken)
 
 returns-2 : tie.Need-returns-2
-returns-2 c = let p = c .before .before .before in let a = p .before .args in c .nowhere .ensures ∙ box-move-none (a .i) (a .of) _ (a .signal) (p .place-of .ensures) (a .s) (c .before .if1 .left)
+returns-2 c =
+    let p = c .before .before .before in
+    let a = p .before .args in
+    c .nowhere .ensures ∙ box-move-none (a .i) (a .of) _ (a .signal) (p .place-of .ensures) (a .s) (c .before .if1 .left)
 
 pub box-part-spec : {M : Type 1} → statement M
 box-part-spec =

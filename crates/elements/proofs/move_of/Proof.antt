@@ -2,10 +2,10 @@
 use mathlib.Core.Path.{sym, _∙_, ap}
 use Prim.Native.Nat.{_/_, _%_}
 use Rattle.laws.specs.Search.{mapSome}
-use Rattle.trees.specs.Modules.{plainMove, beKind, gateKind, gateRole, pandRole, countMove, pandMove, bound}
+use Rattle.trees.specs.Modules.{plainMove, gateRole, pandRole, countMove, pandMove, bound}
 use Rattle.treecheck.specs.Numbers.{insIn}
 use Rattle.treelines.specs.Elements.{sortIs}
-use Rattle.elements.specs.Parts.{meaningAt, elementOf, beMoveBy, beKindBy, boxMoveBy, boxKindBy, moveFor, kindFor}
+use Rattle.elements.specs.Parts.{meaningAt, elementOf, beMoveBy, boxMoveBy, moveFor}
 use Rattle.elements.proofs.PartLaws.{meant, gate-is, pand-is, and-two, or-two, pand-two}
 use borrow.Author.Needs.{needs}
 use Rattle.elements.proofs.move_of.Statement.{statement}
@@ -51,19 +51,59 @@ box-part-requires : tie.Need-box-part-requires
 box-part-requires c κs = search needs
 
 returns : tie.Need-returns
-returns c = let k = c .before .before .before in let s = k .before .before in let a = s .before .before .args in let e = a .e in let w = meant (a .w) (s .signal-of .result) (s .signal-of .ensures) in c .be-part .ensures ∙ ap (beMoveBy (e .number) (a .k) (a .s)) w ∙ ap (λ z. moveFor (sortIs z) (elementOf e) (a .k) (a .s) (meaningAt (a .w))) (sym (c .before .enum-told .given .1))
+returns c =
+    let k = c .before .before .before in
+    let s = k .before .before in
+    let a = s .before .before .args in
+    let e = a .e in
+    let w = meant (a .w) (s .signal-of .result) (s .signal-of .ensures) in
+    c .be-part .ensures ∙ ap (beMoveBy (e .number) (a .k) (a .s)) w ∙ ap (λ z. moveFor (sortIs z) (elementOf e) (a .k) (a .s) (meaningAt (a .w)))
+    (sym (c .before .enum-told .given .1))
 
 returns-2 : tie.Need-returns-2
-returns-2 c = let k = c .before .before .before in let s = k .before .before in let a = s .before .before .args in let e = a .e in let w = meant (a .w) (s .signal-of .result) (s .signal-of .ensures) in c .count-move .ensures ∙ ap (λ o. bound o (λ y. mapSome plainMove (countMove 2 (a .s / 6) (a .s / 3 % 2) (a .s % 3) y))) (k .before .gate-role .ensures ∙ gate-is e (and-two e (s .before .before .pre .0) (c .before .enum-told2 .given .1)) _ ∙ ap (gateRole (elementOf e)) w) ∙ ap (λ z. moveFor (sortIs z) (elementOf e) (a .k) (a .s) (meaningAt (a .w))) (sym (c .before .enum-told2 .given .1))
+returns-2 c =
+    let k = c .before .before .before in
+    let s = k .before .before in
+    let a = s .before .before .args in
+    let e = a .e in
+    let w = meant (a .w) (s .signal-of .result) (s .signal-of .ensures) in
+    c .count-move .ensures ∙ ap (λ o. bound o (λ y. mapSome plainMove (countMove 2 (a .s / 6) (a .s / 3 % 2) (a .s % 3) y)))
+    (k .before .gate-role .ensures ∙ gate-is e (and-two e (s .before .before .pre .0) (c .before .enum-told2 .given .1)) _
+    ∙ ap (gateRole (elementOf e)) w) ∙ ap (λ z. moveFor (sortIs z) (elementOf e) (a .k) (a .s) (meaningAt (a .w)))
+    (sym (c .before .enum-told2 .given .1))
 
 returns-3 : tie.Need-returns-3
-returns-3 c = let k = c .before .before .before in let s = k .before .before in let a = s .before .before .args in let e = a .e in let w = meant (a .w) (s .signal-of .result) (s .signal-of .ensures) in c .count-move2 .ensures ∙ ap (λ o. bound o (λ y. mapSome plainMove (countMove 1 (a .s / 6) (a .s / 3 % 2) (a .s % 3) y))) (k .before .gate-role .ensures ∙ gate-is e (or-two e (s .before .before .pre .0) (c .before .enum-told3 .given .1)) _ ∙ ap (gateRole (elementOf e)) w) ∙ ap (λ z. moveFor (sortIs z) (elementOf e) (a .k) (a .s) (meaningAt (a .w))) (sym (c .before .enum-told3 .given .1))
+returns-3 c =
+    let k = c .before .before .before in
+    let s = k .before .before in
+    let a = s .before .before .args in
+    let e = a .e in
+    let w = meant (a .w) (s .signal-of .result) (s .signal-of .ensures) in
+    c .count-move2 .ensures ∙ ap (λ o. bound o (λ y. mapSome plainMove (countMove 1 (a .s / 6) (a .s / 3 % 2) (a .s % 3) y)))
+    (k .before .gate-role .ensures ∙ gate-is e (or-two e (s .before .before .pre .0) (c .before .enum-told3 .given .1)) _
+    ∙ ap (gateRole (elementOf e)) w) ∙ ap (λ z. moveFor (sortIs z) (elementOf e) (a .k) (a .s) (meaningAt (a .w)))
+    (sym (c .before .enum-told3 .given .1))
 
 returns-4 : tie.Need-returns-4
-returns-4 c = let k = c .before .before .before in let s = k .before .before in let a = s .before .before .args in let e = a .e in let w = meant (a .w) (s .signal-of .result) (s .signal-of .ensures) in c .pand-move .ensures ∙ ap (λ o. bound o (λ y. mapSome plainMove (pandMove (a .s / 10) (a .s / 5 % 2) (a .s % 5) y))) (k .pand-role .ensures ∙ pand-is e (pand-two e (s .before .before .pre .0) (c .before .enum-told4 .given .1)) _ ∙ ap (pandRole (elementOf e)) w) ∙ ap (λ z. moveFor (sortIs z) (elementOf e) (a .k) (a .s) (meaningAt (a .w))) (sym (c .before .enum-told4 .given .1))
+returns-4 c =
+    let k = c .before .before .before in
+    let s = k .before .before in
+    let a = s .before .before .args in
+    let e = a .e in
+    let w = meant (a .w) (s .signal-of .result) (s .signal-of .ensures) in
+    c .pand-move .ensures ∙ ap (λ o. bound o (λ y. mapSome plainMove (pandMove (a .s / 10) (a .s / 5 % 2) (a .s % 5) y)))
+    (k .pand-role .ensures ∙ pand-is e (pand-two e (s .before .before .pre .0) (c .before .enum-told4 .given .1)) _ ∙ ap (pandRole (elementOf e)) w)
+    ∙ ap (λ z. moveFor (sortIs z) (elementOf e) (a .k) (a .s) (meaningAt (a .w))) (sym (c .before .enum-told4 .given .1))
 
 returns-5 : tie.Need-returns-5
-returns-5 c = let k = c .before .before .before in let s = k .before .before in let a = s .before .before .args in let e = a .e in let w = meant (a .w) (s .signal-of .result) (s .signal-of .ensures) in c .box-part .ensures ∙ ap (boxMoveBy (insIn (e .inputs)) (a .s)) w ∙ ap (λ z. moveFor (sortIs z) (elementOf e) (a .k) (a .s) (meaningAt (a .w))) (sym (c .before .enum-told5 .given .1))
+returns-5 c =
+    let k = c .before .before .before in
+    let s = k .before .before in
+    let a = s .before .before .args in
+    let e = a .e in
+    let w = meant (a .w) (s .signal-of .result) (s .signal-of .ensures) in
+    c .box-part .ensures ∙ ap (boxMoveBy (insIn (e .inputs)) (a .s)) w ∙ ap (λ z. moveFor (sortIs z) (elementOf e) (a .k) (a .s) (meaningAt (a .w)))
+    (sym (c .before .enum-told5 .given .1))
 
 pub move-of-spec : {M : Type 1} → statement M
 move-of-spec =

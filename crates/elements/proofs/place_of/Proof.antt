@@ -18,7 +18,9 @@ input-at-requires : tie.Need-input-at-requires Inv-loop μ-loop
 input-at-requires c κs = search needs
 
 returns : tie.Need-returns Inv-loop μ-loop
-returns c = let l = c .before .before .before in looking-here _ _ _ (l .loop .inv) (c .before .before .loop-test .taken) _ (c .before .input-at .ensures) (c .if1 .taken)
+returns c =
+    let l = c .before .before .before in
+    looking-here _ _ _ (l .loop .inv) (c .before .before .loop-test .taken) _ (c .before .input-at .ensures) (c .if1 .taken)
 
 add-j : tie.Need-add-j Inv-loop μ-loop
 add-j c = search needs
@@ -27,7 +29,9 @@ loop-less : tie.Need-loop-less Inv-loop μ-loop
 loop-less c = search needs
 
 loop-again : tie.Need-loop-again Inv-loop μ-loop
-loop-again c = let l = c .before .before .before in looking-on _ _ _ (l .loop .inv) (c .before .before .loop-test .taken) _ (c .before .input-at .ensures) (c .if1 .left)
+loop-again c =
+    let l = c .before .before .before in
+    looking-on _ _ _ (l .loop .inv) (c .before .before .loop-test .taken) _ (c .before .input-at .ensures) (c .if1 .left)
 
 returns-2 : tie.Need-returns-2 Inv-loop μ-loop
 returns-2 c = looking-ends _ _ _ (c .before .loop .inv) (c .loop-test .left)

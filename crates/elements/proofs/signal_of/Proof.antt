@@ -14,10 +14,14 @@ returns-3 : tie.Need-returns-3
 returns-3 c = is-f (c .before .before .before .args .w % 8) (c .before .before .if1 .left) (c .before .if2 .left) (c .if3 .taken)
 
 returns-4 : tie.Need-returns-4
-returns-4 c = is-u (c .before .before .before .before .args .w % 8) (c .before .before .before .if1 .left) (c .before .before .if2 .left) (c .before .if3 .left) (c .if4 .taken)
+returns-4 c =
+    let s = c .before .before .before .before in
+    is-u (s .args .w % 8) (c .before .before .before .if1 .left) (c .before .before .if2 .left) (c .before .if3 .left) (c .if4 .taken)
 
 returns-5 : tie.Need-returns-5
-returns-5 c = is-r (c .before .before .before .before .args .w % 8) (c .before .before .before .if1 .left) (c .before .before .if2 .left) (c .before .if3 .left) (c .if4 .left)
+returns-5 c =
+    let s = c .before .before .before .before in
+    is-r (s .args .w % 8) (c .before .before .before .if1 .left) (c .before .before .if2 .left) (c .before .if3 .left) (c .if4 .left)
 
 pub signal-of-spec : {M : Type 1} → statement M
 signal-of-spec = tie.close (tie.spec returns returns-2 returns-3 returns-4 returns-5)

@@ -1,12 +1,11 @@
 -- `enabling::enabling_all` meets its contract: the clocks of the components passed, with those that are left, are all.
 use mathlib.Core.Path.{_≡_, refl, sym, ap, ap₂, _∙_}
-use Prim.Native.Nat.{ℕ, _+_, _-_, _≤_, _<_}
+use Prim.Native.Nat.{_+_, _-_, _≤_, _<_}
 use native.Mathlib.Omega.{arith}
 use borrow.Author.Needs.{needs}
 use denote.Ref.{now}
-use lib.ListN.{length, getD, drop}
+use lib.ListN.{getD, drop}
 use Rattle.laws.specs.Sets.{_∪_}
-use Rattle.answer.specs.Limits.{maxComponents}
 use Rattle.answer.specs.State.{partsOf}
 use Rattle.answer.proofs.StateLaws.{parts-at}
 use Rattle.model.specs.Model.{compAt}

@@ -1,7 +1,7 @@
 -- `failing::put_failure` meets its contract: the words and the number are put one after the other.
 use mathlib.Core.Path.{_≡_, refl, sym, ap, _∙_}
 use mathlib.Core.List.{List, _++_}
-use Prim.Native.Nat.{ℕ, _+_}
+use Prim.Native.Nat.{ℕ}
 use borrow.Author.Needs.{needs}
 use denote.Ref.{now}
 use mir.ValLaws.{toZ-ofZ}

@@ -1,5 +1,4 @@
 -- `fields::further` meets its contract.
-use native.Mathlib.Omega.{arith}
 use Rattle.fields.proofs.FieldLaws.{further-on, not-further-on}
 use Rattle.fields.proofs.further.Statement.{statement}
 use Rattle.fields.proofs.further.Tie as tie

@@ -36,19 +36,21 @@ enum-known-e c = search needs
 
 returns-2 : tie.Need-returns-2
 returns-2 c =
-    let a = c .before .before .before .before .before .before .before .before .args in
+    let q = c .before .before .before .before in
+    let s = q .before .before .before .before in
+    let a = s .args in
     let t = now (a .text) in
     let n = sym (c .before .before .before .number .ensures) ∙ ap (gotNumber t) (c .before .end .given .1) in
-    let q = c .before .before .before .before in
     let e = guard-clock (drop (a .c .at) t) (sym (q .before .before .byte .ensures) ∙ ap (past t) (q .enum-told .given .1)) in
     sym (e ∙ then-is (λ x cs. got (some x) cs) n)
 
 returns-3 : tie.Need-returns-3
 returns-3 c =
-    let a = c .before .before .before .before .before .before .before .before .args in
+    let q = c .before .before .before .before in
+    let s = q .before .before .before .before in
+    let a = s .args in
     let t = now (a .text) in
     let n = sym (c .before .before .before .number .ensures) ∙ ap (gotNumber t) (c .before .e .given .1) in
-    let q = c .before .before .before .before in
     let e = guard-clock (drop (a .c .at) t) (sym (q .before .before .byte .ensures) ∙ ap (past t) (q .enum-told .given .1)) in
     sym (e ∙ then-stops (λ x cs. got (some x) cs) n)
 

@@ -20,7 +20,10 @@ abbrev μ-loop : tie.MeasureT-loop
 μ-loop text first most n₀ at₀ k₀ n at k = most - k
 
 abbrev read : tie.Else2 Inv-loop μ-loop → ℕ
-read c = getD (now (c .before .before .before .before .before .before .before .args .text)) (c .before .before .before .before .before .loop .at) 0
+read c =
+    let d = c .before .before .before .before .before in
+    let s = d .before .before in
+    getD (now (s .args .text)) (d .loop .at) 0
 
 is-one : (c : tie.Else2 Inv-loop μ-loop) → isDigit (read c) ≡ true
 is-one c = sym (c .before .is-digit .ensures) ∙ not-false _ (c .if2 .left)
@@ -45,8 +48,10 @@ is-digit-requires c κs = tt
 
 returns-2 : tie.Need-returns-2 Inv-loop μ-loop
 returns-2 c =
-    let a = c .before .before .before .before .before .before .before .args in
-    let l = c .before .before .before .before .before .loop in
+    let d = c .before .before .before .before .before in
+    let s = d .before .before in
+    let a = s .args in
+    let l = d .loop in
     let e = sym (c .before .is-digit .ensures) ∙ not-true _ (c .if2 .taken) in
     ap is (sym (digits-stop (now (a .text)) (a .most - l .k) (l .n) (l .at) (omega arith) e) ∙ l .inv .3)
 
@@ -73,8 +78,10 @@ loop-less c = omega arith
 
 loop-again : tie.Need-loop-again Inv-loop μ-loop
 loop-again c =
-    let a = c .before .before .before .before .before .before .before .args in
-    let l = c .before .before .before .before .before .loop in
+    let f = c .before .before .before .before .before in
+    let s = f .before .before in
+    let a = s .args in
+    let l = f .loop in
     let b = getD (now (a .text)) (l .at) 0 in
     let d = digit c in
     let e = digits-on (now (a .text)) (a .most - l .k) (l .n) (l .at) (a .most - (l .k + 1)) (omega arith) (is-one c) (omega arith) in

@@ -22,7 +22,8 @@ shared-slice-read-if1 : tie.Need-shared-slice-read-if1 Inv-loop μ-loop
 shared-slice-read-if1 c = omega arith
 
 returns : tie.Need-returns Inv-loop μ-loop
-returns c = gathered-other with withAll nothing-more one-more _ _ _ _ _ (c .before .before .before .loop .inv) (c .before .before .loop-test .taken) (c .if1 .taken)
+returns c =
+    gathered-other with withAll nothing-more one-more _ _ _ _ _ (c .before .before .before .loop .inv) (c .before .before .loop-test .taken) (c .if1 .taken)
 
 add-t10 : tie.Need-add-t10 Inv-loop μ-loop
 add-t10 c = omega arith

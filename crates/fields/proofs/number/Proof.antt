@@ -40,9 +40,11 @@ add-t10 c = search needs
 
 returns-4 : tie.Need-returns-4
 returns-4 c =
-    let a = c .before .before .before .before .before .before .before .args in
+    let e = c .before .before .before .before .before in
+    let s = e .before .before in
+    let a = s .args in
     let d = c .before in
-    c .more-digits .ensures ∙ sym (number-on (now (a .text)) (a .c .at) (c .before .before .before .before .before .if1 .left) (is-one (d .before)) (d .if3 .left))
+    c .more-digits .ensures ∙ sym (number-on (now (a .text)) (a .c .at) (e .if1 .left) (is-one (d .before)) (d .if3 .left))
 
 returns-3 : tie.Need-returns-3
 returns-3 c =

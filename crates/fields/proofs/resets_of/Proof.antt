@@ -20,10 +20,12 @@ enum-known-d c = search needs
 
 returns : tie.Need-returns
 returns c =
-    let a = c .before .before .before .before .before .args in
+    let s = c .before .before .before .before .before in
+    let a = s .args in
     let t = now (a .text) in
     let bs = drop (a .c .at) t in
-    sym (no-resets (numbersOrDash bs) (drop (c .before .d .given .0 .0 .at) t) (resets-dash bs (sym (c .before .before .before .byte .ensures) ∙ ap (past t) (c .before .d .given .1))))
+    sym (no-resets (numbersOrDash bs) (drop (c .before .d .given .0 .0 .at) t)
+    (resets-dash bs (sym (c .before .before .before .byte .ensures) ∙ ap (past t) (c .before .d .given .1))))
 
 enum-told : tie.Need-enum-told
 enum-told c = search needs
@@ -42,13 +44,15 @@ more-resets-requires c κs = search needs
 
 returns-2 : tie.Need-returns-2
 returns-2 c =
-    let a = c .before .before .before .before .before .before .before .before .before .before .args in
+    let e = c .before .before .before .before .before in
+    let start = e .before .before .before .before .before in
+    let a = start .args in
     let t = now (a .text) in
     let bs = drop (a .c .at) t in
     let v = c .before .before .before .end .given .0 in
     let cs = drop (v .0 .at) t in
-    let d = resets-numbers bs (sym (c .before .before .before .before .before .before .before .before .byte .ensures) ∙ ap (past t) (c .before .before .before .before .before .before .enum-told .given .1)) in
-    let n = first-number bs cs (v .1 .0) (sym (c .before .before .before .before .before .number .ensures) ∙ ap (gotNumber t) (c .before .before .before .end .given .1)) in
+    let d = resets-numbers bs (sym (e .before .before .before .byte .ensures) ∙ ap (past t) (e .before .enum-told .given .1)) in
+    let n = first-number bs cs (v .1 .0) (sym (e .number .ensures) ∙ ap (gotNumber t) (c .before .before .before .end .given .1)) in
     c .more-resets .ensures ∙ ap (λ s. valued (withAll s) (moreNumbers (length cs) cs)) (c .before .first-reset .ensures) ∙ sym (ap (valued summary) d ∙ n)
 
 enum-known-e : tie.Need-enum-known-e
@@ -56,10 +60,11 @@ enum-known-e c = search needs
 
 returns-3 : tie.Need-returns-3
 returns-3 c =
-    let a = c .before .before .before .before .before .before .before .before .args in
+    let q = c .before .before .before .before in
+    let s = q .before .before .before .before in
+    let a = s .args in
     let t = now (a .text) in
     let bs = drop (a .c .at) t in
-    let q = c .before .before .before .before in
     let d = resets-numbers bs (sym (q .before .before .byte .ensures) ∙ ap (past t) (q .enum-told .given .1)) in
     sym (ap (valued summary) (d ∙ no-number bs _ (sym (c .before .before .before .number .ensures) ∙ ap (gotNumber t) (c .before .e .given .1))))
 

@@ -1,7 +1,7 @@
 -- `fields::with_reset` meets its contract.
-use mathlib.Core.Path.{_≡_, sym, _∙_, ap}
+use mathlib.Core.Path.{_≡_, _∙_}
 use mathlib.Core.Logic.{⊎-elim}
-use mathlib.Core.Bool.{Bool, true, false, _&&_}
+use mathlib.Core.Bool.{_&&_}
 use lib.Dec.{ltb}
 use borrow.Author.Tests.{lt-ltb, le-ltb}
 use Rattle.answer.specs.Limits.{maxClocks}
@@ -19,7 +19,9 @@ union-requires : tie.Need-union-requires
 union-requires c κs = search needs
 
 returns : tie.Need-returns
-returns c = rw (ascends (c .before .before .before), lt-ltb (c .before .before .before .before .args .n) maxClocks (c .before .before .if2 .taken), c .union .ensures, c .before .single .ensures)
+returns c =
+    let s = c .before .before .before .before in
+    rw (ascends (c .before .before .before), lt-ltb (s .args .n) maxClocks (c .before .before .if2 .taken), c .union .ensures, c .before .single .ensures)
 
 returns-2 : tie.Need-returns-2
 returns-2 c = rw (ascends (c .before), le-ltb (c .before .before .args .n) maxClocks (c .if2 .left))

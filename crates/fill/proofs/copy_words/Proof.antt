@@ -1,18 +1,18 @@
 -- `fill::copy_words`: what is written and what is left make the whole.
-use Prim.Native.Nat.{ℕ, _+_, _-_, _≤_, _<_}
-use mathlib.Core.Path.{_≡_, refl, sym, _∙_, ap}
+use Prim.Native.Nat.{_+_, _-_}
+use mathlib.Core.Path.{_≡_, refl}
 use native.Mathlib.Omega.{arith}
 use lib.ListN.{length, getD, length-set}
 use lib.Seq.{sets}
 use Rattle.laws.specs.Fold.{tab}
 use Rattle.fill.specs.Words.{wordsFrom}
 use Rattle.fill.proofs.FillLaws.{fill-start, fill-on, fill-end}
-use borrow.Author.Needs.{needs}
 use Rattle.fill.proofs.copy_words.Statement.{statement}
 use Rattle.fill.proofs.copy_words.Tie as tie
 
 abbrev Inv-loop : tie.InvT-loop
-Inv-loop t from into₀ at n k₀ into k = (length into ≡ length into₀) × (sets into (at + k) (tab (λ j. getD t (from + j) 0) k (n - k)) ≡ sets into₀ at (wordsFrom t from n))
+Inv-loop t from into₀ at n k₀ into k =
+    (length into ≡ length into₀) × (sets into (at + k) (tab (λ j. getD t (from + j) 0) k (n - k)) ≡ sets into₀ at (wordsFrom t from n))
 
 abbrev μ-loop : tie.MeasureT-loop
 μ-loop t from into₀ at n k₀ into k = n - k
@@ -48,14 +48,20 @@ loop-less c = omega arith
 loop-again : tie.Need-loop-again Inv-loop μ-loop
 loop-again c =
     let s = c .before .before .before in
-    let l = c .before .before .loop in
-    (simp length-set (l .inv .0), fill-on (λ j. getD (s .args .t .now) (s .args .from + j) 0) (s .args .at) (s .args .n) (l .k) (l .into) _ _ (c .before .loop-test .taken) (l .inv .1) refl)
+    let l = c .before .before .loop in (
+      simp length-set (l .inv .0),
+      fill-on (λ j. getD (s .args .t .now) (s .args .from + j) 0) (s .args .at) (s .args .n) (l .k) (l .into) _ _ (c .before .loop-test .taken)
+          (l .inv .1) refl,
+    )
 
 same-length : tie.Need-same-length Inv-loop μ-loop
 same-length c = c .before .loop .inv .0
 
 returns : tie.Need-returns Inv-loop μ-loop
-returns c = let s = c .before .before in let l = c .before .loop in fill-end (λ j. getD (s .args .t .now) (s .args .from + j) 0) (s .args .at) (s .args .n) (l .k) (l .into) _ (c .loop-test .left) (l .inv .1)
+returns c =
+    let s = c .before .before in
+    let l = c .before .loop in
+    fill-end (λ j. getD (s .args .t .now) (s .args .from + j) 0) (s .args .at) (s .args .n) (l .k) (l .into) _ (c .loop-test .left) (l .inv .1)
 
 pub copy-words-spec : {M : Type 1} → statement M
 copy-words-spec =

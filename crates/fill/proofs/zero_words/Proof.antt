@@ -1,13 +1,12 @@
 -- `fill::zero_words`: what is written and what is left make the whole.
-use Prim.Native.Nat.{ℕ, _+_, _-_, _≤_, _<_}
-use mathlib.Core.Path.{_≡_, refl, sym, _∙_, ap}
+use Prim.Native.Nat.{_+_, _-_}
+use mathlib.Core.Path.{_≡_, refl}
 use native.Mathlib.Omega.{arith}
 use lib.ListN.{length, length-set}
 use lib.Seq.{sets}
 use Rattle.laws.specs.Fold.{tab}
 use Rattle.fill.specs.Words.{zerosOf}
 use Rattle.fill.proofs.FillLaws.{fill-start, fill-on, fill-end}
-use borrow.Author.Needs.{needs}
 use Rattle.fill.proofs.zero_words.Statement.{statement}
 use Rattle.fill.proofs.zero_words.Tie as tie
 
@@ -46,7 +45,10 @@ same-length : tie.Need-same-length Inv-loop μ-loop
 same-length c = c .before .loop .inv .0
 
 returns : tie.Need-returns Inv-loop μ-loop
-returns c = let s = c .before .before in let l = c .before .loop in fill-end (λ j. 0) (s .args .at) (s .args .n) (l .k) (l .into) _ (c .loop-test .left) (l .inv .1)
+returns c =
+    let s = c .before .before in
+    let l = c .before .loop in
+    fill-end (λ j. 0) (s .args .at) (s .args .n) (l .k) (l .into) _ (c .loop-test .left) (l .inv .1)
 
 pub zero-words-spec : {M : Type 1} → statement M
 zero-words-spec =

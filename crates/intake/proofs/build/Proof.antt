@@ -27,8 +27,10 @@ at-start-requires c κs = search needs
 
 loop-holds : tie.Need-loop-holds Inv-loop μ-loop
 loop-holds c =
-    let a = c .before .before .before .before .before .before .before .args in
-    building-first (now (a .text)) (now (a .table)) _ _ (c .before .before .before .before .before .before .before .pre .0) (c .before .before .before .fill-words .ensures) (c .at-start .ensures)
+    let m = c .before .before .before .before .before .before in
+    let s = m .before in
+    let a = s .args in
+    building-first (now (a .text)) (now (a .table)) _ _ (s .pre .0) (c .before .before .before .fill-words .ensures) (c .at-start .ensures)
 
 line-at-requires : tie.Need-line-at-requires Inv-loop μ-loop
 line-at-requires c κs = search needs
@@ -40,16 +42,22 @@ enum-told : tie.Need-enum-told Inv-loop μ-loop
 enum-told c = search needs
 
 same-length : tie.Need-same-length Inv-loop μ-loop
-same-length c = c .before .before .before .before .loop .inv .long ∙ c .before .before .before .before .before .before .before .before .fill-words .ensures .long
+same-length c =
+    let d₁ = c .before .before .before .before in
+    let d₂ = d₁ .before .before .before .before in
+    d₁ .loop .inv .long ∙ d₂ .fill-words .ensures .long
 
 returns : tie.Need-returns Inv-loop μ-loop
 returns c =
-    let a = c .before .before .before .before .before .before .before .before .before .before .before .before .args in
-    let l = c .before .before .before .before .loop in
+    let d = c .before .before .before .before in
+    let m = d .before .before .before .before .before .before in
+    let s = m .before .before in
+    let a = s .args in
+    let l = d .loop in
     let e = valued-stops lineOf (entry (drop (l .at) (now (a .text)))) (sym (c .before .before .line-at .ensures) ∙ ap (gotLine (now (a .text)))
     (c .enum-told .given .1)) in
-    absurd (has-line (l .inv) (c .before .before .before .before .before .before .before .before .before .before .before .before .pre .1 .0)
-    (c .before .before .before .before .before .before .before .before .before .before .before .before .pre .1 .1) _
+    absurd (has-line (l .inv) (s .pre .1 .0)
+    (s .pre .1 .1) _
     (c .before .before .before .loop-test .taken) e)
 
 step-requires : tie.Need-step-requires Inv-loop μ-loop
@@ -62,48 +70,77 @@ enum-told-2 : tie.Need-enum-told-2 Inv-loop μ-loop
 enum-told-2 c = search needs
 
 same-length-2 : tie.Need-same-length-2 Inv-loop μ-loop
-same-length-2 c = c .before .before .before .before .before .before .before .before .loop .inv .long ∙ c .before .before .before .before .before .before .before .before .before .before .before .before .fill-words .ensures .long
+same-length-2 c =
+    let m = c .before .before .before .before .before .before in
+    let d₁ = m .before .before in
+    let d₂ = d₁ .before .before .before .before in
+    d₁ .loop .inv .long ∙ d₂ .fill-words .ensures .long
 
 returns-2 : tie.Need-returns-2 Inv-loop μ-loop
 returns-2 c =
-    let a = c .before .before .before .before .before .before .before .before .before .before .before .before .before .before .before .before .args in
-    let l = c .before .before .before .before .before .before .before .before .loop in
-    let v = c .before .before .before .before .next .given .0 in
-    let r = read-line (now (a .text)) (l .at) (v .1 .0) (v .0 .at) (sym (c .before .before .before .before .before .before .line-at .ensures) ∙ ap (gotLine (now (a .text))) (c .before .before .before .before .next .given .1)) in
-    absurd (no-fault (l .inv) (c .before .before .before .before .before .before .before .before .before .before .before .before .before .before .before .before .pre .1 .0) (c .before .before .before .before .before .before .before .before .before .before .before .before .before .before .before .before .pre .1 .1) (v .1 .0) (v .0 .at) r (c .enum-told2 .given .0 .0) (sym (c .before .before .step .ensures) ∙ c .enum-told2 .given .1))
+    let d₁ = c .before .before .before .before in
+    let d₂ = d₁ .before .before .before .before in
+    let m = d₂ .before .before .before .before .before .before in
+    let s = m .before .before in
+    let a = s .args in
+    let l = d₂ .loop in
+    let v = d₁ .next .given .0 in
+    let r = read-line (now (a .text)) (l .at) (v .1 .0) (v .0 .at) (sym (d₁ .before .before .line-at .ensures) ∙ ap (gotLine (now (a .text)))
+    (d₁ .next .given .1)) in
+    absurd (no-fault (l .inv) (s .pre .1 .0) (s .pre .1 .1) (v .1 .0) (v .0 .at) r (c .enum-told2 .given .0 .0)
+    (sym (c .before .before .step .ensures) ∙ c .enum-told2 .given .1))
 
 take-in-requires : tie.Need-take-in-requires Inv-loop μ-loop
 take-in-requires c κs =
-    let a = c .before .before .before .before .before .before .before .before .before .before .before .before .before .before .before .before .before .before .args in
-    let l = c .before .before .before .before .before .before .before .before .before .before .loop in
-    let v = c .before .before .before .before .before .before .next .given .0 in
-    let r = read-line (now (a .text)) (l .at) (v .1 .0) (v .0 .at) (sym (c .before .before .before .before .before .before .before .before .line-at .ensures) ∙ ap (gotLine (now (a .text))) (c .before .before .before .before .before .before .next .given .1)) in
-    turn-fits (l .inv) (v .1 .0) (v .0 .at) r (c .before .before .q .given .0 .0) (sym (c .before .before .before .before .step .ensures) ∙ c .before .before .q .given .1)
+    let d₁ = c .before .before .before .before in
+    let d₂ = d₁ .before .before .before .before in
+    let m = d₂ .before .before .before .before .before .before in
+    let s = m .before .before .before .before in
+    let a = s .args in
+    let l = d₂ .before .before .loop in
+    let v = d₁ .before .before .next .given .0 in
+    let r = read-line (now (a .text)) (l .at) (v .1 .0) (v .0 .at) (sym (d₂ .line-at .ensures) ∙ ap (gotLine (now (a .text)))
+    (d₁ .before .before .next .given .1)) in
+    turn-fits (l .inv) (v .1 .0) (v .0 .at) r (c .before .before .q .given .0 .0) (sym (d₁ .step .ensures) ∙ c .before .before .q .given .1)
 
 loop-less : tie.Need-loop-less Inv-loop μ-loop
 loop-less c =
-    let a = c .before .before .before .before .before .before .before .before .before .before .before .before .before .before .before .before .before .before .before .before .before .args in
-    let l = c .before .before .before .before .before .before .before .before .before .before .before .before .before .loop in
-    let v = c .before .before .before .before .before .before .before .before .before .next .given .0 in
-    let r = read-line (now (a .text)) (l .at) (v .1 .0) (v .0 .at) (sym (c .before .before .before .before .before .before .before .before .before .before .before .line-at .ensures) ∙ ap (gotLine (now (a .text))) (c .before .before .before .before .before .before .before .before .before .next .given .1)) in
+    let m = c .before .before .before .before .before .before in
+    let d₁ = m .before .before .before in
+    let d₂ = d₁ .before .before .before .before in
+    let n = d₂ .before .before .before .before .before .before in
+    let s = n .before .before in
+    let a = s .args in
+    let l = d₂ .loop in
+    let v = d₁ .next .given .0 in
+    let r = read-line (now (a .text)) (l .at) (v .1 .0) (v .0 .at) (sym (d₁ .before .before .line-at .ensures) ∙ ap (gotLine (now (a .text)))
+    (d₁ .next .given .1)) in
     read-on r
 
 loop-again : tie.Need-loop-again Inv-loop μ-loop
 loop-again c =
-    let a = c .before .before .before .before .before .before .before .before .before .before .before .before .before .before .before .before .before .before .before .before .before .args in
-    let l = c .before .before .before .before .before .before .before .before .before .before .before .before .before .loop in
-    let v = c .before .before .before .before .before .before .before .before .before .next .given .0 in
-    let r = read-line (now (a .text)) (l .at) (v .1 .0) (v .0 .at) (sym (c .before .before .before .before .before .before .before .before .before .before .before .line-at .ensures) ∙ ap (gotLine (now (a .text))) (c .before .before .before .before .before .before .before .before .before .next .given .1)) in
-    turn-taken (l .inv) (v .1 .0) (v .0 .at) r (c .before .before .before .before .before .q .given .0 .0) (sym (c .before .before .before .before .before .before .before .step .ensures) ∙ c .before .before .before .before .before .q .given .1) (c .before .before .take-in .last .0) (c .before .before .take-in .ensures)
+    let d₁ = c .before .before .before .before .before in
+    let d₂ = d₁ .before .before .before .before in
+    let d₃ = d₂ .before .before .before .before in
+    let m = d₃ .before .before .before .before .before .before in
+    let s = m .before .before in
+    let a = s .args in
+    let l = d₃ .loop in
+    let v = d₂ .next .given .0 in
+    let r = read-line (now (a .text)) (l .at) (v .1 .0) (v .0 .at) (sym (d₂ .before .before .line-at .ensures) ∙ ap (gotLine (now (a .text)))
+    (d₂ .next .given .1)) in
+    turn-taken (l .inv) (v .1 .0) (v .0 .at) r (d₁ .q .given .0 .0) (sym (d₁ .before .before .step .ensures) ∙ d₁ .q .given .1)
+    (c .before .before .take-in .last .0) (c .before .before .take-in .ensures)
 
 same-length-3 : tie.Need-same-length-3 Inv-loop μ-loop
 same-length-3 c = c .before .loop .inv .long ∙ c .before .before .before .before .before .fill-words .ensures .long
 
 returns-3 : tie.Need-returns-3 Inv-loop μ-loop
 returns-3 c =
-    let s = c .before .before .before .before .before .before .before .before .before in
+    let d = c .before .before .before .before .before in
+    let s = d .before .before .before .before in
     let l = c .before .loop in
-    let e = filled-rest (now (s .args .table)) _ (c .before .before .before .before .before .fill-words .ensures) in
+    let e = filled-rest (now (s .args .table)) _ (d .fill-words .ensures) in
     (s .pre .1 .0, s .pre .1 .1, built (l .inv) (s .pre .1 .0) (s .pre .1 .1) (c .loop-test .left) ∙ ap (λ v. imageOf (s .pre .1 .0) ++ v) e)
 
 pub build-spec : {M : Type 1} → statement M

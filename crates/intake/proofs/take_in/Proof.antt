@@ -47,15 +47,17 @@ set-word-requires c κs = search needs
 
 add-add-member : tie.Need-add-add-member
 add-add-member c =
-    let s = c .before .before .before .before .before .before .before in
-    let f = subst (Fits (now (s .args .table)) (s .args .p)) (c .before .before .before .before .l2 .given .1) (s .pre) in
-    omega (arith, f .1, c .set-word .ensures, set-word-most (c .before .before .before .before .l2 .given .0 .1 .0))
+    let d = c .before .before .before .before in
+    let s = d .before .before .before in
+    let f = subst (Fits (now (s .args .table)) (s .args .p)) (d .l2 .given .1) (s .pre) in
+    omega (arith, f .1, c .set-word .ensures, set-word-most (d .l2 .given .0 .1 .0))
 
 add-member-requires : tie.Need-add-member-requires
 add-member-requires c κs =
-    let s = c .before .before .before .before .before .before .before in
-    let f = subst (Fits (now (s .args .table)) (s .args .p)) (c .before .before .before .before .l2 .given .1) (s .pre) in
-    (omega (arith, f .0, f .1, c .set-word .ensures, set-word-most (c .before .before .before .before .l2 .given .0 .1 .0)), f .2)
+    let d = c .before .before .before .before in
+    let s = d .before .before .before in
+    let f = subst (Fits (now (s .args .table)) (s .args .p)) (d .l2 .given .1) (s .pre) in
+    (omega (arith, f .0, f .1, c .set-word .ensures, set-word-most (d .l2 .given .0 .1 .0)), f .2)
 
 enum-known-l-3 : tie.Need-enum-known-l-3
 enum-known-l-3 c = search needs
@@ -92,15 +94,19 @@ add-member-requires-2 c κs =
 
 add-add-member-3 : tie.Need-add-add-member-3
 add-add-member-3 c =
-    let s = c .before .before .before .before .before .before .before .before .before .before .before in
-    let f = subst (Fits (now (s .args .table)) (s .args .p)) (c .before .before .before .before .before .before .before .before .l3 .given .1) (s .pre) in
+    let m = c .before .before .before .before .before .before in
+    let d = m .before .before in
+    let s = d .before .before .before in
+    let f = subst (Fits (now (s .args .table)) (s .args .p)) (d .l3 .given .1) (s .pre) in
     omega (arith, f .1)
 
 add-member-requires-3 : tie.Need-add-member-requires-3
 add-member-requires-3 c κs =
-    let s = c .before .before .before .before .before .before .before .before .before .before .before in
-    let f = subst (Fits (now (s .args .table)) (s .args .p)) (c .before .before .before .before .before .before .before .before .l3 .given .1) (s .pre) in
-    (omega (arith, f .0, f .1, joined-kept {n = imageWords} (c .before .before .before .before .add-member2 .ensures) (omega (arith, f .1)) .long), f .2)
+    let d₁ = c .before .before .before .before in
+    let d₂ = d₁ .before .before .before .before in
+    let s = d₂ .before .before .before in
+    let f = subst (Fits (now (s .args .table)) (s .args .p)) (d₂ .l3 .given .1) (s .pre) in
+    (omega (arith, f .0, f .1, joined-kept {n = imageWords} (d₁ .add-member2 .ensures) (omega (arith, f .1)) .long), f .2)
 
 enum-known-l-4 : tie.Need-enum-known-l-4
 enum-known-l-4 c = search needs
@@ -110,23 +116,28 @@ guard-number-requires c κs = search needs
 
 sub-put-row : tie.Need-sub-put-row
 sub-put-row c =
-    let s = c .before .before .before .before .before .before .before in
-    let f = subst (Fits (now (s .args .table)) (s .args .p)) (c .before .before .before .before .l4 .given .1) (s .pre) in
+    let d = c .before .before .before .before in
+    let s = d .before .before .before in
+    let f = subst (Fits (now (s .args .table)) (s .args .p)) (d .l4 .given .1) (s .pre) in
     omega (arith, f .1)
 
 returns-5 : tie.Need-returns-5
 returns-5 c =
-    let a = c .before .before .before .before .before .before .before .before .before .before .args in
-    let v = c .before .before .before .before .before .before .before .l4 .given in
+    let d = c .before .before .before .before .before in
+    let s = d .before .before .before .before .before in
+    let a = s .args in
+    let v = d .before .before .l4 .given in
     let t′ = c .before .before .put-row .last .0 in
     let r = v .0 .1 .1 .1 .0 in
-    let put : ℕ → Type 0 = λ g. RowPut (now (a .table)) (a .p .components - 1) (a .p .states) (a .p .rows) (v .0 .0) (v .0 .1 .1 .0 ∷ g ∷ r .set ∷ v .0 .1 .1 .1 .1 .0 ∷ []) t′ in
-    subst (λ x. Change (now (a .table)) (a .p) x t′) (sym (v .1)) (subst put (c .before .before .before .before .before .guard-number .ensures) (c .before .before .put-row .ensures))
+    let put : ℕ → Type 0 = λ g. RowPut (now (a .table)) (a .p .components - 1) (a .p .states) (a .p .rows) (v .0 .0)
+    (v .0 .1 .1 .0 ∷ g ∷ r .set ∷ v .0 .1 .1 .1 .1 .0 ∷ []) t′ in
+    subst (λ x. Change (now (a .table)) (a .p) x t′) (sym (v .1)) (subst put (d .guard-number .ensures) (c .before .before .put-row .ensures))
 
 put-row-requires : tie.Need-put-row-requires
 put-row-requires c κs =
-    let s = c .before .before .before .before .before .before .before in
-    let f = subst (Fits (now (s .args .table)) (s .args .p)) (c .before .before .before .before .l4 .given .1) (s .pre) in
+    let d = c .before .before .before .before in
+    let s = d .before .before .before in
+    let f = subst (Fits (now (s .args .table)) (s .args .p)) (d .l4 .given .1) (s .pre) in
     (f .0, omega (arith, f .1), f .2, f .3, f .4, f .5)
 
 same-length : tie.Need-same-length
@@ -134,18 +145,24 @@ same-length c = search needs
 
 returns : tie.Need-returns
 returns c =
-    let a = c .before .before .before .before .before .before .before .before .args in
-    subst (λ x. Change (now (a .table)) (a .p) x (c .before .before .put-comp .last .0)) (sym (c .before .before .before .before .before .l .given .1)) (c .before .before .put-comp .ensures)
+    let d = c .before .before .before .before .before in
+    let s = d .before .before .before in
+    let a = s .args in
+    subst (λ x. Change (now (a .table)) (a .p) x (c .before .before .put-comp .last .0)) (sym (d .l .given .1)) (c .before .before .put-comp .ensures)
 
 same-length-2 : tie.Need-same-length-2
 same-length-2 c = search needs
 
 returns-2 : tie.Need-returns-2
 returns-2 c =
-    let a = c .before .before .before .before .before .before .before .before .before .before .args in
-    let v = c .before .before .before .before .before .before .before .l2 .given in
+    let m = c .before .before .before .before .before .before in
+    let d = m .before in
+    let s = d .before .before .before in
+    let a = s .args in
+    let v = d .l2 .given in
     let t′ = c .before .before .add-member .last .0 in
-    let j = subst (λ w. Joined (now (a .table)) (blockAt (a .p .components - 1) w) (v .0 .0) t′) (c .before .before .before .set-word .ensures) (c .before .before .add-member .ensures) in
+    let j = subst (λ w. Joined (now (a .table)) (blockAt (a .p .components - 1) w) (v .0 .0) t′) (c .before .before .before .set-word .ensures)
+    (c .before .before .add-member .ensures) in
     subst (λ x. Change (now (a .table)) (a .p) x t′) (sym (v .1)) j
 
 same-length-3 : tie.Need-same-length-3
@@ -153,23 +170,33 @@ same-length-3 c = search needs
 
 returns-3 : tie.Need-returns-3
 returns-3 c =
-    let a = c .before .before .before .before .before .before .before .before .before .before .before .before .before .before .args in
-    let v = c .before .before .before .before .before .before .before .before .before .before .before .l3 .given in
-    let mid = c .before .before .before .before .before .before .before .add-member2 .last .0 in
+    let d₁ = c .before .before .before .before in
+    let m = d₁ .before .before .before .before .before .before in
+    let d₂ = m .before in
+    let s = d₂ .before .before .before in
+    let a = s .args in
+    let v = d₂ .l3 .given in
+    let mid = d₁ .before .before .before .add-member2 .last .0 in
     let t′ = c .before .before .add-member3 .last .0 in
-    let j = subst (λ b. Begins b mid (blockAt (a .p .components - 1) 7) (v .0 .0) t′) (sym (eq-eqb (v .0 .1 .0) 1 (c .before .before .before .before .if1 .taken))) (c .before .before .add-member3 .ensures) in
-    subst (λ x. Change (now (a .table)) (a .p) x t′) (sym (v .1)) (record { mid = mid; declared = c .before .before .before .before .before .before .before .add-member2 .ensures; started = j })
+    let j = subst (λ b. Begins b mid (blockAt (a .p .components - 1) 7) (v .0 .0) t′) (sym (eq-eqb (v .0 .1 .0) 1 (d₁ .if1 .taken)))
+    (c .before .before .add-member3 .ensures) in
+    subst (λ x. Change (now (a .table)) (a .p) x t′) (sym (v .1))
+    (record { mid = mid; declared = d₁ .before .before .before .add-member2 .ensures; started = j })
 
 same-length-4 : tie.Need-same-length-4
 same-length-4 c = search needs
 
 returns-4 : tie.Need-returns-4
 returns-4 c =
-    let a = c .before .before .before .before .before .before .before .before .before .before .args in
-    let v = c .before .before .before .before .before .before .before .l3 .given in
+    let m = c .before .before .before .before .before .before in
+    let d = m .before in
+    let s = d .before .before .before in
+    let a = s .args in
+    let v = d .l3 .given in
     let mid = c .before .before .before .add-member2 .last .0 in
     let j = subst (λ b. Begins b mid (blockAt (a .p .components - 1) 7) (v .0 .0) mid) (sym (ne-eqb (v .0 .1 .0) 1 (c .if1 .left))) refl in
-    subst (λ x. Change (now (a .table)) (a .p) x mid) (sym (v .1)) (record { mid = mid; declared = c .before .before .before .add-member2 .ensures; started = j })
+    subst (λ x. Change (now (a .table)) (a .p) x mid) (sym (v .1))
+    (record { mid = mid; declared = c .before .before .before .add-member2 .ensures; started = j })
 
 same-length-5 : tie.Need-same-length-5
 same-length-5 c = search needs

@@ -37,7 +37,8 @@ module _ (c : Comp) (w : WellComp c) where
         (has (unclocked c) (rowAt c k .action) && not (eqb (rowAt c k .guard) 0)) (has (c .outs) (rowAt c k .action) && eqb (rowAt c k .guard) 0) e);
   }
     where
-      first : (has (unclocked c) (rowAt c k .action) && not (eqb (rowAt c k .guard) 0)) ≡ true → AgainstA (autoOf c) (guardSet (rowAt c k .guard)) (rowAt c k .action)
+      first : (has (unclocked c) (rowAt c k .action) && not (eqb (rowAt c k .guard) 0)) ≡ true
+          → AgainstA (autoOf c) (guardSet (rowAt c k .guard)) (rowAt c k .action)
       first p =
           let q = and-true (has (unclocked c) (rowAt c k .action)) (not (eqb (rowAt c k .guard) 0)) p in
           (q .0, λ z. eqb-false (rowAt c k .guard) 0 (not-true (eqb (rowAt c k .guard) 0) (q .1)) (guard-zero (rowAt c k .guard) z))
@@ -53,10 +54,15 @@ module _ (c : Comp) (w : WellComp c) where
   broken-guard k b = go (b .against)
     where
       go : AgainstA (autoOf c) (guardSet (rowAt c k .guard)) (rowAt c k .action) ⊎ AgainstB (autoOf c) (guardSet (rowAt c k .guard)) (rowAt c k .action)
-          → ((has (unclocked c) (rowAt c k .action) && not (eqb (rowAt c k .guard) 0)) || (has (c .outs) (rowAt c k .action) && eqb (rowAt c k .guard) 0)) ≡ true
+          → ((has (unclocked c) (rowAt c k .action) && not (eqb (rowAt c k .guard) 0)) || (has (c .outs) (rowAt c k .action) && eqb (rowAt c k .guard)
+          0)) ≡ true
       go (inl p) = simp (p .0, ne-eqb (rowAt c k .guard) 0 (λ z. p .1 (ap guardSet z)))
       go (inr p) = elim (ℕ-discrete (rowAt c k .guard) 0) [
-        | yes z ↦ or-right (has (unclocked c) (rowAt c k .action) && not (eqb (rowAt c k .guard) 0)) (has (c .outs) (rowAt c k .action) && eqb (rowAt c k .guard) 0) (simp (calm-out (rowAt c k .action) (p .0) (p .1), eq-eqb (rowAt c k .guard) 0 z))
+        | yes z ↦ or-right (has (unclocked c) (rowAt c k .action) && not (eqb (rowAt c k .guard) 0))
+            (has (c .outs) (rowAt c k .action) && eqb (rowAt c k .guard) 0) (simp (
+              calm-out (rowAt c k .action) (p .0) (p .1),
+              eq-eqb (rowAt c k .guard) 0 z,
+            ))
         | no ne ↦ let x = guard-some (rowAt c k .guard) ne in absurd (p .2 (x .0) (x .1))
       ]
 
@@ -68,12 +74,20 @@ module _ (c : Comp) (w : WellComp c) where
       record {
         unguarded = λ l h. elim (ℕ-discrete (rowAt c (l .place) .guard) 0) [
           | yes z ↦ sym (l .guard) ∙ ap guardSet z
-          | no ne ↦ absurd (sound e (l .place) (record { inside = l .inside; against = inl (rw (l .action) h, λ z. ne (guard-zero (rowAt c (l .place) .guard) z)) }))
+          | no ne ↦ absurd (sound e (l .place) (record
+              { inside = l .inside; against = inl (rw (l .action) h, λ z. ne (guard-zero (rowAt c (l .place) .guard) z)) }))
         ];
       },
       record {
         guarded = λ l h n. elim (ℕ-discrete (rowAt c (l .place) .guard) 0) [
-          | yes z ↦ absurd (sound e (l .place) (record { inside = l .inside; against = inr (rw (l .action) h, (λ u. n (rw (l .action) at u)), λ x y. only-some x (sym y ∙ ap guardSet z)) }))
+          | yes z ↦ absurd (sound e (l .place) (record {
+            inside = l .inside;
+            against = inr (
+              rw (l .action) h,
+              (λ u. n (rw (l .action) at u)),
+              λ x y. only-some x (sym y ∙ ap guardSet z),
+            );
+          }))
           | no ne ↦ let x = guard-some (rowAt c (l .place) .guard) ne in (x .0, sym (l .guard) ∙ x .1)
         ];
       },

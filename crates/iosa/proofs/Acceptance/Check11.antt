@@ -52,7 +52,8 @@ module _ (c : Comp) where
   unfolding repeats
   broken-repeat k b =
       true-any (λ j. sameClock (rowAt c j) (rowAt c k)) k (b .earlier) (b .above)
-      (same-clock (rowAt c (b .earlier)) (rowAt c k) (b .clock) (guard-in (rowAt c (b .earlier) .guard) (b .clock) (b .first)) (guard-in (rowAt c k .guard) (b .clock) (b .again)) (b .from))
+      (same-clock (rowAt c (b .earlier)) (rowAt c k) (b .clock) (guard-in (rowAt c (b .earlier) .guard) (b .clock) (b .first))
+      (guard-in (rowAt c k .guard) (b .clock) (b .again)) (b .from))
 
   -- ---- the search
   unrepeated : check11 c ≡ none → (k : ℕ) → Broken11 c k → ⊥
@@ -74,7 +75,8 @@ module _ (c : Comp) where
   module _ (w : WellComp c) where
     refuted : CondC (autoOf c) → (k : ℕ) → Broken11 c k → ⊥
     refuted cc k b =
-        let s = cc .same (b .clock) (b .first) (b .again) (rw (b .from) at (leads-at c (b .earlier) (omega (arith, b .above, b .inside)))) (leads-at c k (b .inside)) in
+        let s = cc .same (b .clock) (b .first) (b .again) (rw (b .from) at (leads-at c (b .earlier) (omega (arith, b .above, b .inside))))
+        (leads-at c k (b .inside)) in
         rows-differ c w (b .earlier) k (b .above) (b .inside)
         (row-eq (rowAt c (b .earlier)) (rowAt c k) (b .from) (guard-same (rowAt c (b .earlier) .guard) (rowAt c k .guard) (s .0)) (s .1) (s .2) (s .3))
 
@@ -82,7 +84,9 @@ module _ (c : Comp) where
     unfolding check11
     check11-exactly = (
       λ e. record {
-        same = λ x p q l m. apart-cases (l .place) (m .place) (same-place l m) (λ h. absurd (unrepeated e (m .place) (later x p q l m h))) (λ h. absurd (unrepeated e (l .place) (later x q p m l h)));
+        same =
+            λ x p q l m. apart-cases (l .place) (m .place) (same-place l m) (λ h. absurd (unrepeated e (m .place) (later x p q l m h)))
+            (λ h. absurd (unrepeated e (l .place) (later x q p m l h)));
       },
       λ cc. none-least (repeats c) (length (c .rows)) (λ k h. not-so (repeats c k) (λ e. refuted cc k (repeat-broken k h e))),
     )

@@ -45,8 +45,11 @@ module _ (c : Comp) where
       true-any (λ k. leaves (rowAt c k) s a && any (λ j. leaves (rowAt c j) s a) k) (length (c .rows)) (t .second) (t .inside)
       (simp (t .there, true-any (λ j. leaves (rowAt c j) s a) (t .second) (t .first) (t .order) (t .here))))
 
-  at-action : (k s a : ℕ) → k < length (c .rows) → leaves (rowAt c k) s a ≡ true → Leads c s (guardSet (rowAt c k .guard)) a (rowAt c k .resets) (rowAt c k .target)
-  at-action k s a h e = let p = leaves-parts (rowAt c k) s a e in record { place = k; inside = h; from = p .0; guard = refl; action = p .1; resets = refl; target = refl }
+  at-action : (k s a : ℕ) → k < length (c .rows) → leaves (rowAt c k) s a ≡ true → Leads c s (guardSet (rowAt c k .guard)) a (rowAt c k .resets)
+      (rowAt c k .target)
+  at-action k s a h e =
+      let p = leaves-parts (rowAt c k) s a e in
+      record { place = k; inside = h; from = p .0; guard = refl; action = p .1; resets = refl; target = refl }
 
   two-rows : {s a C D R Q t u : ℕ} (l : Leads c s C a R t) (m : Leads c s D a Q u) → l .place < m .place → TwoRows s a
   two-rows {s} {a} l m h = record {
@@ -99,7 +102,10 @@ module _ (c : Comp) where
     unfolding check13
     check13-exactly = (
       λ e. record {
-        same = λ un l m. apart-cases (l .place) (m .place) (λ q. let p = same-place l m q in (p .0, p .2, p .3)) (λ h. absurd (once e un l m h)) (λ h. absurd (once e un m l h));
+        same =
+            λ un l m. apart-cases (l .place) (m .place) (λ q. let p = same-place l m q in (p .0, p .2, p .3)) (λ h. absurd (once e un l m h))
+            (λ h. absurd (once e un m l h));
       },
-      λ ce. none-least2 (twice c) cellOf (c .states) maxActions (λ s a h n. not-so (twice c s a) (λ e. let b = twice-broken s a e in b .differ (ce .same (b .kind) (b .row) (b .other)))),
+      λ ce. none-least2 (twice c) cellOf (c .states) maxActions
+          (λ s a h n. not-so (twice c s a) (λ e. let b = twice-broken s a e in b .differ (ce .same (b .kind) (b .row) (b .other)))),
     )

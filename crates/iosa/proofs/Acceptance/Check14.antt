@@ -47,12 +47,14 @@ module _ (c : Comp) (w : WellComp c) where
   broken A = least (λ k. breaks A (rowAt c k)) (length (c .rows))
 
   -- ---- narrowing keeps what each narrowing keeps
-  narrow-keeps : (P : List ℕ → Type 0) → ((A : List ℕ) (k : ℕ) → k < length (c .rows) → P A → P (narrowed A (rowAt c k))) → (n : ℕ) (A : List ℕ) → P A → P (narrow c n A)
+  narrow-keeps : (P : List ℕ → Type 0) → ((A : List ℕ) (k : ℕ) → k < length (c .rows) → P A → P (narrowed A (rowAt c k))) → (n : ℕ) (A : List ℕ) → P A
+      → P (narrow c n A)
   unfolding narrow
   narrow-keeps P f zero A p = p
   narrow-keeps P f (suc n) A p = go (narrow-keeps P f n) (broken A) refl
     where
-      go : ((B : List ℕ) → P B → P (narrow c n B)) → (o : Option ℕ) → broken A ≡ o → P (elim o as (λ q. List ℕ) [ none ↦ A | some k ↦ narrow c n (narrowed A (rowAt c k)) ])
+      go : ((B : List ℕ) → P B → P (narrow c n B)) → (o : Option ℕ) → broken A ≡ o
+          → P (elim o as (λ q. List ℕ) [ none ↦ A | some k ↦ narrow c n (narrowed A (rowAt c k)) ])
       go ih none e = p
       go ih (some k) e = ih (narrowed A (rowAt c k)) (f A k (least-some (λ k. breaks A (rowAt c k)) (length (c .rows)) k e .below) p)
 
@@ -73,7 +75,8 @@ module _ (c : Comp) (w : WellComp c) where
       go ih none e = e
       go ih (some k) e =
           let l = least-some (λ k. breaks A (rowAt c k)) (length (c .rows)) k e in
-          ih (narrowed A (rowAt c k)) (length-set A (rowAt c k .target) _ ∙ len) (omega (arith, shrinks A (rowAt c k) (rw len (w .rows k (l .below) .target)) (l .here)))
+          ih (narrowed A (rowAt c k)) (length-set A (rowAt c k .target) _ ∙ len)
+          (omega (arith, shrinks A (rowAt c k) (rw len (w .rows k (l .below) .target)) (l .here)))
 
   -- ---- the greatest sets
   -- a set for each state, within what is allowed, and above all sets that the rows allow
@@ -115,7 +118,11 @@ module _ (c : Comp) (w : WellComp c) where
 
   high : High (greatest c)
   unfolding greatest
-  high = narrow-keeps High high-narrowed (sum (tab (allowed c) 0 (c .states))) (tab (allowed c) 0 (c .states)) (room, record { all = λ B al s h. rw (first s h) (al .within s h) })
+  high =
+      narrow-keeps High high-narrowed (sum (tab (allowed c) 0 (c .states))) (tab (allowed c) 0 (c .states)) (
+        room,
+        record { all = λ B al s h. rw (first s h) (al .within s h) },
+      )
 
   unbroken : (k : ℕ) → k < length (c .rows) → breaks (greatest c) (rowAt c k) ≡ false
   unfolding greatest
@@ -138,7 +145,8 @@ module _ (c : Comp) (w : WellComp c) where
   check14-exactly =
       let d = greatest-decides c w (setsOf (greatest c)) greatest-is-greatest in (
         λ e. d .1 (λ s h. within-true (enablingOf c s) (setsOf (greatest c) s)
-            (not-false (within (enablingOf c s) (setsOf (greatest c) s)) (any-false (λ s. not (within (enablingOf c s) (setsOf (greatest c) s))) (c .states) e s h))),
+            (not-false (within (enablingOf c s) (setsOf (greatest c) s)) (any-false (λ s. not (within (enablingOf c s) (setsOf (greatest c) s)))
+            (c .states) e s h))),
         λ f. not-so (check14 c) (λ e.
             let a = any-true (λ s. not (within (enablingOf c s) (setsOf (greatest c) s))) (c .states) e in
             true≢false (sym (true-within (enablingOf c (a .0)) (setsOf (greatest c) (a .0)) (d .0 f (a .0) (a .1)))

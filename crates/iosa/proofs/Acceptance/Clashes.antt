@@ -33,7 +33,9 @@ among-turn i n [] = refl
 among-turn i n (c ∷ cs) = go (check18 c) (among-turn (suc i) (n + length (c .rows)) cs)
   where
     go : (o : Option (List ℕ)) → clashAmong (suc i) cs ≡ inTurn clashAt (suc i) (n + length (c .rows)) cs
-        → _≡_ {A = Option Told} (elim o as (λ p. Option Told) [ none ↦ clashAmong (suc i) cs | some p ↦ some (tell 18 (i ∷ p)) ]) (orElse (mapSome (λ p. tell 18 (i ∷ p)) o) (inTurn clashAt (suc i) (n + length (c .rows)) cs))
+        → _≡_ {A =
+        Option Told} (elim o as (λ p. Option Told) [ none ↦ clashAmong (suc i) cs | some p ↦ some (tell 18 (i ∷ p)) ])
+        (orElse (mapSome (λ p. tell 18 (i ∷ p)) o) (inTurn clashAt (suc i) (n + length (c .rows)) cs))
     go none e = e
     go (some p) e = refl
 
@@ -62,7 +64,8 @@ module _ (m : Model) where
       pub decides-clashes : Decides (Clash m) (clashAmong 0 m)
       unfolding clashAt
       decides-clashes = decides-as (λ q t. (turn-clash q t, clash-turn q t)) (rw (among-turn 0 0 m) (
-          decides-turn clashAt Clashing 0 0 m (λ j h k l. decides-map (λ p. tell 18 (k ∷ p)) (decides-18 (compAt m j) (accepted-single m w ok j h) (w .each j h)))))
+          decides-turn clashAt Clashing 0 0 m (λ j h k l. decides-map (λ p. tell 18 (k ∷ p))
+          (decides-18 (compAt m j) (accepted-single m w ok j h) (w .each j h)))))
 
       pub clash-exactly : (t : Told) → (confluentOf m ≡ some t) ↔ First (Clash m) t
       unfolding confluentOf
@@ -78,6 +81,7 @@ module _ (m : Model) where
           (λ p. clash-exactly (unrefused-exactly m w .1 (p .0)) t .1 (p .1)),
     )
       where
-        go : (o : Option Told) → acceptOf m ≡ o → orElse o (clashAmong 0 m) ≡ some t → First (Fault m) t ⊎ ((q : List ℕ) (u : Told) → Fault m q u → ⊥) × First (Clash m) t
+        go : (o : Option Told) → acceptOf m ≡ o → orElse o (clashAmong 0 m) ≡ some t → First (Fault m) t ⊎ ((q : List ℕ) (u : Told) → Fault m q u → ⊥)
+            × First (Clash m) t
         go none h e = inr (unrefused-exactly m w .0 h, decided-exactly (decides-clashes h) t .0 e)
         go (some u) h e = inl (refused-exactly m w t .0 (h ∙ e))

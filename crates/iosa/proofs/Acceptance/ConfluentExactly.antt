@@ -41,7 +41,11 @@ module _ (m : Model) (w : WellFormed m) (ok : acceptOf m ≡ none) where
   pub confluent-exactly : (confluentOf m ≡ none) ↔ AllConfluent m
   unfolding confluentOf
   confluent-exactly = (
-    λ e. record { each = λ i h. check18-exactly (compAt m i) (accepted-single i h) (w .each i h) .0 (among-none 0 m (or-else-none (acceptOf m) (clashAmong 0 m) e .1) i h) },
+    λ e. record {
+      each =
+          λ i h. check18-exactly (compAt m i) (accepted-single i h) (w .each i h) .0 (among-none 0 m (or-else-none (acceptOf m) (clashAmong 0 m) e .1) i
+          h);
+    },
     λ al. simp (ok, none-among 0 m (λ i h. check18-exactly (compAt m i) (accepted-single i h) (w .each i h) .1 (al .each i h))),
   )
 

@@ -28,7 +28,8 @@ from-in r s x h = go (eqb (r .from) s) refl h
     go true e h = (eqb-true (r .from) s e, h)
     go false e h = absurd (none-in x h)
 
-enabling-in : (rs : List Row) (s x : ℕ) → x ∈ enablingIn rs s → (k : ℕ) × (k < length rs) × (getD rs k noRow .from ≡ s) × (x ∈ guardSet (getD rs k noRow .guard))
+enabling-in : (rs : List Row) (s x : ℕ) → x ∈ enablingIn rs s → (k : ℕ) × (k < length rs) × (getD rs k noRow .from ≡ s)
+    × (x ∈ guardSet (getD rs k noRow .guard))
 enabling-in [] s x h = absurd (none-in x h)
 enabling-in (r ∷ rs) s x h = ⊎-elim
     (λ p. let f = from-in r s x p in (0, omega arith, f .0, f .1))
@@ -80,7 +81,16 @@ module _ (c : Comp) (w : WellComp c) where
         k .rests (record {
           output = or-in-r (c .outs) (c .uouts) (rowAt c (a .0) .action) (p .1);
           urgent = or-in-r (c .uins) (c .uouts) (rowAt c (a .0) .action) (p .1);
-          row = record { place = a .0; inside = a .1; from = eqb-true (rowAt c (a .0) .from) s (p .0); guard = refl; action = refl; resets = refl; target = refl };
+          row =
+              record {
+                place = a .0;
+                inside = a .1;
+                from = eqb-true (rowAt c (a .0) .from) s (p .0);
+                guard = refl;
+                action = refl;
+                resets = refl;
+                target = refl;
+              };
         }))
 
     pub test-stable : unstable c s ≡ false → Stable (autoOf c) s

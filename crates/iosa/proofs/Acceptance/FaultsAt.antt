@@ -54,12 +54,22 @@ module _ (c : Comp) (i n : ℕ) where
   five-fault q t (inr (inr (inr (inr u)))) = rw (u .split, u .there .rank, u .there .told) (inactive (u .there .holds))
 
   fault-five : (q : List ℕ) (t : Told) → FaultAt c i n q t → Five q t
-  fault-five q t (guarded {k} b) = inl (record { tail = k ∷ []; split = refl; there = record { value = k; told = refl; there = record { rank = refl; holds = b } } })
-  fault-five q t (repeated {k} b) = inr (inl (record { tail = k ∷ []; split = refl; there = record { value = k; told = refl; there = record { rank = refl; holds = b } } }))
+  fault-five q t (guarded {k} b) =
+      inl (record { tail = k ∷ []; split = refl; there = record { value = k; told = refl; there = record { rank = refl; holds = b } } })
+  fault-five q t (repeated {k} b) =
+      inr (inl (record { tail = k ∷ []; split = refl; there = record { value = k; told = refl; there = record { rank = refl; holds = b } } }))
   fault-five q t (lacking {s} {a} b) =
-      inr (inr (inl (record { tail = s ∷ a ∷ []; split = refl; there = record { value = s ∷ a ∷ []; told = refl; there = record { one = s; two = a; rank = refl; told = refl; holds = b } } })))
+      inr (inr (inl (record {
+        tail = s ∷ a ∷ [];
+        split = refl;
+        there = record { value = s ∷ a ∷ []; told = refl; there = record { one = s; two = a; rank = refl; told = refl; holds = b } };
+      })))
   fault-five q t (doubled {s} {a} b) =
-      inr (inr (inr (inl (record { tail = s ∷ a ∷ []; split = refl; there = record { value = s ∷ a ∷ []; told = refl; there = record { one = s; two = a; rank = refl; told = refl; holds = b } } }))))
+      inr (inr (inr (inl (record {
+        tail = s ∷ a ∷ [];
+        split = refl;
+        there = record { value = s ∷ a ∷ []; told = refl; there = record { one = s; two = a; rank = refl; told = refl; holds = b } };
+      }))))
   fault-five q t (inactive b) = inr (inr (inr (inr (record { tail = []; split = refl; there = record { rank = refl; told = refl; holds = b } }))))
 
 module _ (c : Comp) (w : WellComp c) where
@@ -77,11 +87,15 @@ module _ (c : Comp) (w : WellComp c) where
   unfolding faultAt check10 check11 check12 check13
   decides-at i n = decides-as (λ q t. (five-fault c i n q t, fault-five c i n q t)) (
       decides-next 10 (headed 10 _) (heads-next 11 (headed 11 _) (heads-next 12 (headed 12 _) (heads-next 13 (headed 13 _) (heads 14 _))))
-      (decides-under 10 (decides-map (rowTold c i n 10) (decides-one (Broken10 c) (badGuard c) (length (c .rows)) (guard-broken c w) (broken-guard c w) (λ k b. b .inside))))
+      (decides-under 10 (decides-map (rowTold c i n 10) (decides-one (Broken10 c) (badGuard c) (length (c .rows)) (guard-broken c w)
+      (broken-guard c w) (λ k b. b .inside))))
       (decides-next 11 (headed 11 _) (heads-next 12 (headed 12 _) (heads-next 13 (headed 13 _) (heads 14 _)))
-      (decides-under 11 (decides-map (rowTold c i n 11) (decides-one (Broken11 c) (repeats c) (length (c .rows)) (repeat-broken c) (broken-repeat c) (λ k b. b .inside))))
+      (decides-under 11 (decides-map (rowTold c i n 11) (decides-one (Broken11 c) (repeats c) (length (c .rows)) (repeat-broken c) (broken-repeat c)
+      (λ k b. b .inside))))
       (decides-next 12 (headed 12 _) (heads-next 13 (headed 13 _) (heads 14 _))
-      (decides-under 12 (decides-map (cellTold c i n 12) (decides-two (Broken12 c) (lacksRow c) (c .states) maxActions (λ s a h k. lack-broken c s a h) (broken-lack c) (λ s a b. (b .state, input-below c w a (b .input))))))
+      (decides-under 12 (decides-map (cellTold c i n 12) (decides-two (Broken12 c) (lacksRow c) (c .states) maxActions
+      (λ s a h k. lack-broken c s a h) (broken-lack c) (λ s a b. (b .state, input-below c w a (b .input))))))
       (decides-next 13 (headed 13 _) (heads 14 _)
-      (decides-under 13 (decides-map (cellTold c i n 13) (decides-two (Broken13 c) (twice c) (c .states) maxActions (λ s a h k. twice-broken c w s a) (broken-twice c w) (λ s a b. (from-below c w (b .row), unclocked-below c w a (b .kind))))))
+      (decides-under 13 (decides-map (cellTold c i n 13) (decides-two (Broken13 c) (twice c) (c .states) maxActions (λ s a h k. twice-broken c w s a)
+      (broken-twice c w) (λ s a b. (from-below c w (b .row), unclocked-below c w a (b .kind))))))
       (decides-under 14 (decides-when (check14 c) (tell 14 (i ∷ [])) inactive-test test-inactive))))))

@@ -61,9 +61,13 @@ module _ (c : Comp) (w : WellComp c) where
   pub allows-active : (A : ℕ → ℕ) → Allows c A → ((s : ℕ) → s < c .states → enablingOf c s ⊆ A s) → Active (autoOf c) A
   allows-active A al en = record {
     own = λ s h x k. allowed-parts c s x (al .within s h x k) .0;
-    first = λ x k. picked (eqb (c .start) (c .start)) (c .started) (c .clocks) x (allowed-parts c (c .start) x (al .within (c .start) (w .start) x k) .1) .0 (eq-eqb (c .start) (c .start) refl);
+    first =
+        λ x k. picked (eqb (c .start) (c .start)) (c .started) (c .clocks) x
+        (allowed-parts c (c .start) x (al .within (c .start) (w .start) x k) .1) .0 (eq-eqb (c .start) (c .start) refl);
     enabled = λ s h x e. en s h x (row-enabling c s x e);
-    equal = λ s h st x k. enabling-row c s x (picked (unstable c s) (c .clocks) (enablingOf c s) x (allowed-parts c s x (al .within s h x k) .2) .1 (stable-test c w s st));
+    equal =
+        λ s h st x k. enabling-row c s x (picked (unstable c s) (c .clocks) (enablingOf c s) x (allowed-parts c s x (al .within s h x k) .2) .1
+        (stable-test c w s st));
     kept = λ l. rw (l .from, l .guard, l .resets, l .target) at (al .kept (l .place) (l .inside));
   }
 
@@ -75,7 +79,8 @@ module _ (c : Comp) (w : WellComp c) where
   )
 
   pub greatest-determined : (A B : ℕ → ℕ) → Greatest c A → Greatest c B → (s : ℕ) → s < c .states → A s ≡ B s
-  greatest-determined A B g h s k = has-ext (A s) (B s) (λ x. same (has (A s) x) (has (B s) x) (h .above .all A (g .allows) s k x) (g .above .all B (h .allows) s k x))
+  greatest-determined A B g h s k =
+      has-ext (A s) (B s) (λ x. same (has (A s) x) (has (B s) x) (h .above .all A (g .allows) s k x) (g .above .all B (h .allows) s k x))
     where
       same : (a b : Bool) → (a ≡ true → b ≡ true) → (b ≡ true → a ≡ true) → a ≡ b
       same true b f g = sym (f refl)
@@ -86,7 +91,8 @@ module _ (c : Comp) (w : WellComp c) where
   pub above-first : Above c (allowed c)
   above-first = record { all = λ B al s h. al .within s h }
 
-  pub above-handed : (A B : ℕ → ℕ) → Above c A → Allows c B → (k : ℕ) → k < length (c .rows) → B (rowAt c k .target) ⊆ A (rowAt c k .target) ∩ handed A (rowAt c k)
+  pub above-handed : (A B : ℕ → ℕ) → Above c A → Allows c B → (k : ℕ) → k < length (c .rows) → B (rowAt c k .target) ⊆ A (rowAt c k .target) ∩ handed
+      A (rowAt c k)
   above-handed A B ab al k h x m =
       let r = rowAt c k in
       and-in (A (r .target)) (handed A r) x (ab .all B al (r .target) (w .rows k h .target) x m)

@@ -26,7 +26,8 @@ pub record InTurn (F : Comp → ℕ → ℕ → List ℕ → Told → Type 0) (i
   pub there : F (compAt m place) (i + place) (n + rowCount (take place m)) tail t
 
 module _ (at : ℕ → ℕ → Comp → Option Told) (F : Comp → ℕ → ℕ → List ℕ → Told → Type 0) where
-  split-turn : (c : Comp) (cs : Model) (i n : ℕ) (q : List ℕ) (t : Told) → InTurn F i n (c ∷ cs) q t → Under i (F c i n) q t ⊎ InTurn F (suc i) (n + length (c .rows)) cs q t
+  split-turn : (c : Comp) (cs : Model) (i n : ℕ) (q : List ℕ) (t : Told) → InTurn F i n (c ∷ cs) q t
+      → Under i (F c i n) q t ⊎ InTurn F (suc i) (n + length (c .rows)) cs q t
   unfolding rowCount
   split-turn c cs i n q t u = go (u .place) (u .tail) (u .below) (u .split) (u .there)
     where
@@ -41,7 +42,8 @@ module _ (at : ℕ → ℕ → Comp → Option Told) (F : Comp → ℕ → ℕ �
           let s : n + (length (c .rows) + rowCount (take j cs)) ≡ n + length (c .rows) + rowCount (take j cs) = omega arith in
           inr (record { place = j; tail = r; below = omega arith; split = rw p at e; there = rw (p, s) at f })
 
-  turn-split : (c : Comp) (cs : Model) (i n : ℕ) (q : List ℕ) (t : Told) → Under i (F c i n) q t ⊎ InTurn F (suc i) (n + length (c .rows)) cs q t → InTurn F i n (c ∷ cs) q t
+  turn-split : (c : Comp) (cs : Model) (i n : ℕ) (q : List ℕ) (t : Told) → Under i (F c i n) q t ⊎ InTurn F (suc i) (n + length (c .rows)) cs q t
+      → InTurn F i n (c ∷ cs) q t
   unfolding rowCount
   turn-split c cs i n q t (inl u) =
       let p : i + 0 ≡ i = omega arith in
@@ -52,8 +54,14 @@ module _ (at : ℕ → ℕ → Comp → Option Told) (F : Comp → ℕ → ℕ �
       let s : n + (length (c .rows) + rowCount (take (u .place) cs)) ≡ n + length (c .rows) + rowCount (take (u .place) cs) = omega arith in
       record { place = suc (u .place); tail = u .tail; below = omega (arith, u .below); split = rw p (u .split); there = rw (p, s) (u .there) }
 
-  pub decides-turn : (i n : ℕ) (m : Model) → ((j : ℕ) → j < length m → (k l : ℕ) → Decides (F (compAt m j) k l) (at k l (compAt m j))) → Decides (InTurn F i n m) (inTurn at i n m)
-  decides-turn i n [] d = record { found = λ t e. absurd (no-some refl e); first = λ t p. absurd (omega (arith, p .here .below)); nowhere = λ e q t u. omega (arith, u .below) }
+  pub decides-turn : (i n : ℕ) (m : Model) → ((j : ℕ) → j < length m → (k l : ℕ) → Decides (F (compAt m j) k l) (at k l (compAt m j)))
+      → Decides (InTurn F i n m) (inTurn at i n m)
+  decides-turn i n [] d =
+      record {
+        found = λ t e. absurd (no-some refl e);
+        first = λ t p. absurd (omega (arith, p .here .below));
+        nowhere = λ e q t u. omega (arith, u .below);
+      }
   decides-turn i n (c ∷ cs) d =
       decides-as (λ q t. (turn-split c cs i n q t, split-turn c cs i n q t))
       (decides-next i (headed i (F c i n)) (λ q t u. (suc i + u .place, u .tail, u .split, omega arith))

@@ -21,7 +21,8 @@ use Rattle.iosa.specs.Faults.{OnlyThere}
 use Rattle.iosa.proofs.Acceptance.Rows.{output-below, urgent-below}
 
 -- ---- the search
-pub clash-none : (f : ℕ → Comp → Comp → Bool) (n : ℕ) (m : Model) → clashFor f n m ≡ none → (x i j : ℕ) → x < n → i < j → j < length m → f x (compAt m i) (compAt m j) ≡ false
+pub clash-none : (f : ℕ → Comp → Comp → Bool) (n : ℕ) (m : Model) → clashFor f n m ≡ none → (x i j : ℕ) → x < n → i < j → j < length m
+    → f x (compAt m i) (compAt m j) ≡ false
 unfolding clashFor
 clash-none f n m e x i j h k l =
     when-none (f x (compAt m i) (compAt m j)) (x ∷ i ∷ j ∷ [])
@@ -29,7 +30,8 @@ clash-none f n m e x i j h k l =
     (seek-none (clashIn f m x) 0 (length m) (seek-none (λ x. seek (clashIn f m x) 0 (length m)) 0 n e x (omega arith) h) i (omega arith) (omega arith))
     j k l)
 
-pub none-clash : (f : ℕ → Comp → Comp → Bool) (n : ℕ) (m : Model) → ((x i j : ℕ) → x < n → i < j → j < length m → f x (compAt m i) (compAt m j) ≡ false) → clashFor f n m ≡ none
+pub none-clash : (f : ℕ → Comp → Comp → Bool) (n : ℕ) (m : Model)
+    → ((x i j : ℕ) → x < n → i < j → j < length m → f x (compAt m i) (compAt m j) ≡ false) → clashFor f n m ≡ none
 unfolding clashFor
 none-clash f n m h =
     none-seek (λ x. seek (clashIn f m x) 0 (length m)) 0 n (λ x p q.
@@ -47,8 +49,14 @@ clock-shared c d x = (and-true (has (c .clocks) x) (has (d .clocks) x), λ p. si
 module _ (c : Comp) (w : WellComp c) (a : ℕ) where
   calm-here : a ∈ calmActs c → (a ∈ alphabet (autoOf c)) × (a ∈ urgents c → ⊥)
   calm-here h = ⊎-elim
-      (λ k. (or-in-l (inputs c) (outputs c) a (or-in-l (c .ins) (c .uins) a k), λ u. ⊎-elim (w .ins-uins a k) (w .ins-uouts a k) (in-or (c .uins) (c .uouts) a u)))
-      (λ k. (or-in-r (inputs c) (outputs c) a (or-in-l (c .outs) (c .uouts) a k), λ u. ⊎-elim (w .outs-uins a k) (w .outs-uouts a k) (in-or (c .uins) (c .uouts) a u)))
+      (λ k. (
+        or-in-l (inputs c) (outputs c) a (or-in-l (c .ins) (c .uins) a k),
+        λ u. ⊎-elim (w .ins-uins a k) (w .ins-uouts a k) (in-or (c .uins) (c .uouts) a u),
+      ))
+      (λ k. (
+        or-in-r (inputs c) (outputs c) a (or-in-l (c .outs) (c .uouts) a k),
+        λ u. ⊎-elim (w .outs-uins a k) (w .outs-uouts a k) (in-or (c .uins) (c .uouts) a u),
+      ))
       (in-or (c .ins) (c .outs) a h)
 
   here-calm : a ∈ alphabet (autoOf c) → (a ∈ urgents c) ⊎ (a ∈ calmActs c)
@@ -60,7 +68,8 @@ module _ (c : Comp) (w : WellComp c) (a : ℕ) where
   pub calm-exactly : (a ∈ calmActs c) ↔ (a ∈ alphabet (autoOf c)) × (a ∈ urgents c → ⊥)
   calm-exactly = (calm-here, λ p. ⊎-elim (λ u. absurd (p .1 u)) (λ h. h) (here-calm (p .0)))
 
-pub urgency-differs : (c d : Comp) → WellComp c → WellComp d → (a : ℕ) → (differUrgent a c d ≡ true) ↔ OnlyThere a (autoOf c) (autoOf d) ⊎ OnlyThere a (autoOf d) (autoOf c)
+pub urgency-differs : (c d : Comp) → WellComp c → WellComp d → (a : ℕ) → (differUrgent a c d ≡ true) ↔ OnlyThere a (autoOf c) (autoOf d) ⊎ OnlyThere a
+    (autoOf d) (autoOf c)
 urgency-differs c d v w a = (
   λ e. ⊎-elim
       (λ p. let q = and-true (has (urgents c) a) (has (calmActs d) a) p in let k = calm-exactly d w a .0 (q .1) in inl (q .0, k .0, k .1))
@@ -69,14 +78,17 @@ urgency-differs c d v w a = (
   back,
 )
   where
-    back : OnlyThere a (autoOf c) (autoOf d) ⊎ OnlyThere a (autoOf d) (autoOf c) → ((has (urgents c) a && has (calmActs d) a) || (has (calmActs c) a && has (urgents d) a)) ≡ true
+    back : OnlyThere a (autoOf c) (autoOf d) ⊎ OnlyThere a (autoOf d) (autoOf c)
+        → ((has (urgents c) a && has (calmActs d) a) || (has (calmActs c) a && has (urgents d) a)) ≡ true
     back (inl p) = simp (p .0, calm-exactly d w a .1 (p .1, p .2))
-    back (inr p) = or-right (has (urgents c) a && has (calmActs d) a) (has (calmActs c) a && has (urgents d) a) (simp (p .0, calm-exactly c v a .1 (p .1, p .2)))
+    back (inr p) =
+        or-right (has (urgents c) a && has (calmActs d) a) (has (calmActs c) a && has (urgents d) a) (simp (p .0, calm-exactly c v a .1 (p .1, p .2)))
 
 -- ---- every two components are compatible
 module _ (m : Model) (w : WellFormed m) where
   -- a test that means P, over the places below n: none found, none there
-  module _ (f : ℕ → Comp → Comp → Bool) (n : ℕ) (P : ℕ → Comp → Comp → Type 0) (to : (c d : Comp) → WellComp c → WellComp d → (x : ℕ) → P x c d → f x c d ≡ true) where
+  module _ (f : ℕ → Comp → Comp → Bool) (n : ℕ) (P : ℕ → Comp → Comp → Type 0) (to : (c d : Comp) → WellComp c → WellComp d → (x : ℕ) → P x c d
+      → f x c d ≡ true) where
     unmet : clashFor f n m ≡ none → (i j : ℕ) → i < j → j < length m → (x : ℕ) → x < n → P x (compAt m i) (compAt m j) → ⊥
     unmet e i j h k x l p = true≢false (sym (to (compAt m i) (compAt m j) (w .each i (omega arith)) (w .each j k) x p) ∙ clash-none f n m e x i j l h k)
 
@@ -88,10 +100,15 @@ module _ (m : Model) (w : WellFormed m) where
         let cj = compAt m j in
         let wi = w .each i (omega arith) in
         let wj = w .each j k in
-        let d = unmet differUrgent maxActions (λ a c d. OnlyThere a (autoOf c) (autoOf d) ⊎ OnlyThere a (autoOf d) (autoOf c)) (λ c d v u a. urgency-differs c d v u a .1) g i j h k in
+        let d = unmet differUrgent maxActions (λ a c d. OnlyThere a (autoOf c) (autoOf d) ⊎ OnlyThere a (autoOf d) (autoOf c))
+        (λ c d v u a. urgency-differs c d v u a .1) g i j h k in
         record {
-          outputs = λ a p q. unmet shareOutput maxActions (λ a c d. (a ∈ outputs c) × (a ∈ outputs d)) (λ c d v u a. output-shared c d a .1) e i j h k a (output-below ci wi a p) (p, q);
-          clocks = λ x p q. unmet shareClock maxClocks (λ x c d. (x ∈ c .clocks) × (x ∈ d .clocks)) (λ c d v u x. clock-shared c d x .1) f i j h k x (in-below maxClocks (ci .clocks) x (wi .clocks) p) (p, q);
+          outputs =
+              λ a p q. unmet shareOutput maxActions (λ a c d. (a ∈ outputs c) × (a ∈ outputs d)) (λ c d v u a. output-shared c d a .1) e i j h k a
+              (output-below ci wi a p) (p, q);
+          clocks =
+              λ x p q. unmet shareClock maxClocks (λ x c d. (x ∈ c .clocks) × (x ∈ d .clocks)) (λ c d v u x. clock-shared c d x .1) f i j h k x
+              (in-below maxClocks (ci .clocks) x (wi .clocks) p) (p, q);
           left = λ a u t. decide cj a (λ n. d a (urgent-below ci wi a u) (inl (u, t, n)));
           right = λ a u t. decide ci a (λ n. d a (urgent-below cj wj a u) (inr (u, t, n)));
         };
@@ -110,11 +127,15 @@ module _ (m : Model) (w : WellFormed m) where
 
     pub compatible-15 : check15 m ≡ none
     unfolding check15
-    compatible-15 = no-shared shareOutput maxActions (λ a i j h k e. let p = output-shared (compAt m i) (compAt m j) a .0 e in jo .pair i j h k .outputs a (p .0) (p .1))
+    compatible-15 =
+        no-shared shareOutput maxActions (λ a i j h k e. let p = output-shared (compAt m i) (compAt m j) a .0 e in jo .pair i j h k .outputs a (p .0)
+        (p .1))
 
     pub compatible-16 : check16 m ≡ none
     unfolding check16
-    compatible-16 = no-shared shareClock maxClocks (λ x i j h k e. let p = clock-shared (compAt m i) (compAt m j) x .0 e in jo .pair i j h k .clocks x (p .0) (p .1))
+    compatible-16 =
+        no-shared shareClock maxClocks (λ x i j h k e. let p = clock-shared (compAt m i) (compAt m j) x .0 e in jo .pair i j h k .clocks x (p .0)
+        (p .1))
 
     pub compatible-17 : check17 m ≡ none
     unfolding check17

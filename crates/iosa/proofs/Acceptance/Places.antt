@@ -29,14 +29,29 @@ pub record AtThree (P : ℕ → ℕ → ℕ → Type 0) (q t : List ℕ) : Type 
   pub told : t ≡ one ∷ two ∷ three ∷ []
   pub holds : P one two three
 
-pub decides-one : (P : ℕ → Type 0) (f : ℕ → Bool) (n : ℕ) → ((k : ℕ) → k < n → f k ≡ true → P k) → ((k : ℕ) → P k → f k ≡ true) → ((k : ℕ) → P k → k < n) → Decides (AtOne P) (least f n)
-decides-one P f n to from below = decides-as (λ q t. (there q t, back q t)) (decides-seek {F = λ k. Here (P k) k} (λ k. when (f k) k) 0 n (λ k h l. decides-when (f k) k (to k l) (from k)))
+pub decides-one : (P : ℕ → Type 0) (f : ℕ → Bool) (n : ℕ) → ((k : ℕ) → k < n → f k ≡ true → P k) → ((k : ℕ) → P k → f k ≡ true)
+    → ((k : ℕ) → P k → k < n) → Decides (AtOne P) (least f n)
+decides-one P f n to from below =
+    decides-as (λ q t. (there q t, back q t)) (decides-seek {F = λ k. Here (P k) k} (λ k. when (f k) k) 0 n
+    (λ k h l. decides-when (f k) k (to k l) (from k)))
   where
     there : (q : List ℕ) (t : ℕ) → Among (λ k. Here (P k) k) 0 n q t → AtOne P q t
-    there q t a = record { rank = a .split ∙ ap (λ r. a .place ∷ r) (a .there .rank) ∙ ap (λ k. k ∷ []) (sym (a .there .told)); holds = rw (a .there .told) (a .there .holds) }
+    there q t a =
+        record {
+          rank = a .split ∙ ap (λ r. a .place ∷ r) (a .there .rank) ∙ ap (λ k. k ∷ []) (sym (a .there .told));
+          holds = rw (a .there .told) (a .there .holds);
+        }
 
     back : (q : List ℕ) (t : ℕ) → AtOne P q t → Among (λ k. Here (P k) k) 0 n q t
-    back q t a = record { place = t; tail = []; from = omega arith; below = below t (a .holds); split = a .rank; there = record { rank = refl; told = refl; holds = a .holds } }
+    back q t a =
+        record {
+          place = t;
+          tail = [];
+          from = omega arith;
+          below = below t (a .holds);
+          split = a .rank;
+          there = record { rank = refl; told = refl; holds = a .holds };
+        }
 
 module _ (P : ℕ → ℕ → Type 0) (f : ℕ → ℕ → Bool) (n m : ℕ) where
   abbrev Cells : ℕ → List ℕ → List ℕ → Type 0
@@ -46,7 +61,8 @@ module _ (P : ℕ → ℕ → Type 0) (f : ℕ → ℕ → Bool) (n m : ℕ) whe
       → Decides (AtTwo P) (least2 f (λ s a. s ∷ a ∷ []) n m)
   decides-two to from below = decides-as (λ q t. (there q t, back q t)) (
       decides-seek {F = Cells} (λ s. seek (λ a. when (f s a) (s ∷ a ∷ [])) 0 m) 0 n (λ s h l.
-      decides-seek {F = λ a. Here (P s a) (s ∷ a ∷ [])} (λ a. when (f s a) (s ∷ a ∷ [])) 0 m (λ a h k. decides-when (f s a) (s ∷ a ∷ []) (to s a l k) (from s a))))
+      decides-seek {F =
+      λ a. Here (P s a) (s ∷ a ∷ [])} (λ a. when (f s a) (s ∷ a ∷ [])) 0 m (λ a h k. decides-when (f s a) (s ∷ a ∷ []) (to s a l k) (from s a))))
     where
       there : (q t : List ℕ) → Among Cells 0 n q t → AtTwo P q t
       there q t a =
@@ -62,7 +78,15 @@ module _ (P : ℕ → ℕ → Type 0) (f : ℕ → ℕ → Bool) (n m : ℕ) whe
             from = omega arith;
             below = k .0;
             split = a .rank;
-            there = record { place = a .two; tail = []; from = omega arith; below = k .1; split = refl; there = record { rank = refl; told = a .told; holds = a .holds } };
+            there =
+                record {
+                  place = a .two;
+                  tail = [];
+                  from = omega arith;
+                  below = k .1;
+                  split = refl;
+                  there = record { rank = refl; told = a .told; holds = a .holds };
+                };
           }
 
 -- the third above the second
@@ -76,7 +100,8 @@ module _ (P : ℕ → ℕ → ℕ → Type 0) (f : ℕ → ℕ → ℕ → Bool)
   abbrev Seconds : ℕ → List ℕ → List ℕ → Type 0
   Seconds x = Among (Thirds x) 0 m
 
-  pub decides-three : ((x i j : ℕ) → x < n → i < j → j < m → f x i j ≡ true → P x i j) → ((x i j : ℕ) → P x i j → f x i j ≡ true) → ((x i j : ℕ) → P x i j → (x < n) × (i < j) × (j < m))
+  pub decides-three : ((x i j : ℕ) → x < n → i < j → j < m → f x i j ≡ true → P x i j) → ((x i j : ℕ) → P x i j → f x i j ≡ true)
+      → ((x i j : ℕ) → P x i j → (x < n) × (i < j) × (j < m))
       → Decides (AtThree P) (least3 f n m)
   decides-three to from below = decides-as (λ q t. (there q t, back q t)) (
       decides-seek {F = Seconds} (λ x. seek (λ i. seek (λ j. when (f x i j) (x ∷ i ∷ j ∷ [])) (suc i) m) 0 m) 0 n (λ x h k.
@@ -88,7 +113,14 @@ module _ (P : ℕ → ℕ → ℕ → Type 0) (f : ℕ → ℕ → ℕ → Bool)
       there q t a =
           let b = a .there in
           let c = b .there in
-          record { one = a .place; two = b .place; three = c .place; rank = rw (a .split, b .split, c .split, c .there .rank) refl; told = c .there .told; holds = c .there .holds }
+          record {
+            one = a .place;
+            two = b .place;
+            three = c .place;
+            rank = rw (a .split, b .split, c .split, c .there .rank) refl;
+            told = c .there .told;
+            holds = c .there .holds;
+          }
 
       back : (q t : List ℕ) → AtThree P q t → Among Seconds 0 n q t
       back q t a =
@@ -105,7 +137,15 @@ module _ (P : ℕ → ℕ → ℕ → Type 0) (f : ℕ → ℕ → ℕ → Bool)
               from = omega arith;
               below = omega (arith, k .1, k .2);
               split = refl;
-              there = record { place = a .three; tail = []; from = k .1; below = k .2; split = refl; there = record { rank = refl; told = a .told; holds = a .holds } };
+              there =
+                  record {
+                    place = a .three;
+                    tail = [];
+                    from = k .1;
+                    below = k .2;
+                    split = refl;
+                    there = record { rank = refl; told = a .told; holds = a .holds };
+                  };
             };
           }
 

@@ -97,7 +97,11 @@ module _ {A : Type 0} where
   decides-under n d = record {
     found = λ t e.
         let p = d .found t e in
-        record { rank = n ∷ p .rank; here = record { tail = p .rank; split = refl; there = p .here }; before = λ q u l g. p .before (g .tail) u (lower-under n q (n ∷ p .rank) (g .tail) (p .rank) (g .split) refl l) (g .there) };
+        record {
+          rank = n ∷ p .rank;
+          here = record { tail = p .rank; split = refl; there = p .here };
+          before = λ q u l g. p .before (g .tail) u (lower-under n q (n ∷ p .rank) (g .tail) (p .rank) (g .split) refl l) (g .there);
+        };
     first = λ t p. d .first t (record {
       rank = p .here .tail;
       here = p .here .there;
@@ -124,14 +128,21 @@ module _ {A : Type 0} where
       go : (v : Option A) → o ≡ v → Decides Both (orElse v p)
       go none z = record {
         found = λ t k. let f = e .found t k in record { rank = f .rank; here = inr (f .here); before = λ q u l. ⊎-elim (d .nowhere z q u) (f .before q u l) };
-        first = λ t f. e .first t (record { rank = f .rank; here = ⊎-elim (λ g. absurd (d .nowhere z (f .rank) t g)) (λ h. h) (f .here); before = λ q u l h. f .before q u l (inr h) });
+        first =
+            λ t f. e .first t (record {
+              rank = f .rank;
+              here = ⊎-elim (λ g. absurd (d .nowhere z (f .rank) t g)) (λ h. h) (f .here);
+              before = λ q u l h. f .before q u l (inr h);
+            });
         nowhere = λ k q t. ⊎-elim (d .nowhere z q t) (e .nowhere k q t);
       }
       go (some x) z = record {
         found = λ t k. left t (d .found t (z ∙ k));
         first = λ t f. sym z ∙ d .first t (record {
           rank = f .rank;
-          here = ⊎-elim (λ g. g) (λ h. let k = d .found x z in absurd (f .before (k .rank) x (up (k .rank) (f .rank) x t (k .here) h) (inl (k .here)))) (f .here);
+          here =
+              ⊎-elim (λ g. g) (λ h. let k = d .found x z in absurd (f .before (k .rank) x (up (k .rank) (f .rank) x t (k .here) h) (inl (k .here))))
+              (f .here);
           before = λ q u l g. f .before q u l (inl g);
         });
         nowhere = λ k. absurd (no-some k refl);
@@ -146,7 +157,8 @@ module _ {A : Type 0} where
     pub split : q ≡ place ∷ tail
     pub there : F place tail t
 
-  pub decides-seek : {F : ℕ → List ℕ → A → Type 0} (f : ℕ → Option A) (lo hi : ℕ) → ((k : ℕ) → lo ≤ k → k < hi → Decides (F k) (f k)) → Decides (Among F lo hi) (seek f lo hi)
+  pub decides-seek : {F : ℕ → List ℕ → A → Type 0} (f : ℕ → Option A) (lo hi : ℕ) → ((k : ℕ) → lo ≤ k → k < hi → Decides (F k) (f k))
+      → Decides (Among F lo hi) (seek f lo hi)
   decides-seek {F} f lo hi d = record {
     found = λ t e.
         let s = seek-some f lo hi t e in
@@ -171,7 +183,9 @@ module _ {A : Type 0} where
         here = d (g .place) (g .from) (g .below) .first t (record {
           rank = g .tail;
           here = g .there;
-          before = λ q u l h. p .before (g .place ∷ q) u (rw (g .split) (lower-tail (g .place) q (g .tail) l)) (record { place = g .place; tail = q; from = g .from; below = g .below; split = refl; there = h });
+          before =
+              λ q u l h. p .before (g .place ∷ q) u (rw (g .split) (lower-tail (g .place) q (g .tail) l))
+              (record { place = g .place; tail = q; from = g .from; below = g .below; split = refl; there = h });
         });
         least = λ j h k. none-of j h k (f j) refl;
       }
@@ -181,7 +195,8 @@ module _ {A : Type 0} where
           none-of j h k (some u) e =
               let b : j < hi = omega (arith, g .below) in
               let s = d j h b .found u e in
-              absurd (p .before (j ∷ s .rank) u (rw (g .split) (lower-head j (g .place) (s .rank) (g .tail) k)) (record { place = j; tail = s .rank; from = h; below = b; split = refl; there = s .here }))
+              absurd (p .before (j ∷ s .rank) u (rw (g .split) (lower-head j (g .place) (s .rank) (g .tail) k))
+              (record { place = j; tail = s .rank; from = h; below = b; split = refl; there = s .here }))
 
 -- an answer in other words
 pub record Retold {A B : Type 0} (g : A → B) (F : List ℕ → A → Type 0) (q : List ℕ) (t : B) : Type 0 where
@@ -197,6 +212,10 @@ decides-map {A} {B} g {F} {o} d = record {
       record { rank = p .rank; here = record { value = x .0; told = sym (x .2); there = p .here }; before = λ q u l h. p .before q (h .value) l (h .there) };
   first = λ t p.
       let h = p .here in
-      ap (mapSome g) (d .first (h .value) (record { rank = p .rank; here = h .there; before = λ q u l k. p .before q (g u) l (record { value = u; told = refl; there = k }) })) ∙ ap some (sym (h .told));
+      ap (mapSome g) (d .first (h .value) (record {
+        rank = p .rank;
+        here = h .there;
+        before = λ q u l k. p .before q (g u) l (record { value = u; told = refl; there = k });
+      })) ∙ ap some (sym (h .told));
   nowhere = λ e q t h. d .nowhere (map-none g o e) q (h .value) (h .there);
 }

@@ -71,9 +71,11 @@ module _ (m : Model) (w : WellFormed m) where
   unfolding check15 check16 check17
   decides-clash =
       decides-next 15 (headed 15 _) (heads-next 16 (headed 16 _) (heads 17 _))
-      (decides-under 15 (decides-map (tell 15) (decides-pairs (λ a A B. (a ∈ A .outputs) × (a ∈ B .outputs)) shareOutput maxActions (λ c d v u a. Pairs.output-shared c d a) (λ c d v u a p. output-below c v a (p .0)))))
+      (decides-under 15 (decides-map (tell 15) (decides-pairs (λ a A B. (a ∈ A .outputs) × (a ∈ B .outputs)) shareOutput maxActions
+      (λ c d v u a. Pairs.output-shared c d a) (λ c d v u a p. output-below c v a (p .0)))))
       (decides-next 16 (headed 16 _) (heads 17 _)
-      (decides-under 16 (decides-map (tell 16) (decides-pairs (λ x A B. (x ∈ A .clocks) × (x ∈ B .clocks)) shareClock maxClocks (λ c d v u x. Pairs.clock-shared c d x) (λ c d v u x p. in-below maxClocks (c .clocks) x (v .clocks) (p .0)))))
+      (decides-under 16 (decides-map (tell 16) (decides-pairs (λ x A B. (x ∈ A .clocks) × (x ∈ B .clocks)) shareClock maxClocks
+      (λ c d v u x. Pairs.clock-shared c d x) (λ c d v u x p. in-below maxClocks (c .clocks) x (v .clocks) (p .0)))))
       (decides-under 17 (decides-map (tell 17) (decides-pairs (λ a A B. OnlyThere a A B ⊎ OnlyThere a B A) differUrgent maxActions Pairs.urgency-differs
       (λ c d v u a. ⊎-elim (λ p. urgent-below c v a (p .0)) (λ p. urgent-below d u a (p .0)))))))
 

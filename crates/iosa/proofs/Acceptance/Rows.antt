@@ -27,14 +27,16 @@ pub leaves-parts : (r : Row) (s a : ℕ) → leaves r s a ≡ true → (r .from 
 leaves-parts r s a e = let p = and-true (eqb (r .from) s) (eqb (r .action) a) e in (eqb-true (r .from) s (p .0), eqb-true (r .action) a (p .1))
 
 -- row k as a row of the relation
-pub leads-at : (c : Comp) (k : ℕ) → k < length (c .rows) → Leads c (rowAt c k .from) (guardSet (rowAt c k .guard)) (rowAt c k .action) (rowAt c k .resets) (rowAt c k .target)
+pub leads-at : (c : Comp) (k : ℕ) → k < length (c .rows) → Leads c (rowAt c k .from) (guardSet (rowAt c k .guard)) (rowAt c k .action)
+    (rowAt c k .resets) (rowAt c k .target)
 leads-at c k h = record { place = k; inside = h; from = refl; guard = refl; action = refl; resets = refl; target = refl }
 
 pub row-eq : (r q : Row) → r .from ≡ q .from → r .guard ≡ q .guard → r .action ≡ q .action → r .resets ≡ q .resets → r .target ≡ q .target → r ≡ q
 row-eq r q f g a s t = λ i. record { from = f i; guard = g i; action = a i; resets = s i; target = t i }
 
 -- two rows of the relation at one place are one
-pub same-place : {c : Comp} {s v C D a b R Q t u : ℕ} (l : Leads c s C a R t) (m : Leads c v D b Q u) → l .place ≡ m .place → (C ≡ D) × (a ≡ b) × (R ≡ Q) × (t ≡ u)
+pub same-place : {c : Comp} {s v C D a b R Q t u : ℕ} (l : Leads c s C a R t) (m : Leads c v D b Q u) → l .place ≡ m .place
+    → (C ≡ D) × (a ≡ b) × (R ≡ Q) × (t ≡ u)
 same-place {c} l m e = (
   sym (l .guard) ∙ ap (λ k. guardSet (rowAt c k .guard)) e ∙ m .guard,
   sym (l .action) ∙ ap (λ k. rowAt c k .action) e ∙ m .action,

@@ -8,7 +8,8 @@ use lib.IntN.{ℤ}
 use Rattle.laws.specs.Sets.{only, _∈_}
 use Rattle.model.specs.Model.{Comp, Model, acts, urgents}
 use Rattle.model.specs.WellFormed.{WellComp, WellFormed}
-use Rattle.iosa.specs.Automaton.{Automaton, alphabet, autoOf, Stable, Reachable, at-start, by-row, ReachedIn, Conditions, Compatible, Conforming, Joinable}
+use Rattle.iosa.specs.Automaton.{Automaton, alphabet, autoOf, Stable, Reachable, at-start, by-row, ReachedIn, Conditions, Compatible}
+use Rattle.iosa.specs.Automaton.{Conforming, Joinable}
 use Rattle.iosa.specs.Product.{_⊗_, productFrom, product, embed, stateOf, EachPart, Within, Reached, MadeOf, Series, over, next}
 use Rattle.iosa.specs.TimedExactly.{Ready, Fires}
 use Rattle.iosa.proofs.Settling.Each.{All, each-all}

@@ -26,7 +26,9 @@ module _ (c : Comp) (cs : List Comp) (well : WellFormed (c ∷ cs)) (conf : Conf
       (row-is-a-step c cs well conf join (h .after) (q .1) (d .0) (record { output = p .0 .output; urgent = p .0 .urgent; row = d .2 }))
     where
       close : (g h : Gone (List ℕ)) {v : product c cs .State} → RowStep c cs (g .after) 0 b (h .resets) v → RowStep c cs (h .after) 0 a (g .resets) v
-          → (w : List ℕ) × (urgentStep (c ∷ cs) (g .after) b ≡ some (record { resets = h .resets; after = w })) × (urgentStep (c ∷ cs) (h .after) a ≡ some (record { resets = g .resets; after = w }))
+          → (w : List ℕ) × (urgentStep (c ∷ cs) (g .after) b ≡ some (record { resets = h .resets; after = w }))
+          × (urgentStep (c ∷ cs) (h .after) a ≡ some (record { resets = g .resets; after = w }))
       close g h x y =
-          let e = state-is-one-list c cs (y .after) (x .after) (within-length (c ∷ cs) (y .after) (y .within)) (within-length (c ∷ cs) (x .after) (x .within)) (sym (y .state) ∙ x .state) in
+          let e = state-is-one-list c cs (y .after) (x .after) (within-length (c ∷ cs) (y .after) (y .within))
+          (within-length (c ∷ cs) (x .after) (x .within)) (sym (y .state) ∙ x .state) in
           (x .after, x .step, y .step ∙ (λ i. some (record { resets = g .resets; after = e i })))

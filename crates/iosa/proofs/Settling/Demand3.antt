@@ -31,7 +31,8 @@ use Rattle.iosa.proofs.Reaching.Keeps.{reached-within, row-keeps-reache
 
 module _ (c : Comp) (cs : List Comp) (well : WellFormed (c ∷ cs)) (conf : Conforming (c ∷ cs)) (join : Joinable (c ∷ cs)) where
   -- ---- over any composed states that urgent steps keep and in which they commute
-  module _ (P : List ℕ → Type 0) (keeps : Keeps (urgentStep (c ∷ cs)) P) (dia : Diamond (urgentStep (c ∷ cs)) P) (s : List ℕ) (w : Within (c ∷ cs) s) (ok : P s) where
+  module _ (P : List ℕ → Type 0) (keeps : Keeps (urgentStep (c ∷ cs)) P) (dia : Diamond (urgentStep (c ∷ cs)) P) (s : List ℕ) (w : Within (c ∷ cs) s)
+      (ok : P s) where
     series-stops : {l : List ℕ} {R : ℕ} {y : product c cs .State} → Series (product c cs) (stateOf c cs s) l R y → Stable (product c cs) y → Stops c cs s l R y
     series-stops {l} {R} {y} run st = build (series-is-a-run c cs well conf join s w refl run)
       where
@@ -53,10 +54,13 @@ module _ (c : Comp) (cs : List Comp) (well : WellFormed (c ∷ cs)) (conf : Conf
             exactly : (n : ℕ) {t : List ℕ} {d : Settling (List ℕ)} → Exact (urgentStep (c ∷ cs)) n l R t d → (d .stable ≡ true) ↔ (length l ≤ n)
             exactly n x = (λ e. by-cases (decLt n (length l)) (λ h. absurd (true≢false (sym e ∙ x .short h .0))) (λ h. omega arith), λ h. x .enough h .0)
 
-            alike : {t : List ℕ} → Stuck (urgentStep (c ∷ cs)) t → Run (urgentStep (c ∷ cs)) s l R t → y ≡ stateOf c cs t → {k : List ℕ} {Q : ℕ} {z : product c cs .State}
-                → (v : List ℕ) × Run (urgentStep (c ∷ cs)) s k Q v × (z ≡ stateOf c cs v) × Within (c ∷ cs) v → Stable (product c cs) z → Same (product c cs) l R y k Q z
+            alike : {t : List ℕ} → Stuck (urgentStep (c ∷ cs)) t → Run (urgentStep (c ∷ cs)) s l R t → y ≡ stateOf c cs t
+                → {k : List ℕ} {Q : ℕ} {z : product c cs .State}
+                → (v : List ℕ) × Run (urgentStep (c ∷ cs)) s k Q v × (z ≡ stateOf c cs v) × Within (c ∷ cs) v → Stable (product c cs) z
+                → Same (product c cs) l R y k Q z
             alike u run e q st′ =
-                let a = all-that-stop-are-alike (urgentStep (c ∷ cs)) P keeps dia u ok run (stable-stuck c cs well conf join (q .0) (q .3) (rw (q .2) at st′)) (q .1) in
+                let a = all-that-stop-are-alike (urgentStep (c ∷ cs)) P keeps dia u ok run
+                (stable-stuck c cs well conf join (q .0) (q .3) (rw (q .2) at st′)) (q .1) in
                 record { steps = a .steps; actions = a .acts; resets = a .resets; end = q .2 ∙ ap (stateOf c cs) (a .state) ∙ sym e }
 
     pub commuting-steps-settle : Demand3 c cs s
@@ -88,7 +92,10 @@ module _ (c : Comp) (cs : List Comp) (well : WellFormed (c ∷ cs)) (conf : Conf
             series = r .0;
             steps = ran .steps;
             range = r .1;
-            stable = (λ e. stuck-stable c cs well conf join (d .state) (r .1) (ran .stable e), λ st. settled (d .stable) refl (stable-stuck c cs well conf join (d .state) (r .1) st));
+            stable = (
+              λ e. stuck-stable c cs well conf join (d .state) (r .1) (ran .stable e),
+              λ st. settled (d .stable) refl (stable-stuck c cs well conf join (d .state) (r .1) st),
+            );
             bounded = ran .within;
             unsettled = λ e. ran .going e .0;
           }

@@ -72,7 +72,8 @@ module _ {S : Type 0} (step : S → ℕ → Option (Gone S)) where
 
   module _ (P : S → Type 0) (keeps : Keeps P) (dia : Diamond P) where
     -- a step may be taken first: what is left of a series that stops is a series from there
-    rest-step : {s u : S} {l : List ℕ} {r : ℕ} → Stuck u → P s → Run s l r u → (a : ℕ) (g : Gone S) → step s a ≡ some g → Rest l (a ∷ []) r (g .resets) (g .after) u
+    rest-step : {s u : S} {l : List ℕ} {r : ℕ} → Stuck u → P s → Run s l r u → (a : ℕ) (g : Gone S) → step s a ≡ some g
+        → Rest l (a ∷ []) r (g .resets) (g .after) u
     rest-step st ok stop a g e = absurd (no-some (st a) e)
     rest-step st ok (then {s = s} {u = u} {l = l} {r = r} b h f run) a g e = elim (ℕ-discrete a b) [
       | yes p ↦

@@ -47,23 +47,30 @@ module _ (m : Model) where
   run-played i stop = refl
   run-played i (then a g e more) = rw (e, play) (rw (run-played (suc i) more))
 
-  played-run : (i : ℕ) (l s : List ℕ) (d : Settling (List ℕ)) → play m i l s ≡ answered d → Run (urgentStep m) s l (d .resets) (d .state) × (played m l (d .resets) (d .state) ≡ d)
+  played-run : (i : ℕ) (l s : List ℕ) (d : Settling (List ℕ)) → play m i l s ≡ answered d → Run (urgentStep m) s l (d .resets) (d .state)
+      × (played m l (d .resets) (d .state) ≡ d)
   unfolding play
   played-run i [] s d e = rw (← same-answer e) (stop, refl)
   played-run i (a ∷ l) s d e = go (played-run (suc i) l) (urgentStep m s a) refl e
     where
-      by : ((t : List ℕ) (x : Settling (List ℕ)) → play m (suc i) l t ≡ answered x → Run (urgentStep m) t l (x .resets) (x .state) × (played m l (x .resets) (x .state) ≡ x))
+      by : ((t : List ℕ) (x : Settling (List ℕ)) → play m (suc i) l t ≡ answered x → Run (urgentStep m) t l (x .resets) (x .state)
+          × (played m l (x .resets) (x .state) ≡ x))
           → (g : Gone (List ℕ)) → urgentStep m s a ≡ some g → (x : Answer (Settling (List ℕ))) → play m (suc i) l (g .after) ≡ x → afterListed g x ≡ answered d
           → Run (urgentStep m) s (a ∷ l) (d .resets) (d .state) × (played m (a ∷ l) (d .resets) (d .state) ≡ d)
       by ih g h (refused t) f e = absurd (no-answer e)
       by ih g h (answered y) f e =
           let r = ih (g .after) y f in
           let q = r .1 in
-          rw (← same-answer e) (then a g h (r .0), λ j. record { stable = q j .stable; steps = suc (q j .steps); resets = g .resets ∪ y .resets; trace = []; state = y .state })
+          rw (← same-answer e) (
+            then a g h (r .0),
+            λ j. record { stable = q j .stable; steps = suc (q j .steps); resets = g .resets ∪ y .resets; trace = []; state = y .state },
+          )
 
-      go : ((t : List ℕ) (x : Settling (List ℕ)) → play m (suc i) l t ≡ answered x → Run (urgentStep m) t l (x .resets) (x .state) × (played m l (x .resets) (x .state) ≡ x))
+      go : ((t : List ℕ) (x : Settling (List ℕ)) → play m (suc i) l t ≡ answered x → Run (urgentStep m) t l (x .resets) (x .state)
+          × (played m l (x .resets) (x .state) ≡ x))
           → (o : Option (Gone (List ℕ))) → urgentStep m s a ≡ o
-          → (elim o as (λ _. Answer (Settling (List ℕ))) [ none ↦ refused (tell 23 (i ∷ [])) | some g ↦ afterListed g (play m (suc i) l (g .after)) ]) ≡ answered d
+          → (elim o as (λ _. Answer (Settling (List ℕ))) [ none ↦ refused (tell 23 (i ∷ [])) | some g ↦ afterListed g (play m (suc i) l (g .after)) ])
+          ≡ answered d
           → Run (urgentStep m) s (a ∷ l) (d .resets) (d .state) × (played m (a ∷ l) (d .resets) (d .state) ≡ d)
       go ih none h e = absurd (no-answer e)
       go ih (some g) h e = by ih g h (play m (suc i) l (g .after)) refl e
@@ -107,7 +114,11 @@ module _ (m : Model) where
 
       go : ((u : List ℕ) (w : Told) → play m (suc i) l u ≡ refused w → (j : ℕ) × (w ≡ tell 23 ((suc i + j) ∷ [])) × Broke m u l j)
           → (o : Option (Gone (List ℕ))) → urgentStep m s a ≡ o
-          → _≡_ {A = Answer (Settling (List ℕ))} (elim o as (λ _. Answer (Settling (List ℕ))) [ none ↦ refused (tell 23 (i ∷ [])) | some g ↦ afterListed g (play m (suc i) l (g .after)) ]) (refused t)
+          → _≡_ {A =
+          Answer (Settling (List ℕ))} (elim o as (λ _. Answer (Settling (List ℕ))) [
+            | none ↦ refused (tell 23 (i ∷ []))
+            | some g ↦ afterListed g (play m (suc i) l (g .after))
+          ]) (refused t)
           → (j : ℕ) × (t ≡ tell 23 ((i + j) ∷ [])) × Broke m s (a ∷ l) j
       go ih none h e = (
         0,
@@ -121,7 +132,8 @@ both-tell true b f g = sym (g .1 (f .0 refl))
 both-tell false true f g = f .1 (g .0 refl)
 both-tell false false f g = refl
 
-module _ (c : Comp) (cs : List Comp) (well : WellFormed (c ∷ cs)) (conf : Conforming (c ∷ cs)) (join : Joinable (c ∷ cs)) (s : List ℕ) (w : Within (c ∷ cs) s) (l : List ℕ) where
+module _ (c : Comp) (cs : List Comp) (well : WellFormed (c ∷ cs)) (conf : Conforming (c ∷ cs)) (join : Joinable (c ∷ cs)) (s : List ℕ)
+    (w : Within (c ∷ cs) s) (l : List ℕ) where
   -- the list is answered exactly as the series that it is
   pub list-that-is-a-series : (d : Settling (List ℕ)) → (play (c ∷ cs) 0 l s ≡ answered d) ↔ Listed c cs s l d
   list-that-is-a-series d = (there, back)
@@ -152,10 +164,12 @@ module _ (c : Comp) (cs : List Comp) (well : WellFormed (c ∷ cs)) (conf : Conf
           }))
 
   -- and refused, 23, exactly at its first action that is not enabled
-  pub list-that-is-no-series : (t : Told) → (play (c ∷ cs) 0 l s ≡ refused t) ↔ (i : ℕ) × (t ≡ tell 23 (i ∷ [])) × NotEnabledAt (product c cs) (stateOf c cs s) l i
+  pub list-that-is-no-series : (t : Told) → (play (c ∷ cs) 0 l s ≡ refused t) ↔ (i : ℕ) × (t ≡ tell 23 (i ∷ [])) × NotEnabledAt (product c cs)
+      (stateOf c cs s) l i
   list-that-is-no-series t = (λ e. there (refused-breaks (c ∷ cs) 0 l s t e), back)
     where
-      there : (j : ℕ) × (t ≡ tell 23 ((0 + j) ∷ [])) × Broke (c ∷ cs) s l j → (i : ℕ) × (t ≡ tell 23 (i ∷ [])) × NotEnabledAt (product c cs) (stateOf c cs s) l i
+      there : (j : ℕ) × (t ≡ tell 23 ((0 + j) ∷ [])) × Broke (c ∷ cs) s l j → (i : ℕ) × (t ≡ tell 23 (i ∷ [])) × NotEnabledAt (product c cs)
+          (stateOf c cs s) l i
       there p =
           let b = p .2 in
           let q = run-is-a-series c cs well conf join w (b .run) in
@@ -164,7 +178,8 @@ module _ (c : Comp) (cs : List Comp) (well : WellFormed (c ∷ cs)) (conf : Conf
             p .1 ∙ ap (λ k. tell 23 (k ∷ [])) n,
             subst (λ k. NotEnabledAt (product c cs) (stateOf c cs s) k (p .0)) (sym (b .split))
                 (subst (NotEnabledAt (product c cs) (stateOf c cs s) (b .before ++ (b .action ∷ b .later))) (b .index)
-                (not-enabled (b .before) (b .action) (b .later) (q .0) (λ C R y r. no-some (b .disabled) (row-is-a-step c cs well conf join (b .end) (q .1) y r .step)))),
+                (not-enabled (b .before) (b .action) (b .later) (q .0)
+                (λ C R y r. no-some (b .disabled) (row-is-a-step c cs well conf join (b .end) (q .1) y r .step)))),
           )
 
       broken : {k : List ℕ} {i : ℕ} → NotEnabledAt (product c cs) (stateOf c cs s) k i → play (c ∷ cs) 0 k s ≡ refused (tell 23 (i ∷ []))

@@ -28,7 +28,10 @@ module _ (c : Comp) (one : Single c) (s a : ℕ) (un : a ∈ acts c → a ∈ un
       by none h f e = absurd (no-some refl e)
       by (some r) h f e = rw (← Option·some-inj .0 e) (goes h (row-leads c one s a (un h) r f))
 
-      go : (b : Bool) → has (acts c) a ≡ b → (elim b as (λ _. Option (Gone ℕ)) [ true ↦ goneBy (rowFor c s a) | false ↦ some (record { resets = 0; after = s }) ]) ≡ some g
+      go : (b : Bool) → has (acts c) a ≡ b → (elim b as (λ _. Option (Gone ℕ)) [
+        | true ↦ goneBy (rowFor c s a)
+        | false ↦ some (record { resets = 0; after = s })
+      ]) ≡ some g
           → Go (autoOf c) a s 0 (g .resets) (g .after)
       go true h e = by (rowFor c s a) h refl e
       go false h e = rw (← Option·some-inj .0 e) (sits-out h ok)

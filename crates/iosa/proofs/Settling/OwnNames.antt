@@ -2,11 +2,11 @@
 use mathlib.Core.Logic.{⊎-elim}
 use mathlib.Core.List.{List, [], _∷_}
 use Prim.Native.Nat.{ℕ}
-use Rattle.laws.specs.Sets.{_∪_, _∈_, _⊆_}
+use Rattle.laws.specs.Sets.{_∪_, _⊆_}
 use Rattle.laws.proofs.SetLaws.{or-in-l, or-in-r, in-or, none-in}
 use Rattle.model.specs.Model.{Comp}
 use Rattle.model.specs.WellFormed.{WellComp}
-use Rattle.iosa.specs.Automaton.{Automaton, alphabet, autoOf}
+use Rattle.iosa.specs.Automaton.{Automaton, autoOf}
 use Rattle.iosa.specs.Product.{_⊗_, productFrom}
 use Rattle.iosa.specs.Parts.{Go, goes, sits-out}
 use Rattle.iosa.specs.Thesis.{OwnNames}

@@ -23,7 +23,9 @@ go-row A h (sits-out k p) = absurd (true≢false (sym h ∙ k))
 -- ---- two automata
 -- the actions of a product are those of either side
 pub alphabet-joins : (A B : Automaton) → alphabet (A ⊗ B) ≡ alphabet A ∪ alphabet B
-alphabet-joins A B = has-ext (alphabet (A ⊗ B)) (alphabet A ∪ alphabet B) (λ x. simp (has-or, has-without) (go (has (A .inputs) x) (has (B .inputs) x) (has (A .outputs) x) (has (B .outputs) x)))
+alphabet-joins A B =
+    has-ext (alphabet (A ⊗ B)) (alphabet A ∪ alphabet B)
+    (λ x. simp (has-or, has-without) (go (has (A .inputs) x) (has (B .inputs) x) (has (A .outputs) x) (has (B .outputs) x)))
   where
     go : (p q r s : Bool) → (((p || q) && not (r || s)) || (r || s)) ≡ ((p || r) || (q || s))
     go true true true true = refl
@@ -56,9 +58,21 @@ pub record Parts (A B : Automaton) (a : ℕ) (x : A .State × B .State) (C R : �
 
 module _ (A B : Automaton) (a : ℕ) where
   pub joint-parts : {s s′ : A .State} {t t′ : B .State} {C R : ℕ} → Joint A B a s t C R s′ t′ → Parts A B a (s, t) C R (s′, t′)
-  joint-parts (R1 {C = C} {R = R} h k p r) = record { guard₁ = C; guard₂ = 0; resets₁ = R; resets₂ = 0; left = goes h r; right = sits-out k p; guards = sym (or-zero-r C); sets = sym (or-zero-r R) }
-  joint-parts (R2 {C = C} {R = R} h k p r) = record { guard₁ = 0; guard₂ = C; resets₁ = 0; resets₂ = R; left = sits-out h p; right = goes k r; guards = refl; sets = refl }
-  joint-parts (R3 {C = C} {D = D} {R = R} {Q = Q} h k r q) = record { guard₁ = C; guard₂ = D; resets₁ = R; resets₂ = Q; left = goes h r; right = goes k q; guards = refl; sets = refl }
+  joint-parts (R1 {C = C} {R = R} h k p r) =
+      record {
+        guard₁ = C;
+        guard₂ = 0;
+        resets₁ = R;
+        resets₂ = 0;
+        left = goes h r;
+        right = sits-out k p;
+        guards = sym (or-zero-r C);
+        sets = sym (or-zero-r R);
+      }
+  joint-parts (R2 {C = C} {R = R} h k p r) =
+      record { guard₁ = 0; guard₂ = C; resets₁ = 0; resets₂ = R; left = sits-out h p; right = goes k r; guards = refl; sets = refl }
+  joint-parts (R3 {C = C} {D = D} {R = R} {Q = Q} h k r q) =
+      record { guard₁ = C; guard₂ = D; resets₁ = R; resets₂ = Q; left = goes h r; right = goes k q; guards = refl; sets = refl }
 
   pub go-parts : {x y : A .State × B .State} {C R : ℕ} → Go (A ⊗ B) a x C R y → Parts A B a x C R y
   go-parts (goes h r) = joint-parts r

@@ -134,11 +134,16 @@ hand-on P P′ C D R R′ x f g r h = ⊎-elim
     (λ i. or-in-r (P′ ∖ D) R′ x (r i))
     (in-or (P ∖ C) R x h)
 
--- X in state s is a side of P in state p: its rows by outputs are P's with the same guard. Where P is stable so is X, and then X's active clocks guard rows of P
+-- X in state s is a side of P in state p: its rows by outputs are P's with the same guard. Where P is stable so is X, and then X's active clocks
+-- guard rows of P
 module _ (X P : Automaton) (s : X .State) (p : P .State) (out : X .outputs ⊆ P .outputs) (ur : X .urgent ⊆ P .urgent)
     (lift : (C a R : ℕ) (t : X .State) → a ∈ X .outputs → X .Row s C a R t → (Q : ℕ) × (y : P .State) × P .Row p C a Q y) where
   pub stable-side : Stable P p → Stable X s
-  stable-side st = record { rests = λ {C} {a} {R} {t} r. st .rests (record { output = out a (r .output); urgent = ur a (r .urgent); row = lift C a R t (r .output) (r .row) .2 }) }
+  stable-side st =
+      record {
+        rests = λ {C} {a} {R} {t} r. st .rests
+            (record { output = out a (r .output); urgent = ur a (r .urgent); row = lift C a R t (r .output) (r .row) .2 });
+      }
 
   enabling-side : CondA X → OwnNames X → (x : ℕ) → Enabling X s x → Enabling P p x
   enabling-side ca o x e =
@@ -165,7 +170,8 @@ module _ (A B : Automaton) (k : Compatible A B) (ca : Constraints A) (cb : Const
   product-meets-a = record {
     unguarded = λ {C} {a} {R} {s} {t} r u.
         let p = joint-parts A B a r in
-        p .guards ∙ ap₂ _∪_ (go-unguarded A a (unclocked-left A B k a u) (ca .condA) (p .left)) (go-unguarded B a (unclocked-right A B k a u) (cb .condA) (p .right));
+        p .guards ∙ ap₂ _∪_ (go-unguarded A a (unclocked-left A B k a u) (ca .condA) (p .left))
+        (go-unguarded B a (unclocked-right A B k a u) (cb .condA) (p .right));
   }
 
   -- (e): an input of the product is no output of either side
@@ -196,7 +202,8 @@ module _ (A B : Automaton) (k : Compatible A B) (ca : Constraints A) (cb : Const
   product-meets-b : CondB (A ⊗ B)
   product-meets-b = record { guarded = λ {C} {a} {R} {s} {t} r o n. build o n (joint-parts A B a r) }
     where
-      build : {C a R : ℕ} {s t : A .State × B .State} → a ∈ A .outputs ∪ B .outputs → (a ∈ A .urgent ∪ B .urgent → ⊥) → Parts A B a s C R t → (x : ℕ) × (C ≡ only x)
+      build : {C a R : ℕ} {s t : A .State × B .State} → a ∈ A .outputs ∪ B .outputs → (a ∈ A .urgent ∪ B .urgent → ⊥) → Parts A B a s C R t
+          → (x : ℕ) × (C ≡ only x)
       build {a = a} o n p = ⊎-elim
           (λ h.
           let x = ca .condB .guarded (go-row A (or-in-r (A .inputs) (A .outputs) a h) (p .left)) h (λ u. n (or-in-l (A .urgent) (B .urgent) a u)) in
@@ -221,7 +228,8 @@ module _ (A B : Automaton) (k : Compatible A B) (ca : Constraints A) (cb : Const
   product-meets-c : CondC (A ⊗ B)
   product-meets-c = record { same = λ x {C} {D} {a} {b} {R} {Q} {s} {t} {u} h g r q. build x h g (joint-parts A B a r) (joint-parts A B b q) }
     where
-      build : {C D a b R Q : ℕ} {s t u : A .State × B .State} (x : ℕ) → x ∈ C → x ∈ D → Parts A B a s C R t → Parts A B b s D Q u → (C ≡ D) × (a ≡ b) × (R ≡ Q) × (t ≡ u)
+      build : {C D a b R Q : ℕ} {s t u : A .State × B .State} (x : ℕ) → x ∈ C → x ∈ D → Parts A B a s C R t → Parts A B b s D Q u
+          → (C ≡ D) × (a ≡ b) × (R ≡ Q) × (t ≡ u)
       build {C = C} {D = D} {a = a} {b = b} {R = R} {Q = Q} {t = t} {u = u} x h g p q = sides
           (in-or (p .guard₁) (p .guard₂) x (rw (p .guards) at h))
           (in-or (q .guard₁) (q .guard₂) x (rw (q .guards) at g))

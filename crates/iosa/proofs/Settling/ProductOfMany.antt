@@ -47,7 +47,8 @@ pub fits-on : (A B : Automaton) (cs : Model) → Fits A cs → Fits B cs → Fit
 fits-on A B [] f g = tt
 fits-on A B (c ∷ cs) f g = (compatible-goes-on A B (autoOf c) (f .0) (g .0), fits-on A B cs (f .1) (g .1))
 
-pub products-conform : (cs : Model) (A : Automaton) → OwnNames A → Conditions A → All WellComp cs → All (λ c. Conditions (autoOf c)) cs → Fits A cs → Pairwise cs
+pub products-conform : (cs : Model) (A : Automaton) → OwnNames A → Conditions A → All WellComp cs → All (λ c. Conditions (autoOf c)) cs → Fits A cs
+    → Pairwise cs
     → Conditions (productFrom A cs)
 products-conform [] A o k w al f p = k
 products-conform (c ∷ cs) A o k w al f p =

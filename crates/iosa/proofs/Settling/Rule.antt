@@ -70,7 +70,14 @@ module _ {S : Type 0} (step : S → ℕ → Option (Gone S)) where
     where
       go : (o : Option (Went S)) → lowest step s ≡ o → Ran zero s (elim o as (λ p. Settling S) [ none ↦ resting true s | some w ↦ resting false s ])
       go none h = record { run = stay; steps = refl; within = omega arith; stable = λ e. lowest-none s bd h; going = λ e. absurd (true≢false e) }
-      go (some w) h = record { run = stay; steps = refl; within = omega arith; stable = λ e. absurd (false≢true e); going = λ e. (refl, (w, lowest-some s w h .0)) }
+      go (some w) h =
+          record {
+            run = stay;
+            steps = refl;
+            within = omega arith;
+            stable = λ e. absurd (false≢true e);
+            going = λ e. (refl, (w, lowest-some s w h .0));
+          }
   settle-ran bd (suc n) s = go (settle-ran bd n) (lowest step s) refl
     where
       go : ((t : S) → Ran n t (settle step n t)) → (o : Option (Went S)) → lowest step s ≡ o

@@ -26,11 +26,14 @@ module _ {S : Type 0} (step : S → ℕ → Option (Gone S)) where
   unfolding lowest
   stuck-lowest s st = none-seek (λ a. named a (step s a)) 0 maxActions (λ a h k. rw (st a))
 
-  pub some-lowest : (s : S) (a : ℕ) (g : Gone S) → a < maxActions → step s a ≡ some g → ((b : ℕ) → b < a → step s b ≡ none) → lowest step s ≡ some (record { action = a; gone = g })
+  pub some-lowest : (s : S) (a : ℕ) (g : Gone S) → a < maxActions → step s a ≡ some g → ((b : ℕ) → b < a → step s b ≡ none)
+      → lowest step s ≡ some (record { action = a; gone = g })
   unfolding lowest
-  some-lowest s a g h e f = some-seek (λ b. named b (step s b)) 0 maxActions (record { place = a; from = omega arith; below = h; here = rw e; least = λ b p q. rw (f b q) })
+  some-lowest s a g h e f =
+      some-seek (λ b. named b (step s b)) 0 maxActions (record { place = a; from = omega arith; below = h; here = rw e; least = λ b p q. rw (f b q) })
 
-module _ (c : Comp) (cs : List Comp) (well : WellFormed (c ∷ cs)) (conf : Conforming (c ∷ cs)) (join : Joinable (c ∷ cs)) (s : List ℕ) (w : Within (c ∷ cs) s) where
+module _ (c : Comp) (cs : List Comp) (well : WellFormed (c ∷ cs)) (conf : Conforming (c ∷ cs)) (join : Joinable (c ∷ cs)) (s : List ℕ)
+    (w : Within (c ∷ cs) s) where
   pub rule-taken : (o : Option (Went (List ℕ))) → lowest (urgentStep (c ∷ cs)) s ≡ o → StepsByRule c cs s (taken s o)
   rule-taken none e = is-stable (stuck-stable c cs well conf join s w (lowest-none (urgentStep (c ∷ cs)) s (steps-are-bounded c cs well conf join) e))
   rule-taken (some v) e =
@@ -51,7 +54,8 @@ module _ (c : Comp) (cs : List Comp) (well : WellFormed (c ∷ cs)) (conf : Conf
   by-name a (some g) x e h = let p = step-is-a-row c cs well conf join s w a g e in rw (← same-answer h) (by-action (record { row = p .0; range = p .1 }))
 
   pub name-by : (a : ℕ) {x : Stepping} → StepsByName c cs s a x → takenBy (named a (urgentStep (c ∷ cs) s a)) ≡ answered x
-  name-by a (by-action {R = R} {t = t} p) = ap (λ o. takenBy (named a o)) (steps-exactly c cs well conf join s w a (record { resets = R; after = t }) .1 (p .row, p .range))
+  name-by a (by-action {R = R} {t = t} p) =
+      ap (λ o. takenBy (named a o)) (steps-exactly c cs well conf join s w a (record { resets = R; after = t }) .1 (p .row, p .range))
 
 unless-exactly : {A : Type 0} (o : Option Told) (x y : A) → (unless o x ≡ answered y) ↔ (o ≡ none) × (x ≡ y)
 unless-exactly none x y = (λ e. (refl, same-answer e), λ p. ap answered (p .1))

@@ -33,7 +33,8 @@ pub step-uout : (m : Model) (s : List ℕ) (a : ℕ) (g : Gone (List ℕ)) → u
 unfolding urgentStep
 step-uout m s a g e = go (isUout m a) refl e
   where
-    go : (u : Bool) → isUout m a ≡ u → (elim u as (λ _. Option (Gone (List ℕ))) [ true ↦ moveAll m s a | false ↦ none ]) ≡ some g → (isUout m a ≡ true) × (moveAll m s a ≡ some g)
+    go : (u : Bool) → isUout m a ≡ u → (elim u as (λ _. Option (Gone (List ℕ))) [ true ↦ moveAll m s a | false ↦ none ]) ≡ some g
+        → (isUout m a ≡ true) × (moveAll m s a ≡ some g)
     go true h e = (h, e)
     go false h e = absurd (no-some refl e)
 
@@ -53,7 +54,8 @@ embed-injective (c ∷ cs) A x y (s ∷ ss) (t ∷ ts) p q e =
     let r = embed-injective cs (A ⊗ autoOf c) (x, s) (y, t) ss ts (omega arith) (omega arith) e in
     (ap (λ z. z .0) (r .0), λ i. r .0 i .1 ∷ r .1 i)
 
-pub state-is-one-list : (c : Comp) (cs : List Comp) (s t : List ℕ) → length s ≡ length (c ∷ cs) → length t ≡ length (c ∷ cs) → stateOf c cs s ≡ stateOf c cs t → s ≡ t
+pub state-is-one-list : (c : Comp) (cs : List Comp) (s t : List ℕ) → length s ≡ length (c ∷ cs) → length t ≡ length (c ∷ cs)
+    → stateOf c cs s ≡ stateOf c cs t → s ≡ t
 state-is-one-list c cs [] t p q e = absurd (omega arith)
 state-is-one-list c cs (s ∷ ss) [] p q e = absurd (omega arith)
 state-is-one-list c cs (s ∷ ss) (t ∷ ts) p q e =
@@ -104,7 +106,8 @@ module _ (c : Comp) (cs : List Comp) (well : WellFormed (c ∷ cs)) (conf : Conf
       (record { output = o .0; urgent = o .1; row = parts-row c cs a (known a (o .0)) r }, go-within (c ∷ cs) a each-well r .1)
 
   -- every urgent row of the product computes
-  pub row-is-a-step : (s : List ℕ) → Within (c ∷ cs) s → {C a R : ℕ} (y : product c cs .State) → UrgentRow (product c cs) (stateOf c cs s) C a R y → RowStep c cs s C a R y
+  pub row-is-a-step : (s : List ℕ) → Within (c ∷ cs) s → {C a R : ℕ} (y : product c cs .State) → UrgentRow (product c cs) (stateOf c cs s) C a R y
+      → RowStep c cs s C a R y
   row-is-a-step s w {C} {a} {R} y r =
       let u = labels-uout c cs a each-well pairs (r .output) (r .urgent) in
       let p = row-parts c cs a s y (within-length (c ∷ cs) s w) (known a (r .output)) (r .row) in
@@ -124,7 +127,8 @@ module _ (c : Comp) (cs : List Comp) (well : WellFormed (c ∷ cs)) (conf : Conf
     where
       back : RowStep c cs s 0 a (g .resets) (stateOf c cs (g .after)) → Within (c ∷ cs) (g .after) → urgentStep (c ∷ cs) s a ≡ some g
       back p v =
-          let e = state-is-one-list c cs (g .after) (p .after) (within-length (c ∷ cs) (g .after) v) (within-length (c ∷ cs) (p .after) (p .within)) (p .state) in
+          let e = state-is-one-list c cs (g .after) (p .after) (within-length (c ∷ cs) (g .after) v) (within-length (c ∷ cs) (p .after) (p .within))
+          (p .state) in
           p .step ∙ (λ i. some (record { resets = g .resets; after = sym e i }))
 
   pub steps-keep-the-range : Keeps (urgentStep (c ∷ cs)) (Within (c ∷ cs))
@@ -134,7 +138,8 @@ module _ (c : Comp) (cs : List Comp) (well : WellFormed (c ∷ cs)) (conf : Conf
   steps-are-bounded s a g e = uout-below (c ∷ cs) each-well a (step-uout (c ∷ cs) s a g e .0)
 
   -- where no urgent row by a leaves, no step does
-  pub no-row-no-step : (s : List ℕ) → Within (c ∷ cs) s → (a : ℕ) → ((C R : ℕ) (y : product c cs .State) → UrgentRow (product c cs) (stateOf c cs s) C a R y → ⊥)
+  pub no-row-no-step : (s : List ℕ) → Within (c ∷ cs) s → (a : ℕ)
+      → ((C R : ℕ) (y : product c cs .State) → UrgentRow (product c cs) (stateOf c cs s) C a R y → ⊥)
       → urgentStep (c ∷ cs) s a ≡ none
   no-row-no-step s w a f = go (urgentStep (c ∷ cs) s a) refl
     where

@@ -1,7 +1,7 @@
 -- Proposition 4.2 of document 000 for a system, pair by pair: at one composed state, over composed states made of parts that count, and of reached ones.
 use mathlib.Core.Path.{refl}
 use mathlib.Core.List.{List, [], _∷_}
-use Prim.Native.Nat.{ℕ, _<_}
+use Prim.Native.Nat.{ℕ}
 use Rattle.laws.specs.Sets.{_∈_}
 use Rattle.model.specs.Model.{Comp, Model, acts, urgents}
 use Rattle.model.specs.WellFormed.{WellComp, WellFormed}

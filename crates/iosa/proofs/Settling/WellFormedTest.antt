@@ -20,7 +20,8 @@ use Rattle.model.specs.WellFormed.{WellRow, WellComp, WellFormed, before}
 
 unfoldable pub wellRow : Comp → Row → Bool
 wellRow c r = allOf (
-    ltb (r .from) (c .states) ∷ within (guardSet (r .guard)) (c .clocks) ∷ has (acts c) (r .action) ∷ within (r .resets) (c .clocks) ∷ ltb (r .target) (c .states) ∷ [])
+    ltb (r .from) (c .states) ∷ within (guardSet (r .guard)) (c .clocks) ∷ has (acts c) (r .action) ∷ within (r .resets) (c .clocks) ∷ ltb (r .target)
+    (c .states) ∷ [])
 
 abbrev pub apart : ℕ → ℕ → Bool
 apart s t = eqb (s ∩ t) 0
@@ -29,13 +30,15 @@ unfoldable pub wellComp : Comp → Bool
 wellComp c = allOf (
     leb 1 (c .states) ∷ leb (c .states) maxStates ∷ ltb (c .start) (c .states)
     ∷ ltb (c .ins) (2 ^ maxActions) ∷ ltb (c .outs) (2 ^ maxActions) ∷ ltb (c .uins) (2 ^ maxActions) ∷ ltb (c .uouts) (2 ^ maxActions)
-    ∷ apart (c .ins) (c .outs) ∷ apart (c .ins) (c .uins) ∷ apart (c .ins) (c .uouts) ∷ apart (c .outs) (c .uins) ∷ apart (c .outs) (c .uouts) ∷ apart (c .uins) (c .uouts)
+    ∷ apart (c .ins) (c .outs) ∷ apart (c .ins) (c .uins) ∷ apart (c .ins) (c .uouts) ∷ apart (c .outs) (c .uins) ∷ apart (c .outs) (c .uouts)
+    ∷ apart (c .uins) (c .uouts)
     ∷ ltb (c .clocks) (2 ^ maxClocks) ∷ within (c .started) (c .clocks)
     ∷ all (λ k. wellRow c (rowAt c k)) 0 (length (c .rows)) ∷ all (λ k. before (rowAt c k) (rowAt c (suc k))) 0 (length (c .rows) - 1) ∷ [])
 
 unfoldable pub wellFormed : Model → Bool
 wellFormed m = allOf (
-    leb 1 (length m) ∷ leb (length m) maxComponents ∷ all (λ i. wellComp (compAt m i)) 0 (length m) ∷ leb (rowCount m) maxRows ∷ leb (length (textOf m)) maxBytes ∷ [])
+    leb 1 (length m) ∷ leb (length m) maxComponents ∷ all (λ i. wellComp (compAt m i)) 0 (length m) ∷ leb (rowCount m) maxRows
+    ∷ leb (length (textOf m)) maxBytes ∷ [])
 
 well-row : (c : Comp) (r : Row) → wellRow c r ≡ true → WellRow c r
 unfolding wellRow

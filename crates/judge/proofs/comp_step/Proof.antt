@@ -18,13 +18,26 @@ returns-3 : tie.Need-returns-3
 unfolding compStep
 returns-3 c =
     let a = c .before .before .before .args in
-    rw (le-leb 1 (a .states) (c .before .before .if1 .left), le-leb (a .states) maxStates (c .before .if2 .left), le-ltb (a .start) (a .states) (c .if3 .taken), compStep)
+    rw (
+      le-leb 1 (a .states) (c .before .before .if1 .left),
+      le-leb (a .states) maxStates (c .before .if2 .left),
+      le-ltb (a .start) (a .states) (c .if3 .taken),
+      compStep,
+    )
 
 returns-4 : tie.Need-returns-4
 unfolding compStep
 returns-4 c =
-    let a = c .before .before .before .before .before .args in
-    rw (le-leb 1 (a .states) (c .before .before .before .before .if1 .left), le-leb (a .states) maxStates (c .before .before .before .if2 .left), lt-ltb (a .start) (a .states) (c .before .before .if3 .left), le-leb maxComponents (a .p .components) (c .if4 .taken), compStep)
+    let d = c .before .before .before .before in
+    let s = d .before in
+    let a = s .args in
+    rw (
+      le-leb 1 (a .states) (d .if1 .left),
+      le-leb (a .states) maxStates (c .before .before .before .if2 .left),
+      lt-ltb (a .start) (a .states) (c .before .before .if3 .left),
+      le-leb maxComponents (a .p .components) (c .if4 .taken),
+      compStep,
+    )
 
 plain-requires : tie.Need-plain-requires
 plain-requires c κs = search needs
@@ -35,8 +48,17 @@ add-t7 c = search needs
 returns-5 : tie.Need-returns-5
 unfolding compStep
 returns-5 c =
-    let a = c .before .before .before .before .before .before .before .args in
-    rw (le-leb 1 (a .states) (c .before .before .before .before .before .before .if1 .left), le-leb (a .states) maxStates (c .before .before .before .before .before .if2 .left), lt-ltb (a .start) (a .states) (c .before .before .before .before .if3 .left), lt-leb maxComponents (a .p .components) (c .before .before .if4 .left), c .before .plain .ensures, compStep)
+    let d = c .before .before .before .before in
+    let s = d .before .before .before in
+    let a = s .args in
+    rw (
+      le-leb 1 (a .states) (d .before .before .if1 .left),
+      le-leb (a .states) maxStates (d .before .if2 .left),
+      lt-ltb (a .start) (a .states) (d .if3 .left),
+      lt-leb maxComponents (a .p .components) (c .before .before .if4 .left),
+      c .before .plain .ensures,
+      compStep,
+    )
 
 pub comp-step-spec : {M : Type 1} → statement M
 comp-step-spec =

@@ -18,20 +18,43 @@ returns-2 c =
 returns-3 : tie.Need-returns-3
 unfolding inRange
 returns-3 c =
-    let a = c .before .before .before .before .before .before .args in
-    rw (lt-ltb (a .key .from) (a .states) (c .before .before .before .before .if1 .left), le-leb (a .key .guard) maxClocks (c .before .before .if2 .left), le-ltb (a .key .action) maxActions (c .if3 .taken), inRange)
+    let d = c .before .before .before .before in
+    let s = d .before .before in
+    let a = s .args in
+    rw (
+      lt-ltb (a .key .from) (a .states) (d .if1 .left),
+      le-leb (a .key .guard) maxClocks (c .before .before .if2 .left),
+      le-ltb (a .key .action) maxActions (c .if3 .taken),
+      inRange,
+    )
 
 returns-4 : tie.Need-returns-4
 unfolding inRange
 returns-4 c =
-    let a = c .before .before .before .before .before .before .before .args in
-    rw (lt-ltb (a .key .from) (a .states) (c .before .before .before .before .before .if1 .left), le-leb (a .key .guard) maxClocks (c .before .before .before .if2 .left), lt-ltb (a .key .action) maxActions (c .before .if3 .left), not-true (a .clocks) (c .if4 .taken), inRange)
+    let d = c .before .before .before .before .before in
+    let s = d .before .before in
+    let a = s .args in
+    rw (
+      lt-ltb (a .key .from) (a .states) (d .if1 .left),
+      le-leb (a .key .guard) maxClocks (c .before .before .before .if2 .left),
+      lt-ltb (a .key .action) maxActions (c .before .if3 .left),
+      not-true (a .clocks) (c .if4 .taken),
+      inRange,
+    )
 
 returns-5 : tie.Need-returns-5
 unfolding inRange
 returns-5 c =
-    let a = c .before .before .before .before .before .before .before .before .args in
-    rw (lt-ltb (a .key .from) (a .states) (c .before .before .before .before .before .before .if1 .left), le-leb (a .key .guard) maxClocks (c .before .before .before .before .if2 .left), lt-ltb (a .key .action) maxActions (c .before .before .if3 .left), not-false (a .clocks) (c .before .if4 .left), inRange)
+    let d = c .before .before .before .before in
+    let s = d .before .before .before .before in
+    let a = s .args in
+    rw (
+      lt-ltb (a .key .from) (a .states) (d .before .before .if1 .left),
+      le-leb (a .key .guard) maxClocks (d .if2 .left),
+      lt-ltb (a .key .action) maxActions (c .before .before .if3 .left),
+      not-false (a .clocks) (c .before .if4 .left),
+      inRange,
+    )
 
 pub in-range-spec : {M : Type 1} → statement M
 in-range-spec = tie.close (tie.spec returns returns-2 returns-3 returns-4 returns-5)

@@ -18,14 +18,26 @@ has-requires c κs = search needs
 
 returns-2 : tie.Need-returns-2
 unfolding named
-returns-2 c = rw (sym (c .before .before .before .guard-named .ensures) ∙ not-false _ (c .before .before .if1 .left), sym (c .before .has .ensures) ∙ not-true _ (c .if2 .taken), named)
+returns-2 c =
+    rw (
+      sym (c .before .before .before .guard-named .ensures) ∙ not-false _ (c .before .before .if1 .left),
+      sym (c .before .has .ensures) ∙ not-true _ (c .if2 .taken),
+      named,
+    )
 
 lies-in-requires : tie.Need-lies-in-requires
 lies-in-requires c κs = search needs
 
 returns-3 : tie.Need-returns-3
 unfolding named
-returns-3 c = rw (sym (c .before .before .before .before .guard-named .ensures) ∙ not-false _ (c .before .before .before .if1 .left), sym (c .before .before .has .ensures) ∙ not-false _ (c .before .if2 .left), c .lies-in .ensures, named)
+returns-3 c =
+    let d = c .before .before .before .before in
+    rw (
+      sym (d .guard-named .ensures) ∙ not-false _ (c .before .before .before .if1 .left),
+      sym (c .before .before .has .ensures) ∙ not-false _ (c .before .if2 .left),
+      c .lies-in .ensures,
+      named,
+    )
 
 pub names-all-spec : {M : Type 1} → statement M
 names-all-spec =

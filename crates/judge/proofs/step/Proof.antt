@@ -1,5 +1,5 @@
 -- `judge::step` meets its contract.
-use mathlib.Core.Path.{_≡_, sym, _∙_, ap}
+use mathlib.Core.Path.{sym, _∙_, ap}
 use Rattle.judge.specs.Judged.{stepOf, rowStep}
 use borrow.Author.Needs.{needs}
 use Rattle.judge.proofs.step.Statement.{statement}
@@ -43,10 +43,12 @@ returns-3 c = c .clk-step .ensures ∙ sym (ap (stepOf (c .before .before .befor
 
 returns-4 : tie.Need-returns-4
 returns-4 c =
-    let p = c .before .before .before .before .before .args .p in
+    let s = c .before .before .before .before .before in
+    let p = s .args .p in
     let v = c .before .before .before .l4 .given .0 in
     let r = v .1 .1 .1 .0 in
-    let g = ap (λ x. rowStep p (record { from = v .0; action = v .1 .1 .0; guard = x; resets = r .set; target = v .1 .1 .1 .1 .0 }) (r .clocks) (r .ascend)) (c .before .guard-number .ensures) in
+    let g = ap (λ x. rowStep p (record { from = v .0; action = v .1 .1 .0; guard = x; resets = r .set; target = v .1 .1 .1 .1 .0 }) (r .clocks)
+    (r .ascend)) (c .before .guard-number .ensures) in
     c .row-step .ensures ∙ g ∙ sym (ap (stepOf p) (c .before .before .before .l4 .given .1))
 
 pub step-spec : {M : Type 1} → statement M

@@ -1,12 +1,11 @@
 -- `lacking::lacking_at`: of the range of a state.
-use mathlib.Core.Path.{_≡_, _∙_, ap, ap₂}
+use mathlib.Core.Path.{_∙_, ap, ap₂}
 use native.Mathlib.Omega.{arith}
 use native.Mathlib.Numerals.{add-one}
 use denote.Ref.{now}
 use Rattle.layout.specs.Layout.{firstOf}
 use Rattle.rows.proofs.Ready.{first-ready, next-ready, range-ready, row-ready}
 use Rattle.lacking.specs.Walk.{lackIn, lackOf}
-use borrow.Author.Needs.{needs}
 use Rattle.lacking.proofs.lacking_at.Statement.{statement}
 use Rattle.lacking.proofs.lacking_at.Tie as tie
 

@@ -1,5 +1,5 @@
 -- `lacking::lacking_in`: the inputs without the actions of the range.
-use mathlib.Core.Path.{_≡_, _∙_, ap₂}
+use mathlib.Core.Path.{_∙_, ap₂}
 use Rattle.laws.specs.Sets.{_∪_, _∖_}
 use Rattle.lacking.specs.Walk.{lackIn}
 use borrow.Author.Needs.{needs}

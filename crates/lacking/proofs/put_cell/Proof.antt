@@ -1,5 +1,4 @@
 -- `lacking::put_cell`: three stores are the cell, where the walk writes.
-use mathlib.Core.Path.{_≡_, sym, _∙_}
 use native.Mathlib.Omega.{arith}
 use lib.ListN.{length-set}
 use denote.Ref.{now}

@@ -10,7 +10,6 @@ use Rattle.lacking.specs.Repair.{addedTo}
 use Rattle.lacking.specs.Walk.{outOf, walked, cellsBy}
 use Rattle.lacking.proofs.WalkLaws.{walk-room, walk-on, walk-end}
 use Rattle.lacking.proofs.LackLaws.{by-comps}
-use borrow.Author.Needs.{needs}
 use Rattle.lacking.proofs.walk.Statement.{statement}
 use Rattle.lacking.proofs.walk.Tie as tie
 
@@ -35,8 +34,7 @@ walk-component-requires c κs =
     let h = c .before .loop-test .taken in (
       s .pre .0,
       omega (arith, h, b .count-of .ensures),
-      walk-room _ (cellsBy (s .args .t .now)) (l .i) (b .count-of .result) (outOf (l .m) (l .list)) _ h
-          (l .inv .1) (s .pre .1),
+      walk-room _ (cellsBy (s .args .t .now)) (l .i) (b .count-of .result) (outOf (l .m) (l .list)) _ h (l .inv .1) (s .pre .1),
     )
 
 add-i : tie.Need-add-i Inv-loop μ-loop
@@ -57,8 +55,7 @@ loop-again c =
     let b = t .before .before in
     let s = b .before .before .before in (
       w .kept .1 .0 ∙ l .inv .0,
-      walk-on _ (cellsBy (s .args .t .now)) (l .i) (b .count-of .result) (outOf (l .m) (l .list)) _ _ (t .loop-test .taken)
-          (l .inv .1) (w .ensures),
+      walk-on _ (cellsBy (s .args .t .now)) (l .i) (b .count-of .result) (outOf (l .m) (l .list)) _ _ (t .loop-test .taken) (l .inv .1) (w .ensures),
     )
 
 same-length : tie.Need-same-length Inv-loop μ-loop

@@ -1,5 +1,5 @@
 -- `lacking::walk_action`: the cell where the set has the action.
-use mathlib.Core.Path.{_≡_, sym, _∙_, subst}
+use mathlib.Core.Path.{sym, _∙_, subst}
 use Rattle.lacking.specs.Walk.{Roomy}
 use Rattle.lacking.proofs.WalkLaws.{cell-there, cell-not}
 use borrow.Author.Needs.{needs}

@@ -1,5 +1,4 @@
 -- `lacking::walk_cell`: the cell is put, counted and measured.
-use mathlib.Core.Path.{_≡_, sym, _∙_}
 use native.Mathlib.Omega.{arith}
 use Rattle.lacking.proofs.WalkLaws.{width-is, rows-below, list-long, bytes-fit, cell-walked}
 use borrow.Author.Needs.{needs}
@@ -19,7 +18,8 @@ line-width-requires c κs = search needs
 
 add-t11 : tie.Need-add-t11
 add-t11 c =
-    let s = c .before .before .before .before .before .before .before .before in
+    let m = c .before .before .before .before .before .before in
+    let s = m .before .before in
     bytes-fit _ _ _ (s .pre .3) _ (width-is (s .args .x .component) _ _ _ (c .before .line-width .ensures))
 
 same-length : tie.Need-same-length

@@ -9,7 +9,6 @@ use Rattle.rows.proofs.Ready.{word-ready}
 use Rattle.layout.proofs.ImageIsSane.{comp-ranges}
 use Rattle.lacking.specs.Walk.{outOf, walked, lackOf, cellsIn, cellsBy}
 use Rattle.lacking.proofs.WalkLaws.{walk-room, walk-on, walk-end, by-states}
-use borrow.Author.Needs.{needs}
 use Rattle.lacking.proofs.walk_component.Statement.{statement}
 use Rattle.lacking.proofs.walk_component.Tie as tie
 

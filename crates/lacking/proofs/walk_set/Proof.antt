@@ -7,7 +7,6 @@ use Rattle.laws.specs.Fold.{spread}
 use Rattle.answer.specs.Limits.{maxActions}
 use Rattle.lacking.specs.Walk.{outOf, walked, cellIn, cellsIn}
 use Rattle.lacking.proofs.WalkLaws.{walk-room, walk-on, walk-end}
-use borrow.Author.Needs.{needs}
 use Rattle.lacking.proofs.walk_set.Statement.{statement}
 use Rattle.lacking.proofs.walk_set.Tie as tie
 
@@ -31,8 +30,7 @@ walk-action-requires c κs =
       s .pre .0,
       s .pre .1,
       h,
-      walk-room _ (cellIn (s .args .lacking) (s .args .i) (s .args .s)) (l .a) maxActions (outOf (l .m) (l .list)) _ h (l .inv .1)
-          (s .pre .2),
+      walk-room _ (cellIn (s .args .lacking) (s .args .i) (s .args .s)) (l .a) maxActions (outOf (l .m) (l .list)) _ h (l .inv .1) (s .pre .2),
     )
 
 add-a : tie.Need-add-a Inv-loop μ-loop

@@ -1,5 +1,5 @@
 -- `lacking::walk_state`: nothing where nothing lacks, else the set.
-use mathlib.Core.Path.{_≡_, sym, _∙_, ap, subst}
+use mathlib.Core.Path.{sym, _∙_, ap, subst}
 use native.Mathlib.Omega.{arith}
 use Rattle.rows.proofs.Ready.{next-ready}
 use Rattle.lacking.specs.Walk.{Roomy, walked, outOf, cellsIn}

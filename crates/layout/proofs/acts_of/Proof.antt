@@ -30,13 +30,15 @@ union-requires-3 c κs = search needs
 returns : tie.Need-returns
 unfolding compOf
 returns c =
-    let block-word = c .before .before .before .before .before .before .block-word in
-    let block-word2 = c .before .before .before .before .before .block-word2 in
-    let the-union = c .before .before .before .before .union in
+    let d = c .before .before .before .before in
+    let block-word = d .before .before .block-word in
+    let block-word2 = d .before .block-word2 in
+    let the-union = d .union in
     let block-word3 = c .before .before .before .block-word3 in
     let block-word4 = c .before .before .block-word4 in
     c .union3 .ensures
-    ∙ ap₂ bitOr (the-union .ensures ∙ ap₂ bitOr (block-word .ensures) (block-word2 .ensures)) (c .before .union2 .ensures ∙ ap₂ bitOr (block-word3 .ensures) (block-word4 .ensures))
+    ∙ ap₂ bitOr (the-union .ensures ∙ ap₂ bitOr (block-word .ensures) (block-word2 .ensures)) (c .before .union2 .ensures
+    ∙ ap₂ bitOr (block-word3 .ensures) (block-word4 .ensures))
 
 pub acts-of-spec : {M : Type 1} → statement M
 acts-of-spec =

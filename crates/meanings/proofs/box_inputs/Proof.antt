@@ -43,4 +43,5 @@ unfolding boxSet
 returns-5 c = rw (c .enum-told5 .given .1, boxSet) (c .before .before .inputs-set .ensures)
 
 pub box-inputs-spec : {M : Type 1} → statement M
-box-inputs-spec = tie.close (tie.spec inputs-set-requires enum-told enum-told-2 enum-told-3 enum-told-4 enum-told-5 returns returns-2 returns-3 returns-4 returns-5)
+box-inputs-spec =
+    tie.close (tie.spec inputs-set-requires enum-told enum-told-2 enum-told-3 enum-told-4 enum-told-5 returns returns-2 returns-3 returns-4 returns-5)

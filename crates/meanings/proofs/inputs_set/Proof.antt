@@ -1,5 +1,4 @@
 -- `meanings::inputs_set` meets its contract. The loop's invariant: the inputs so far, with those from here on, are all.
-use mathlib.Core.Path.{_∙_}
 use Prim.Native.Nat.{_-_}
 use native.Mathlib.Omega.{arith}
 use borrow.Author.Needs.{needs}
@@ -20,7 +19,11 @@ input-at-requires : tie.Need-input-at-requires Inv-loop μ-loop
 input-at-requires c κs = search needs
 
 single-requires : tie.Need-single-requires Inv-loop μ-loop
-single-requires c κs = let x = c in let l = x .before .before in let h = l .before .pre (l .loop .j) (x .before .loop-test .taken) in omega (arith, h, x .input-at .ensures)
+single-requires c κs =
+    let x = c in
+    let l = x .before .before in
+    let h = l .before .pre (l .loop .j) (x .before .loop-test .taken) in
+    omega (arith, h, x .input-at .ensures)
 
 union-requires : tie.Need-union-requires Inv-loop μ-loop
 union-requires c κs = search needs
@@ -32,7 +35,10 @@ loop-less : tie.Need-loop-less Inv-loop μ-loop
 loop-less c = search needs
 
 loop-again : tie.Need-loop-again Inv-loop μ-loop
-loop-again c = let x = c .before .before in let l = x .before .before in some-on _ _ _ (l .loop .inv) (x .before .loop-test .taken) _ _ _ (x .input-at .ensures) (c .before .single .ensures) (c .union .ensures)
+loop-again c =
+    let x = c .before .before in
+    let l = x .before .before in
+    some-on _ _ _ (l .loop .inv) (x .before .loop-test .taken) _ _ _ (x .input-at .ensures) (c .before .single .ensures) (c .union .ensures)
 
 returns : tie.Need-returns Inv-loop μ-loop
 returns c = some-ends _ _ _ (c .before .loop .inv) (c .loop-test .left)

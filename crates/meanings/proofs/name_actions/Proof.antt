@@ -1,5 +1,5 @@
 -- `meanings::name_actions` meets its contract. The loop's invariant: the words so far, with those of the lines from here on, are all.
-use mathlib.Core.Path.{_≡_, refl}
+use mathlib.Core.Path.{refl}
 use mathlib.Core.List.{List}
 use Prim.Native.Nat.{ℕ, suc, _≤_}
 use native.Mathlib.Omega.{arith}

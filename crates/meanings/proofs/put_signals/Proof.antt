@@ -1,6 +1,6 @@
 -- `meanings::put_signals` meets its contract: what is written and what is left make the whole.
-use mathlib.Core.Path.{_≡_, refl, _∙_}
-use Prim.Native.Nat.{ℕ, _+_, _-_, _≤_}
+use mathlib.Core.Path.{_≡_, refl}
+use Prim.Native.Nat.{_+_, _-_}
 use native.Mathlib.Omega.{arith}
 use lib.ListN.{length, length-set}
 use lib.Seq.{sets}
@@ -22,7 +22,9 @@ add-if1 : tie.Need-add-if1 Inv-loop μ-loop
 add-if1 c = omega (arith, c .pre .1, c .pre .2)
 
 returns : tie.Need-returns Inv-loop μ-loop
-returns c = let a = c .before .args in put-none (a .at) (tab (λ k. a .w + k) 0 (a .n)) _ (let z = tab-length (λ k. a .w + k) 0 (a .n) in omega (arith, z, c .if1 .taken))
+returns c =
+    let a = c .before .args in
+    put-none (a .at) (tab (λ k. a .w + k) 0 (a .n)) _ (let z = tab-length (λ k. a .w + k) 0 (a .n) in omega (arith, z, c .if1 .taken))
 
 loop-holds : tie.Need-loop-holds Inv-loop μ-loop
 loop-holds c = let a = c .before .args in (refl, fill-start (λ k. a .w + k) (a .at) (a .n) (a .words .now))
@@ -55,7 +57,8 @@ returns-2 : tie.Need-returns-2 Inv-loop μ-loop
 returns-2 c =
     let l = c .before .loop in
     let a = c .before .before .before .args in
-    put-all (a .at) (a .w) (a .n) _ _ (c .before .before .if1 .left) (fill-end (λ k. a .w + k) (a .at) (a .n) (l .k) (l .words) _ (c .loop-test .left) (l .inv .1))
+    put-all (a .at) (a .w) (a .n) _ _ (c .before .before .if1 .left) (fill-end (λ k. a .w + k) (a .at) (a .n) (l .k) (l .words) _ (c .loop-test .left)
+    (l .inv .1))
 
 pub put-signals-spec : {M : Type 1} → statement M
 put-signals-spec =

@@ -36,15 +36,29 @@ states-width-requires c κs = search needs
 
 add-result : tie.Need-add-result
 add-result c =
-    let s = c .before .before .before .before .before .before .before .before .before .before in
+    let d₁ = c .before .before .before .before in
+    let d₂ = d₁ .before .before .before .before in
+    let s = d₂ .before .before in
     let t = s .args .t .now in
     let i = s .args .i in
-    omega (arith, bare-most (c .before .before .before .before .before .before .before .before .block-word .result) (c .before .before .before .before .before .before .before .block-word2 .result) (c .before .before .before .before .before .before .block-word3 .result) (c .before .before .before .before .before .block-word4 .result) (c .before .before .before .before .block-word5 .result) (c .before .before .before .block-word6 .result) (c .before .before .block-word7 .result), rows-most (compOf t i .rows), rows-few t (s .pre .0) i (s .pre .1))
+    omega (
+      arith,
+      bare-most (d₂ .block-word .result) (d₁ .before .before .before .block-word2 .result) (d₁ .before .before .block-word3 .result)
+          (d₁ .before .block-word4 .result) (d₁ .block-word5 .result) (c .before .before .before .block-word6 .result)
+          (c .before .before .block-word7 .result),
+      rows-most (compOf t i .rows),
+      rows-few t (s .pre .0) i (s .pre .1),
+    )
 
 returns : tie.Need-returns
 returns c =
-    let s = c .before .before .before .before .before .before .before .before .before .before in
-    comp-counted (s .args .t .now) (s .args .i) _ _ _ _ _ _ _ _ _ (c .before .before .before .before .before .before .before .before .block-word .ensures) (c .before .before .before .before .before .before .before .block-word2 .ensures) (c .before .before .before .before .before .before .block-word3 .ensures) (c .before .before .before .before .before .block-word4 .ensures) (c .before .before .before .before .block-word5 .ensures) (c .before .before .before .block-word6 .ensures) (c .before .before .block-word7 .ensures) (c .before .head-width .ensures) (c .states-width .ensures)
+    let d₁ = c .before .before .before .before in
+    let d₂ = d₁ .before .before .before .before in
+    let s = d₂ .before .before in
+    comp-counted (s .args .t .now) (s .args .i) _ _ _ _ _ _ _ _ _ (d₂ .block-word .ensures) (d₁ .before .before .before .block-word2 .ensures)
+    (d₁ .before .before .block-word3 .ensures) (d₁ .before .block-word4 .ensures) (d₁ .block-word5 .ensures)
+    (c .before .before .before .block-word6 .ensures) (c .before .before .block-word7 .ensures) (c .before .head-width .ensures)
+    (c .states-width .ensures)
 
 pub comp-width-spec : {M : Type 1} → statement M
 comp-width-spec =

@@ -10,28 +10,56 @@ width-requires : tie.Need-width-requires
 width-requires c κs = search needs
 
 add-result : tie.Need-add-result
-add-result c = let a = c .before .args in omega (arith, bare-width (a .states) (a .start) (a .ins) (a .outs) (a .uins) (a .uouts) (a .clocks), bare-most (a .states) (a .start) (a .ins) (a .outs) (a .uins) (a .uouts) (a .clocks))
+add-result c =
+    let a = c .before .args in
+    omega (
+      arith,
+      bare-width (a .states) (a .start) (a .ins) (a .outs) (a .uins) (a .uouts) (a .clocks),
+      bare-most (a .states) (a .start) (a .ins) (a .outs) (a .uins) (a .uouts) (a .clocks),
+    )
 
 width-requires-2 : tie.Need-width-requires-2
 width-requires-2 c κs = search needs
 
 add-result-2 : tie.Need-add-result-2
-add-result-2 c = let a = c .before .before .args in omega (arith, bare-width (a .states) (a .start) (a .ins) (a .outs) (a .uins) (a .uouts) (a .clocks), bare-most (a .states) (a .start) (a .ins) (a .outs) (a .uins) (a .uouts) (a .clocks))
+add-result-2 c =
+    let a = c .before .before .args in
+    omega (
+      arith,
+      bare-width (a .states) (a .start) (a .ins) (a .outs) (a .uins) (a .uouts) (a .clocks),
+      bare-most (a .states) (a .start) (a .ins) (a .outs) (a .uins) (a .uouts) (a .clocks),
+    )
 
 kinds-width-requires : tie.Need-kinds-width-requires
 kinds-width-requires c κs = search needs
 
 add-result-3 : tie.Need-add-result-3
-add-result-3 c = let a = c .before .before .before .args in omega (arith, bare-width (a .states) (a .start) (a .ins) (a .outs) (a .uins) (a .uouts) (a .clocks), bare-most (a .states) (a .start) (a .ins) (a .outs) (a .uins) (a .uouts) (a .clocks))
+add-result-3 c =
+    let a = c .before .before .before .args in
+    omega (
+      arith,
+      bare-width (a .states) (a .start) (a .ins) (a .outs) (a .uins) (a .uouts) (a .clocks),
+      bare-most (a .states) (a .start) (a .ins) (a .outs) (a .uins) (a .uouts) (a .clocks),
+    )
 
 per-member-requires : tie.Need-per-member-requires
 per-member-requires c κs = search needs
 
 add-result-4 : tie.Need-add-result-4
-add-result-4 c = let a = c .before .before .before .before .args in omega (arith, bare-width (a .states) (a .start) (a .ins) (a .outs) (a .uins) (a .uouts) (a .clocks), bare-most (a .states) (a .start) (a .ins) (a .outs) (a .uins) (a .uouts) (a .clocks))
+add-result-4 c =
+    let s = c .before .before .before .before in
+    let a = s .args in
+    omega (
+      arith,
+      bare-width (a .states) (a .start) (a .ins) (a .outs) (a .uins) (a .uouts) (a .clocks),
+      bare-most (a .states) (a .start) (a .ins) (a .outs) (a .uins) (a .uouts) (a .clocks),
+    )
 
 returns : tie.Need-returns
-returns c = let a = c .before .before .before .before .args in omega (arith, bare-width (a .states) (a .start) (a .ins) (a .outs) (a .uins) (a .uouts) (a .clocks))
+returns c =
+    let s = c .before .before .before .before in
+    let a = s .args in
+    omega (arith, bare-width (a .states) (a .start) (a .ins) (a .outs) (a .uins) (a .uouts) (a .clocks))
 
 pub head-width-spec : {M : Type 1} → statement M
 head-width-spec =

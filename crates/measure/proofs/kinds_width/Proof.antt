@@ -38,7 +38,10 @@ per-member-requires-3 : tie.Need-per-member-requires-3
 per-member-requires-3 c κs = search needs
 
 add-result-2 : tie.Need-add-result-2
-add-result-2 c = omega (arith, members-most (c .before .before .before .before .before .before .before .args .ins) 8, members-most (c .before .before .before .minus .result) 9, members-most (c .before .minus2 .result) 9)
+add-result-2 c =
+    let m = c .before .before .before .before .before .before in
+    let s = m .before in
+    omega (arith, members-most (s .args .ins) 8, members-most (c .before .before .before .minus .result) 9, members-most (c .before .minus2 .result) 9)
 
 minus-requires-3 : tie.Need-minus-requires-3
 minus-requires-3 c κs = search needs
@@ -47,12 +50,26 @@ per-member-requires-4 : tie.Need-per-member-requires-4
 per-member-requires-4 c κs = search needs
 
 add-result-3 : tie.Need-add-result-3
-add-result-3 c = omega (arith, members-most (c .before .before .before .before .before .before .before .before .before .args .ins) 8, members-most (c .before .before .before .before .before .minus .result) 9, members-most (c .before .before .before .minus2 .result) 9, members-most (c .before .minus3 .result) 10)
+add-result-3 c =
+    let d = c .before .before .before .before .before in
+    let s = d .before .before .before .before in
+    omega (
+      arith,
+      members-most (s .args .ins) 8,
+      members-most (d .minus .result) 9,
+      members-most (c .before .before .before .minus2 .result) 9,
+      members-most (c .before .minus3 .result) 10,
+    )
 
 returns : tie.Need-returns
 returns c =
-    let a = c .before .before .before .before .before .before .before .before .before .args in
-    total (a .ins) (a .outs) (a .uins) (a .uouts) _ _ _ _ _ _ _ _ _ (c .before .before .before .before .before .before .before .before .union .ensures) (c .before .before .before .before .before .before .before .union2 .ensures) (c .before .before .before .before .before .minus .ensures) (c .before .before .before .minus2 .ensures) (c .before .minus3 .ensures) (c .before .before .before .before .before .before .per-member .ensures) (c .before .before .before .before .per-member2 .ensures) (c .before .before .per-member3 .ensures) (c .per-member4 .ensures)
+    let d₁ = c .before .before .before .before in
+    let d₂ = d₁ .before .before .before .before in
+    let s = d₂ .before in
+    let a = s .args in
+    total (a .ins) (a .outs) (a .uins) (a .uouts) _ _ _ _ _ _ _ _ _ (d₂ .union .ensures) (d₁ .before .before .before .union2 .ensures)
+    (d₁ .before .minus .ensures) (c .before .before .before .minus2 .ensures) (c .before .minus3 .ensures) (d₁ .before .before .per-member .ensures)
+    (d₁ .per-member2 .ensures) (c .before .before .per-member3 .ensures) (c .per-member4 .ensures)
 
 pub kinds-width-spec : {M : Type 1} → statement M
 kinds-width-spec =

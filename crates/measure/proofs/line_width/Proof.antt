@@ -28,7 +28,10 @@ set-width-requires : tie.Need-set-width-requires
 set-width-requires c κs = search needs
 
 add-result-4 : tie.Need-add-result-4
-add-result-4 c = let a = c .before .before .before .before .args in omega (arith, width-most (a .from), guard-most (a .guard), width-most (a .action), set-most (a .resets))
+add-result-4 c =
+    let s = c .before .before .before .before in
+    let a = s .args in
+    omega (arith, width-most (a .from), guard-most (a .guard), width-most (a .action), set-most (a .resets))
 
 width-requires-3 : tie.Need-width-requires-3
 width-requires-3 c κs = search needs

@@ -15,16 +15,31 @@ count-requires : tie.Need-count-requires
 count-requires c κs = search needs
 
 mul-result : tie.Need-mul-result
-mul-result c = omega (arith, counted-most (c .before .args .s) (c .before .args .beside) (c .count .result) (sizeOf (bitAnd (c .before .args .s) low)) (c .count .ensures) refl (omega arith))
+mul-result c =
+    omega (
+      arith,
+      counted-most (c .before .args .s) (c .before .args .beside) (c .count .result) (sizeOf (bitAnd (c .before .args .s) low)) (c .count .ensures)
+          refl (omega arith),
+    )
 
 count-requires-2 : tie.Need-count-requires-2
 count-requires-2 c κs = search needs
 
 sub-result : tie.Need-sub-result
-sub-result c = omega (arith, counted (c .before .before .args .s) (c .before .before .args .beside) (c .before .count .result) (c .count2 .result) (c .before .count .ensures) (c .count2 .ensures))
+sub-result c =
+    let start = c .before .before in
+    omega (
+      arith,
+      counted (start .args .s) (start .args .beside) (c .before .count .result) (c .count2 .result) (c .before .count .ensures) (c .count2 .ensures),
+    )
 
 returns : tie.Need-returns
-returns c = omega (arith, counted (c .before .before .args .s) (c .before .before .args .beside) (c .before .count .result) (c .count2 .result) (c .before .count .ensures) (c .count2 .ensures))
+returns c =
+    let start = c .before .before in
+    omega (
+      arith,
+      counted (start .args .s) (start .args .beside) (c .before .count .result) (c .count2 .result) (c .before .count .ensures) (c .count2 .ensures),
+    )
 
 pub per-member-spec : {M : Type 1} → statement M
 per-member-spec =

@@ -22,7 +22,12 @@ line-width-requires c κs = search needs
 returns : tie.Need-returns
 returns c =
     let d = c .before in
-    c .line-width .ensures ∙ rw (d .target-at .ensures, d .before .resets-at .ensures, d .before .before .action-at .ensures, d .before .before .before .guard-at .ensures)
+    c .line-width .ensures ∙ rw (
+      d .target-at .ensures,
+      d .before .resets-at .ensures,
+      d .before .before .action-at .ensures,
+      d .before .before .before .guard-at .ensures,
+    )
 
 pub row-width-spec : {M : Type 1} → statement M
 row-width-spec =

@@ -15,7 +15,8 @@ use Rattle.measure.proofs.states_width.Tie as tie
 
 -- one turn: the rows that leave state s, and those behind them
 turn : (t : List ℕ) (i s states lo hi : ℕ) → s < states → lo ≡ firstOf t i s → hi ≡ firstOf t i (s + 1)
-    → length (rowLines (spread (rowsLeaving t i) s (states - s))) ≡ length (rowLines (tab (rowIn t s) lo (hi - lo))) + length (rowLines (spread (rowsLeaving t i) (s + 1) (states - (s + 1))))
+    → length (rowLines (spread (rowsLeaving t i) s (states - s))) ≡ length (rowLines (tab (rowIn t s) lo (hi - lo))) + length
+    (rowLines (spread (rowsLeaving t i) (s + 1) (states - (s + 1))))
 turn t i s states lo hi h p q = omega (arith, ranges-next (rowsLeaving t i) s states h, leaving-is t i s lo hi p q)
 
 abbrev Inv-loop : tie.InvT-loop
@@ -55,10 +56,16 @@ rows-width-requires c κs =
 
 add-sum : tie.Need-add-sum Inv-loop μ-loop
 add-sum c =
-    let s0 = c .before .before .before .before .before .before .before in
+    let m = c .before .before .before .before .before .before in
+    let s0 = m .before in
     let t = s0 .args .t .now in
     let i = s0 .args .i in
-    omega (arith, turn t i _ _ _ _ (c .before .before .before .loop-test .taken) (c .before .before .first-of .ensures) (c .before .first-of2 .ensures), rows-most (compOf t i .rows), rows-few t (s0 .pre .0) i (s0 .pre .1))
+    omega (
+      arith,
+      turn t i _ _ _ _ (c .before .before .before .loop-test .taken) (c .before .before .first-of .ensures) (c .before .first-of2 .ensures),
+      rows-most (compOf t i .rows),
+      rows-few t (s0 .pre .0) i (s0 .pre .1),
+    )
 
 add-s : tie.Need-add-s Inv-loop μ-loop
 add-s c = omega arith
@@ -68,8 +75,13 @@ loop-less c = omega arith
 
 loop-again : tie.Need-loop-again Inv-loop μ-loop
 loop-again c =
-    let s0 = c .before .before .before .before .before .before .before in
-    omega (arith, turn (s0 .args .t .now) (s0 .args .i) _ _ _ _ (c .before .before .before .loop-test .taken) (c .before .before .first-of .ensures) (c .before .first-of2 .ensures))
+    let m = c .before .before .before .before .before .before in
+    let s0 = m .before in
+    omega (
+      arith,
+      turn (s0 .args .t .now) (s0 .args .i) _ _ _ _ (c .before .before .before .loop-test .taken) (c .before .before .first-of .ensures)
+          (c .before .first-of2 .ensures),
+    )
 
 returns : tie.Need-returns Inv-loop μ-loop
 returns c =

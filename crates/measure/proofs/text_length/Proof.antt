@@ -49,7 +49,9 @@ loop-again c =
     omega (arith, comps-next (compOf (args .t .now)) (loop .i) (count-of .result) (c .before .loop-test .taken))
 
 returns : tie.Need-returns Inv-loop μ-loop
-returns c = omega (arith, comps-done (compOf (c .before .before .before .before .args .t .now)) (c .before .loop .i) (c .before .before .count-of .result) (c .loop-test .left))
+returns c =
+    let s = c .before .before .before .before in
+    omega (arith, comps-done (compOf (s .args .t .now)) (c .before .loop .i) (c .before .before .count-of .result) (c .loop-test .left))
 
 pub text-length-spec : {M : Type 1} → statement M
 text-length-spec =

@@ -20,7 +20,8 @@ enum-known-written c = search needs
 
 put-refusal-requires : tie.Need-put-refusal-requires
 put-refusal-requires c κs =
-    let r = c .before .before .before .before .before .before .before in
+    let m = c .before .before .before .before .before .before in
+    let r = m .before in
     r .before .before .before .before .before .before .pre .1
 
 enum-told : tie.Need-enum-told
@@ -28,7 +29,8 @@ enum-told c = search needs
 
 put-model-requires : tie.Need-put-model-requires
 put-model-requires c κs =
-    let r = c .before .before .before .before .before .before .before in
+    let m = c .before .before .before .before .before .before in
+    let r = m .before in
     let l = r .before .before .before in
     let s = l .before .before .before in
     let p = repair-fine _ _ _ _ (s .pre .0) (l .empty-list .ensures) _ _ (c .before .before .enum-told .given .1) (r .repair .ensures) in

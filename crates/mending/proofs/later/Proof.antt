@@ -1,5 +1,5 @@
 -- `mending::later`: the lowest member taken off, where there is one.
-use mathlib.Core.Path.{_≡_, sym, _∙_, ap}
+use mathlib.Core.Path.{_∙_, ap}
 use native.Mathlib.Omega.{arith}
 use Rattle.laws.specs.Sets.{_∖_, only}
 use Rattle.mending.specs.Weave.{later}

@@ -1,7 +1,6 @@
 -- `mending::mend`: raised, and put.
-use mathlib.Core.Path.{_≡_, _∙_}
+use mathlib.Core.Path.{_∙_}
 use native.Mathlib.Omega.{arith}
-use denote.Ref.{now}
 use Rattle.layout.proofs.RowsOfRange.{well-formed}
 use Rattle.lacking.proofs.Counts.{repaired-row-count}
 use Rattle.mending.proofs.Whole.{begun, begun-new}

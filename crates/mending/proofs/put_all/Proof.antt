@@ -8,7 +8,6 @@ use Rattle.layout.specs.Layout.{countOf}
 use Rattle.layout.proofs.ImageIsSane.{count-below}
 use Rattle.mending.specs.Standing.{AtStart, Reached}
 use Rattle.mending.proofs.Whole.{start-long, count-read, at-first, at-comp, past-comp, whole}
-use borrow.Author.Needs.{needs}
 use Rattle.mending.proofs.put_all.Statement.{statement}
 use Rattle.mending.proofs.put_all.Tie as tie
 

@@ -6,7 +6,6 @@ use lib.ListN.{length}
 use Rattle.layout.specs.Layout.{blockWord}
 use Rattle.mending.specs.Standing.{AtComp}
 use Rattle.mending.proofs.Whole.{Within, within-first, at-state, past-state, comp-done, comp-long, comp-few, comp-states, states-read}
-use borrow.Author.Needs.{needs}
 use Rattle.mending.proofs.put_component.Statement.{statement}
 use Rattle.mending.proofs.put_component.Tie as tie
 

@@ -1,5 +1,5 @@
 -- `mending::put_next`: the row or the loop.
-use mathlib.Core.Path.{_≡_, sym, _∙_}
+use mathlib.Core.Path.{sym, _∙_}
 use native.Mathlib.Omega.{arith}
 use denote.Ref.{now}
 use Rattle.mending.proofs.Stepwise.{takes-below, put-taken, put-loop}

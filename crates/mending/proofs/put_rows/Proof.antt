@@ -5,7 +5,6 @@ use native.Mathlib.Omega.{arith}
 use lib.ListN.{length}
 use Rattle.mending.specs.Weave.{weave}
 use Rattle.mending.proofs.Stepwise.{weave-on, weave-end}
-use borrow.Author.Needs.{needs}
 use Rattle.mending.proofs.put_rows.Statement.{statement}
 use Rattle.mending.proofs.put_rows.Tie as tie
 
@@ -40,8 +39,7 @@ loop-again c =
     let s = t .before .before .before in (
       q .kept .0 ∙ l .inv .0,
       omega (arith, l .inv .1),
-      sym (weave-on (s .args .s) (s .args .hi) (l .v) (s .args .end) (l .t) _ (l .y) _ (t .loop-test .taken)
-          (q .ensures)) ∙ l .inv .2,
+      sym (weave-on (s .args .s) (s .args .hi) (l .v) (s .args .end) (l .t) _ (l .y) _ (t .loop-test .taken) (q .ensures)) ∙ l .inv .2,
     )
 
 same-length : tie.Need-same-length Inv-loop μ-loop

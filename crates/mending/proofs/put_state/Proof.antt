@@ -33,15 +33,19 @@ lacking-in-requires c κs =
 
 sub-end : tie.Need-sub-end
 sub-end c =
-    let p = c .before .before .before .before .before .before .before .pre in
-    omega (arith, c .before .before .before .before .first-of .ensures, c .before .before .first-of2 .ensures, first-read p, next-read p, upward p)
+    let d = c .before .before .before .before in
+    let s = d .before .before .before in
+    let p = s .pre in
+    omega (arith, d .first-of .ensures, c .before .before .first-of2 .ensures, first-read p, next-read p, upward p)
 
 add-end : tie.Need-add-end
 add-end c =
-    let p = c .before .before .before .before .before .before .before .pre in
+    let d = c .before .before .before .before in
+    let s = d .before .before .before in
+    let p = s .pre in
     omega (
       arith,
-      c .before .before .before .before .first-of .ensures,
+      d .first-of .ensures,
       c .before .before .first-of2 .ensures,
       first-read p,
       next-read p,

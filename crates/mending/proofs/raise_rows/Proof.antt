@@ -1,11 +1,6 @@
 -- `mending::raise_rows`: as many rows as the last component ends at.
-use mathlib.Core.Path.{_≡_, ap}
-use Prim.Native.Nat.{ℕ, _+_, _*_}
 use native.Mathlib.Omega.{arith}
-use denote.Ref.{now}
-use Rattle.layout.specs.Layout.{rowWords, rowsAt, imageWords}
 use Rattle.layout.proofs.ImageIsSane.{image-long, comp-ranges}
-use Rattle.mending.specs.Raised.{Raised}
 use Rattle.mending.proofs.Whole.{total-rows, last-inside}
 use borrow.Author.Needs.{needs}
 use Rattle.mending.proofs.raise_rows.Statement.{statement}
@@ -30,8 +25,9 @@ first-of-requires c κs =
 
 mul-raise : tie.Need-mul-raise
 mul-raise c =
-    let s = c .before .before .before .before .before .before .before .before in
-    let e = total-rows _ (s .pre .0) _ _ _ (c .before .before .before .before .before .count-of .ensures) (c .before .before .before .block-word .ensures)
+    let d = c .before .before .before .before .before in
+    let s = d .before .before .before in
+    let e = total-rows _ (s .pre .0) _ _ _ (d .count-of .ensures) (c .before .before .before .block-word .ensures)
     (c .before .first-of .ensures) in
     omega (arith, e, s .pre .1)
 
@@ -40,8 +36,9 @@ mul-raise-2 c = search needs
 
 raise-requires : tie.Need-raise-requires
 raise-requires c κs =
-    let s = c .before .before .before .before .before .before .before .before in
-    let e = total-rows _ (s .pre .0) _ _ _ (c .before .before .before .before .before .count-of .ensures) (c .before .before .before .block-word .ensures)
+    let d = c .before .before .before .before .before in
+    let s = d .before .before .before in
+    let e = total-rows _ (s .pre .0) _ _ _ (d .count-of .ensures) (c .before .before .before .block-word .ensures)
     (c .before .first-of .ensures) in
     (omega (arith, e, s .pre .1, image-long _ (s .pre .0)), omega (arith, e, s .pre .1))
 

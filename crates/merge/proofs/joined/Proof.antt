@@ -31,13 +31,16 @@ refused-requires c κs = search needs
 
 returns-4 : tie.Need-returns-4
 returns-4 c =
-    let s0 = c .before .before .before .before .before .before .before .before .before .before .before .before .before .before .before in
-    let z = c .before .before .before .before .before .before .before .before .size-of in
-    let one = c .before .before .before .before .before .before .before .before .before .before .before .if1 .left in
-    let two = c .before .before .before .before .before .before .before .before .before .before .if2 .left in
-    let next : suc (s0 .args .i) < countOf (now (s0 .args .t)) = omega (arith, c .before .before .before .before .before .before .before .before .before .before .before .before .count-of .ensures, one, two) in
+    let d₁ = c .before .before .before .before in
+    let d₂ = d₁ .before .before .before .before in
+    let d₃ = d₂ .before .before .before .before in
+    let s0 = d₃ .before .before .before in
+    let z = d₂ .size-of in
+    let one = d₂ .before .before .before .if1 .left in
+    let two = d₂ .before .before .if2 .left in
+    let next : suc (s0 .args .i) < countOf (now (s0 .args .t)) = omega (arith, d₃ .count-of .ensures, one, two) in
     let room : imageWords ≤ length (now (s0 .args .into)) = omega (arith, one, two) in
-    let f = z .ensures .0 .fits (not-false _ (c .before .before .before .before .if3 .left)) in
+    let f = z .ensures .0 .fits (not-false _ (d₁ .if3 .left)) in
     is-merged-model (now (s0 .args .t)) (s0 .args .i) (now (s0 .args .into)) (s0 .pre .0) (s0 .pre .1) room next (f .0) _
     (c .before .before .put-merged .ensures ∙ ap (λ l. sets l 0 (imageOf (mergedAt (modelOf (now (s0 .args .t))) (s0 .args .i)))) (z .ensures .1))
 
@@ -66,19 +69,30 @@ same-length c = search needs
 
 returns-3 : tie.Need-returns-3
 returns-3 c =
-    let s0 = c .before .before .before .before .before .before .before .before .before .before .before .before in
-    let z = c .before .before .before .before .before .size-of in
-    let next : suc (s0 .args .i) < countOf (now (s0 .args .t)) = omega (arith, c .before .before .before .before .before .before .before .before .before .count-of .ensures, c .before .before .before .before .before .before .before .if2 .left) in
+    let d₁ = c .before .before .before .before .before in
+    let d₂ = d₁ .before .before .before .before in
+    let s0 = d₂ .before .before .before in
+    let z = d₁ .size-of in
+    let next : suc (s0 .args .i) < countOf (now (s0 .args .t)) = omega (arith, d₂ .count-of .ensures, d₁ .before .before .if2 .left) in
     stays (now (s0 .args .t)) (s0 .args .i) (now (s0 .args .into)) _ _ (z .ensures .1)
-    (is-big (now (s0 .args .t)) (s0 .args .i) (now (s0 .args .into)) (s0 .pre .0) (s0 .pre .1) (c .before .before .before .before .before .before .before .before .if1 .left) next (z .ensures .0 .big (not-true _ (c .before .if3 .taken))) _ (c .refused3 .ensures))
+    (is-big (now (s0 .args .t)) (s0 .args .i) (now (s0 .args .into)) (s0 .pre .0) (s0 .pre .1) (d₁ .before .before .before .if1 .left) next
+    (z .ensures .0 .big (not-true _ (c .before .if3 .taken))) _ (c .refused3 .ensures))
 
 put-merged-requires : tie.Need-put-merged-requires
 put-merged-requires c κs =
-    let s0 = c .before .before .before .before .before .before .before .before .before .before .before .before in
-    let z = c .before .before .before .before .before .size-of in
-    let next : suc (s0 .args .i) < countOf (now (s0 .args .t)) = omega (arith, c .before .before .before .before .before .before .before .before .before .count-of .ensures, c .before .before .before .before .before .before .before .if2 .left) in
-    let f = z .ensures .0 .fits (not-false _ (c .before .if3 .left)) in
-    (s0 .pre .0, omega (arith, next), omega (arith, ap length (z .ensures .1), c .before .before .before .before .before .before .before .before .if1 .left), few-states (now (s0 .args .t)) (s0 .args .i) next (f .0), f .1, f .0 .rows)
+    let d₁ = c .before .before .before .before .before in
+    let d₂ = d₁ .before .before .before .before in
+    let s0 = d₂ .before .before .before in
+    let z = d₁ .size-of in
+    let next : suc (s0 .args .i) < countOf (now (s0 .args .t)) = omega (arith, d₂ .count-of .ensures, d₁ .before .before .if2 .left) in
+    let f = z .ensures .0 .fits (not-false _ (c .before .if3 .left)) in (
+      s0 .pre .0,
+      omega (arith, next),
+      omega (arith, ap length (z .ensures .1), d₁ .before .before .before .if1 .left),
+      few-states (now (s0 .args .t)) (s0 .args .i) next (f .0),
+      f .1,
+      f .0 .rows,
+    )
 
 same-length-2 : tie.Need-same-length-2
 same-length-2 c = search needs

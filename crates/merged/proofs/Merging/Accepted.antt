@@ -21,7 +21,8 @@ use Rattle.merged.proofs.Merging.Conforms.{merged-conforms}
 use Rattle.merged.proofs.Merging.Models.{merge-answered, merging-is-exact}
 
 -- compatibility is a matter of labels
-relabelled : (A B D : Automaton) → A .inputs ≡ B .inputs → A .outputs ≡ B .outputs → A .urgent ≡ B .urgent → A .clocks ≡ B .clocks → Compatible B D → Compatible A D
+relabelled : (A B D : Automaton) → A .inputs ≡ B .inputs → A .outputs ≡ B .outputs → A .urgent ≡ B .urgent → A .clocks ≡ B .clocks → Compatible B D
+    → Compatible A D
 relabelled A B D i o u k j = record {
   outputs = rw o (j .outputs);
   clocks = rw k (j .clocks);
@@ -30,10 +31,12 @@ relabelled A B D i o u k j = record {
 }
 
 module _ (m : Model) (i : ℕ) (n : Model) (w : WellFormed m) (o : Conforming m) (j : Joinable m) (r : MergedModel m i n) where
-  merged-compatible : (X : Automaton) → Compatible (autoOf (compAt m i)) X → Compatible (autoOf (compAt m (suc i))) X → Compatible (autoOf (merged (compAt m i) (compAt m (suc i)))) X
+  merged-compatible : (X : Automaton) → Compatible (autoOf (compAt m i)) X → Compatible (autoOf (compAt m (suc i))) X
+      → Compatible (autoOf (merged (compAt m i) (compAt m (suc i)))) X
   merged-compatible X p q =
       let e = r .exact in
-      relabelled (autoOf (merged (compAt m i) (compAt m (suc i)))) (autoOf (compAt m i) ⊗ autoOf (compAt m (suc i))) X (e .ins) (e .outs) (e .urgent) (e .clocks)
+      relabelled (autoOf (merged (compAt m i) (compAt m (suc i)))) (autoOf (compAt m i) ⊗ autoOf (compAt m (suc i))) X (e .ins) (e .outs) (e .urgent)
+      (e .clocks)
       (compatible-goes-on (autoOf (compAt m i)) (autoOf (compAt m (suc i))) X p q)
 
   below : i < length m
@@ -42,7 +45,8 @@ module _ (m : Model) (i : ℕ) (n : Model) (w : WellFormed m) (o : Conforming m)
   each-again : (k : ℕ) → k < length n → Conditions (autoOf (compAt n k))
   each-again k h =
       apart-cases k i
-      (λ e. rw (e, r .here) (merged-conforms (compAt m i) (compAt m (suc i)) (w .each i below) (w .each (suc i) (r .neighbour)) (o .each i below) (o .each (suc i) (r .neighbour)) (j .pair i (suc i) (omega arith) (r .neighbour))))
+      (λ e. rw (e, r .here) (merged-conforms (compAt m i) (compAt m (suc i)) (w .each i below) (w .each (suc i) (r .neighbour)) (o .each i below)
+      (o .each (suc i) (r .neighbour)) (j .pair i (suc i) (omega arith) (r .neighbour))))
       (λ l. rw (r .before k l) (o .each k (omega (arith, below))))
       (λ l. rw (r .after k l) (o .each (suc k) (omega (arith, r .fewer))))
 

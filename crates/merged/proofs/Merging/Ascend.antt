@@ -1,13 +1,11 @@
 -- The rows of the merged component "ascend strictly by from, action, guard, resets, target".
 use mathlib.Core.Path.{_≡_, refl, sym, _∙_, ap}
-use mathlib.Core.Logic.{_⊎_, inl, inr, ⊎-elim}
+use mathlib.Core.Logic.{⊎-elim}
 use mathlib.Core.Bool.{Bool, true, false, cond, true≢false, false≢true}
 use mathlib.Core.List.{List, [], _∷_, map, List·Memᴰ as In, List·Memᴰ·head as here, List·Memᴰ·tail as there}
 use Prim.Native.Nat.{ℕ, suc, _+_, _≤_, _<_}
 use native.Mathlib.Omega.{arith}
 use native.Mathlib.Nat.{mul-le-mul-right}
-use lib.Dec.{eqb, ltb}
-use borrow.Author.Tests.{eqb-true, eq-eqb, ne-eqb, ltb-true, lt-ltb}
 use Rattle.laws.specs.Sets.{has, _∈_}
 use Rattle.laws.specs.Fold.{spread}
 use Rattle.laws.proofs.SetLaws.{in-or, or-in-l, or-in-r, in-one}
@@ -121,7 +119,8 @@ module _ (c : Comp) (o : Conditions (autoOf c)) (s a : ℕ) where
       single : a ∈ unclocked c → ⊥
       single u =
           let e = o .condE .same u lr lq in
-          not-before r q b same-from (guard-zero (r .guard) (o .condA .unguarded lr u) ∙ sym (guard-zero (q .guard) (o .condA .unguarded lq u))) same-action (e .1) (e .2)
+          not-before r q b same-from (guard-zero (r .guard) (o .condA .unguarded lr u) ∙ sym (guard-zero (q .guard) (o .condA .unguarded lq u)))
+          same-action (e .1) (e .2)
 
       less : (x y : ℕ) → r .guard ≡ suc x → q .guard ≡ suc y → x < y
       less x y e f =
@@ -137,7 +136,8 @@ module _ (c : Comp) (o : Conditions (autoOf c)) (s a : ℕ) where
       go : (v : Bool) → has (unclocked c) a ≡ v → Clocked c a r q
       go true u = absurd (single u)
       go false u =
-          let out : a ∈ outputs c = ⊎-elim (λ i. absurd (true≢false (sym (or-in-l (inputs c) (urgents c) a i) ∙ u))) (λ p. p) (in-or (inputs c) (outputs c) a h) in
+          let out : a ∈ outputs c = ⊎-elim (λ i. absurd (true≢false (sym (or-in-l (inputs c) (urgents c) a i) ∙ u))) (λ p. p)
+          (in-or (inputs c) (outputs c) a h) in
           let calm : a ∈ urgents c → ⊥ = λ i. true≢false (sym (or-in-r (inputs c) (urgents c) a i) ∙ u) in
           let x = o .condB .guarded lr out calm in
           let y = o .condB .guarded lq out calm in
@@ -206,16 +206,20 @@ module _ (c d : Comp) (wc : WellComp c) (wd : WellComp d) (oc : Conditions (auto
           let z = two-rows-have-clocks c oc s a h m m′ b in
           let e = clock-stands (r .guard) (q .guard) (z .x) (z .first) in
           let f = clock-stands (r′ .guard) (q′ .guard) (z .y) (z .second) in
-          by-guard (bothMove d s t r q) (bothMove d s t r′ q′) refl (rows-by-in (c .rows) s a m .2 ∙ sym (rows-by-in (c .rows) s a m′ .2)) (omega (arith, e, f, z .less))
+          by-guard (bothMove d s t r q) (bothMove d s t r′ q′) refl (rows-by-in (c .rows) s a m .2 ∙ sym (rows-by-in (c .rows) s a m′ .2))
+          (omega (arith, e, f, z .less))
 
   pair-rows-ascend : (s t a : ℕ) → Ascending (pairRows c d s t a)
   unfolding pairRows moved
   pair-rows-ascend s t a = go (has (acts c) a) (has (acts d) a) refl refl
     where
       go : (b e : Bool) → has (acts c) a ≡ b → has (acts d) a ≡ e
-          → Ascending (cond b (cond e (eachWith d s t (rowsBy (c .rows) s a) (rowsBy (d .rows) t a)) (map (firstMoves d s t) (rowsBy (c .rows) s a))) (cond e (map (secondMoves d s t) (rowsBy (d .rows) t a)) []))
+          → Ascending (cond b (cond e (eachWith d s t (rowsBy (c .rows) s a) (rowsBy (d .rows) t a)) (map (firstMoves d s t) (rowsBy (c .rows) s a)))
+          (cond e (map (secondMoves d s t) (rowsBy (d .rows) t a)) []))
       go true true h k = both-ascend s t a h k
-      go true false h k = moved-ascend (pairOf d s t) (λ u. pairOf d u t) (λ u v n. omega (arith, mul-le-mul-right (d .states) n, wd .some)) (c .rows) s a (rows-ascending c wc)
+      go true false h k =
+          moved-ascend (pairOf d s t) (λ u. pairOf d u t) (λ u v n. omega (arith, mul-le-mul-right (d .states) n, wd .some)) (c .rows) s a
+          (rows-ascending c wc)
       go false true h k = moved-ascend (pairOf d s t) (λ u. pairOf d s u) (λ u v n. omega arith) (d .rows) t a (rows-ascending d wd)
       go false false h k = tt
 
@@ -226,7 +230,8 @@ module _ (c d : Comp) (wc : WellComp c) (wd : WellComp d) (oc : Conditions (auto
   rows-from-pair : (s t : ℕ) {x : Row} → s < c .states → t < d .states → In x (spread (pairRows c d s t) 0 maxActions) → x .from ≡ pairOf d s t
   rows-from-pair s t hs ht m = let p = spread-in (pairRows c d s t) 0 maxActions m in leaves-pair s t (p .0) hs ht (p .3) .0
 
-  rows-from-first : (s : ℕ) {x : Row} → s < c .states → In x (spread (λ t. spread (pairRows c d s t) 0 maxActions) 0 (d .states)) → (t : ℕ) × (t < d .states) × (x .from ≡ pairOf d s t)
+  rows-from-first : (s : ℕ) {x : Row} → s < c .states → In x (spread (λ t. spread (pairRows c d s t) 0 maxActions) 0 (d .states))
+      → (t : ℕ) × (t < d .states) × (x .from ≡ pairOf d s t)
   rows-from-first s hs m =
       let p = spread-in (λ t. spread (pairRows c d s t) 0 maxActions) 0 (d .states) m in
       let ht : p .0 < d .states = omega (arith, p .2) in
@@ -243,11 +248,14 @@ module _ (c d : Comp) (wc : WellComp c) (wd : WellComp d) (oc : Conditions (auto
           by-action x y (e .0 ∙ sym (f .0)) (omega (arith, e .1, f .1, h)))
 
       of-first : (s : ℕ) → 0 ≤ s → s < 0 + c .states → Ascending (spread (λ t. spread (pairRows c d s t) 0 maxActions) 0 (d .states))
-      of-first s z hs = pairwise-spread Before (λ t. spread (pairRows c d s t) 0 maxActions) 0 (d .states) (λ t p q. of-pair s t (omega arith) (omega arith)) (λ t u x y p h q m n.
+      of-first s z hs =
+          pairwise-spread Before (λ t. spread (pairRows c d s t) 0 maxActions) 0 (d .states) (λ t p q. of-pair s t (omega arith) (omega arith))
+          (λ t u x y p h q m n.
           by-from x y (omega (arith, rows-from-pair s t (omega arith) (omega arith) m, rows-from-pair s u (omega arith) (omega arith) n, h)))
 
       by-first : (s u : ℕ) (x y : Row) → 0 ≤ s → s < u → u < 0 + c .states
-          → In x (spread (λ t. spread (pairRows c d s t) 0 maxActions) 0 (d .states)) → In y (spread (λ t. spread (pairRows c d u t) 0 maxActions) 0 (d .states)) → Before x y
+          → In x (spread (λ t. spread (pairRows c d s t) 0 maxActions) 0 (d .states))
+          → In y (spread (λ t. spread (pairRows c d u t) 0 maxActions) 0 (d .states)) → Before x y
       by-first s u x y z h hu m n =
           let e = rows-from-first s (omega arith) m in
           let f = rows-from-first u (omega arith) n in

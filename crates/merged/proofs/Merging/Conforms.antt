@@ -56,23 +56,40 @@ module _ (c d : Comp) (wc : WellComp c) (wd : WellComp d) (oc : Conditions (auto
   unclocked-labels = ap₂ _∪_ (merged-inputs c d wc wd j) (merged-urgent c d)
 
   to-enabling : (x y : ℕ) → Enabling (autoOf (merged c d)) x y → Enabling (autoOf c ⊗ autoOf d) (pair x) y
-  to-enabling x y e = record { guard = e .guard; action = e .action; resets = e .resets; target = pair (e .target); guards = e .guards; row = to-product (e .row) }
+  to-enabling x y e =
+      record { guard = e .guard; action = e .action; resets = e .resets; target = pair (e .target); guards = e .guards; row = to-product (e .row) }
 
   to-stable : (x : ℕ) → Stable (autoOf (merged c d)) x → Stable (autoOf c ⊗ autoOf d) (pair x)
   to-stable x st = record {
-    rests = λ {C} {a} {R} {t} u. st .rests (record { output = rw (merged-outputs c d) (u .output); urgent = rw (merged-urgent c d) (u .urgent); row = to-merged x t (u .row) });
+    rests =
+        λ {C} {a} {R} {t} u. st .rests (record {
+          output = rw (merged-outputs c d) (u .output);
+          urgent = rw (merged-urgent c d) (u .urgent);
+          row = to-merged x t (u .row);
+        });
   }
 
   to-merged-enabling : (x y : ℕ) → Enabling (autoOf c ⊗ autoOf d) (pair x) y → Enabling (autoOf (merged c d)) x y
   to-merged-enabling x y e =
-      record { guard = e .guard; action = e .action; resets = e .resets; target = pairOf d (e .target .0) (e .target .1); guards = e .guards; row = to-merged x (e .target) (e .row) }
+      record {
+        guard = e .guard;
+        action = e .action;
+        resets = e .resets;
+        target = pairOf d (e .target .0) (e .target .1);
+        guards = e .guards;
+        row = to-merged x (e .target) (e .row);
+      }
 
   -- (f): the product's sets, of the pair that a number stands for
   active-again : (f : ℕ × ℕ → ℕ) → Active (autoOf c ⊗ autoOf d) f → Active (autoOf (merged c d)) (λ x. f (pair x))
   unfolding merged
   active-again f act = record {
     own = λ s ok. act .own (pair s) (pair-below s ok);
-    first = rw (number-pair (pairOf d (c .start) (d .start)) (c .start) (d .start) (wd .start) refl .0, number-pair (pairOf d (c .start) (d .start)) (c .start) (d .start) (wd .start) refl .1) (act .first);
+    first =
+        rw (
+          number-pair (pairOf d (c .start) (d .start)) (c .start) (d .start) (wd .start) refl .0,
+          number-pair (pairOf d (c .start) (d .start)) (c .start) (d .start) (wd .start) refl .1,
+        ) (act .first);
     enabled = λ s ok x e. act .enabled (pair s) (pair-below s ok) x (to-enabling s x e);
     equal = λ s ok st x h. to-merged-enabling s x (act .equal (pair s) (pair-below s ok) (to-stable s st) x h);
     kept = λ {C} {a} {R} {s} {t} l. act .kept (to-product l);
@@ -82,7 +99,11 @@ module _ (c d : Comp) (wc : WellComp c) (wd : WellComp d) (oc : Conditions (auto
   unfolding merged
   merged-conforms = record {
     condA = record { unguarded = λ {C} {a} {R} {s} {t} l u. conditions .condA .unguarded (to-product l) (rw unclocked-labels at u) };
-    condB = record { guarded = λ {C} {a} {R} {s} {t} l o n. conditions .condB .guarded (to-product l) (rw (merged-outputs c d) at o) (λ u. n (rw (merged-urgent c d) u)) };
+    condB =
+        record {
+          guarded = λ {C} {a} {R} {s} {t} l o n. conditions .condB .guarded (to-product l) (rw (merged-outputs c d) at o)
+              (λ u. n (rw (merged-urgent c d) u));
+        };
     condC = record {
       same = λ x {C} {D} {a} {b} {R} {Q} {s} {t} {u} h k l m.
           let e = conditions .condC .same x h k (to-product l) (to-product m) in

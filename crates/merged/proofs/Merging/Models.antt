@@ -9,7 +9,7 @@ use native.Mathlib.Omega.{arith}
 use lib.ListN.{length}
 use lib.Dec.{ltb}
 use borrow.Author.Tests.{ltb-true, ltb-false, lt-ltb, le-ltb}
-use Rattle.laws.specs.Search.{when, orElse}
+use Rattle.laws.specs.Search.{orElse}
 use Rattle.laws.proofs.SearchLaws.{when-fine, when-faulty}
 use Rattle.laws.proofs.TestLaws.{apart-cases, or-false, decided, not-exactly}
 use Rattle.laws.proofs.ListLaws.{joined-length, joined-before, joined-here, joined-after}
@@ -31,14 +31,17 @@ neighbour-decided : (m : Model) (i : ℕ) → (not (ltb (suc i) (length m)) ≡ 
 neighbour-decided m i = not-exactly (ltb (suc i) (length m)) (ltb-true (suc i) (length m), lt-ltb (suc i) (length m))
 
 abbrev tooBig : Model → ℕ → Bool
-tooBig m i = ltb maxStates (compAt m i .states * compAt m (suc i) .states) || (ltb maxRows (rowCount (mergedAt m i)) || ltb maxBytes (length (textOf (mergedAt m i))))
+tooBig m i =
+    ltb maxStates (compAt m i .states * compAt m (suc i) .states) ||
+    (ltb maxRows (rowCount (mergedAt m i)) || ltb maxBytes (length (textOf (mergedAt m i))))
 
 size-decided : (m : Model) (i : ℕ) → (tooBig m i ≡ false) ↔ FitsIn m i
 size-decided m i = (to, λ f. ap₂ _||_ (le-ltb maxStates _ (f .states)) (ap₂ _||_ (le-ltb maxRows _ (f .rows)) (le-ltb maxBytes _ (f .bytes))))
   where
     to : tooBig m i ≡ false → FitsIn m i
     to e =
-        let p = or-false (ltb maxStates (compAt m i .states * compAt m (suc i) .states)) (ltb maxRows (rowCount (mergedAt m i)) || ltb maxBytes (length (textOf (mergedAt m i)))) e in
+        let p = or-false (ltb maxStates (compAt m i .states * compAt m (suc i) .states))
+        (ltb maxRows (rowCount (mergedAt m i)) || ltb maxBytes (length (textOf (mergedAt m i)))) e in
         let q = or-false (ltb maxRows (rowCount (mergedAt m i))) (ltb maxBytes (length (textOf (mergedAt m i)))) (p .1) in
         record {
           states = ltb-false maxStates (compAt m i .states * compAt m (suc i) .states) (p .0);
@@ -51,7 +54,8 @@ abbrev RefusedOr : Option Told → Model → Answer Model
 RefusedOr o x = elim o as (λ _. Answer Model) [ some t ↦ refused t | none ↦ answered x ]
 
 module _ (m : Model) (i : ℕ) (acc : acceptOf m ≡ none) where
-  by-faults : (o : Option Told) → orElse (acceptOf m) (orElse none (orElse (neighbourFault m i) (sizeFault m i))) ≡ o → mergeOf m i none ≡ RefusedOr o (mergedAt m i)
+  by-faults : (o : Option Told) → orElse (acceptOf m) (orElse none (orElse (neighbourFault m i) (sizeFault m i))) ≡ o
+      → mergeOf m i none ≡ RefusedOr o (mergedAt m i)
   unfolding mergeOf
   by-faults o e = ap (λ z. RefusedOr z (mergedAt m i)) e
 
@@ -148,7 +152,8 @@ merge-accepted : (m : Model) (i : ℕ) (room : Option Told) (n : Model) → merg
 unfolding mergeOf
 merge-accepted m i room n e = go (acceptOf m) room e
   where
-    go : (o r : Option Told) → RefusedOr (orElse o (orElse r (orElse (neighbourFault m i) (sizeFault m i)))) (mergedAt m i) ≡ answered n → (o ≡ none) × (r ≡ none)
+    go : (o r : Option Told) → RefusedOr (orElse o (orElse r (orElse (neighbourFault m i) (sizeFault m i)))) (mergedAt m i) ≡ answered n
+        → (o ≡ none) × (r ≡ none)
     go none none e = (refl, refl)
     go none (some t) e = absurd (let z : _≡_ {A = ℕ} 0 1 = cc in omega arith)
     go (some t) r e = absurd (let z : _≡_ {A = ℕ} 0 1 = cc in omega arith)

@@ -65,7 +65,13 @@ module _ (c d : Comp) (wc : WellComp c) (wd : WellComp d) where
   in-range {a} (R1 h k p l) = record { s-below = from-below c wc l; t-below = p; s′-below = target-below c wc l; t′-below = p; a-below = act-below c wc a h }
   in-range {a} (R2 h k p l) = record { s-below = p; t-below = from-below d wd l; s′-below = p; t′-below = target-below d wd l; a-below = act-below d wd a k }
   in-range {a} (R3 h k l q) =
-      record { s-below = from-below c wc l; t-below = from-below d wd q; s′-below = target-below c wc l; t′-below = target-below d wd q; a-below = act-below c wc a h }
+      record {
+        s-below = from-below c wc l;
+        t-below = from-below d wd q;
+        s′-below = target-below c wc l;
+        t′-below = target-below d wd q;
+        a-below = act-below c wc a h;
+      }
 
   module _ (oc : Conditions (autoOf c)) (od : Conditions (autoOf d)) (j : Compatible (autoOf c) (autoOf d)) where
     pub row-is-a-pair : {x : Row} → In x (productRows c d) → PairRow c d (x .from) (guardSet (x .guard)) (x .action) (x .resets) (x .target)
@@ -90,9 +96,11 @@ module _ (c d : Comp) (wc : WellComp c) (wd : WellComp d) where
     -- every row of the merged component is one of the product
     pub merged-rows-are-pairs : (x C a R y : ℕ) → Leads (merged c d) x C a R y → PairRow c d x C a R y
     unfolding merged
-    merged-rows-are-pairs x C a R y l = rw (l .from, l .guard, l .action, l .resets, l .target) at (row-is-a-pair (in-at noRow (productRows c d) (l .place) (l .inside)))
+    merged-rows-are-pairs x C a R y l =
+        rw (l .from, l .guard, l .action, l .resets, l .target) at (row-is-a-pair (in-at noRow (productRows c d) (l .place) (l .inside)))
 
-    rows-of-pairs : (s t s′ t′ C a R : ℕ) → t < d .states → t′ < d .states → PairRow c d (pairOf d s t) C a R (pairOf d s′ t′) → Joint (autoOf c) (autoOf d) a s t C R s′ t′
+    rows-of-pairs : (s t s′ t′ C a R : ℕ) → t < d .states → t′ < d .states → PairRow c d (pairOf d s t) C a R (pairOf d s′ t′)
+        → Joint (autoOf c) (autoOf d) a s t C R s′ t′
     rows-of-pairs s t s′ t′ C a R ht ht′ p =
         let e = pair-parts (d .states) s (p .s) t (p .t) ht (p .t-below) (p .from) in
         let f = pair-parts (d .states) s′ (p .s′) t′ (p .t′) ht′ (p .t′-below) (p .target) in
@@ -104,7 +112,8 @@ module _ (c d : Comp) (wc : WellComp c) (wd : WellComp d) where
     product-rows-are-merged {a} {s} {t} r =
         let p = in-pair-rows c d oc od j r in
         let b = in-range r in
-        let k = at-in noRow (productRows c d) (in-product-rows c d (record { s = s; t = t; a = a; s-below = b .s-below; t-below = b .t-below; a-below = b .a-below; listed = p .listed })) in
+        let k = at-in noRow (productRows c d) (in-product-rows c d
+        (record { s = s; t = t; a = a; s-below = b .s-below; t-below = b .t-below; a-below = b .a-below; listed = p .listed })) in
         record {
           place = k .0;
           inside = k .1;

@@ -30,7 +30,8 @@ go-length : {a : ℕ} {m : Model} {s t : List ℕ} {C R : ℕ} → GoAll a m s C
 go-length end = refl
 go-length (and g rest) = ap suc (go-length rest)
 
-module _ (c : Comp) (cs : List Comp) (well : WellFormed (c ∷ cs)) (conf : Conforming (c ∷ cs)) (join : Joinable (c ∷ cs)) (i : ℕ) (h : suc i < length (c ∷ cs)) (f : FitsIn (c ∷ cs) i)
+module _ (c : Comp) (cs : List Comp) (well : WellFormed (c ∷ cs)) (conf : Conforming (c ∷ cs)) (join : Joinable (c ∷ cs)) (i : ℕ)
+    (h : suc i < length (c ∷ cs)) (f : FitsIn (c ∷ cs) i)
     (e : Comp) (es : List Comp) (q : mergedAt (c ∷ cs) i ≡ e ∷ es) where
   w : All WellComp (c ∷ cs)
   w = wells (c ∷ cs) well
@@ -60,7 +61,8 @@ module _ (c : Comp) (cs : List Comp) (well : WellFormed (c ∷ cs)) (conf : Conf
 
   -- ---- labels
   module _ (g : Automaton → ℕ) (joins : (A B : Automaton) → g (A ⊗ B) ≡ g A ∪ g B)
-      (here : g (autoOf (merged (compAt (c ∷ cs) i) (compAt (c ∷ cs) (suc i)))) ≡ g (autoOf (compAt (c ∷ cs) i)) ∪ g (autoOf (compAt (c ∷ cs) (suc i)))) (a : ℕ) where
+      (here : g (autoOf (merged (compAt (c ∷ cs) i) (compAt (c ∷ cs) (suc i)))) ≡ g (autoOf (compAt (c ∷ cs) i)) ∪ g
+      (autoOf (compAt (c ∷ cs) (suc i)))) (a : ℕ) where
     label-again : a ∈ g (product c cs) → a ∈ g (product e es)
     label-again k = parts-label g joins es (autoOf e) a (rw q at (label-merged g a i (c ∷ cs) h here (label-parts g joins cs (autoOf c) a k)))
 
@@ -73,9 +75,11 @@ module _ (c : Comp) (cs : List Comp) (well : WellFormed (c ∷ cs)) (conf : Conf
   next-well : WellComp (compAt (c ∷ cs) (suc i))
   next-well = well .each (suc i) h
 
-  alphabet-here : alphabet (autoOf (merged (compAt (c ∷ cs) i) (compAt (c ∷ cs) (suc i)))) ≡ alphabet (autoOf (compAt (c ∷ cs) i)) ∪ alphabet (autoOf (compAt (c ∷ cs) (suc i)))
+  alphabet-here : alphabet (autoOf (merged (compAt (c ∷ cs) i) (compAt (c ∷ cs) (suc i)))) ≡ alphabet (autoOf (compAt (c ∷ cs) i)) ∪ alphabet
+      (autoOf (compAt (c ∷ cs) (suc i)))
   alphabet-here =
-      merged-alphabet (compAt (c ∷ cs) i) (compAt (c ∷ cs) (suc i)) i-well next-well (conf .each i (omega (arith, h))) (conf .each (suc i) h) (join .pair i (suc i) (omega arith) h)
+      merged-alphabet (compAt (c ∷ cs) i) (compAt (c ∷ cs) (suc i)) i-well next-well (conf .each i (omega (arith, h))) (conf .each (suc i) h)
+      (join .pair i (suc i) (omega arith) h)
       ∙ alphabet-joins (autoOf (compAt (c ∷ cs) i)) (autoOf (compAt (c ∷ cs) (suc i)))
 
   -- ---- rows
@@ -102,10 +106,12 @@ module _ (c : Comp) (cs : List Comp) (well : WellFormed (c ∷ cs)) (conf : Conf
   rows-exactly a C R s t ok ok′ = (row-again a C R s t ok ok′, row-back a C R s t ok ok′)
 
   -- ---- series
-  outputs-here : autoOf (merged (compAt (c ∷ cs) i) (compAt (c ∷ cs) (suc i))) .outputs ≡ autoOf (compAt (c ∷ cs) i) .outputs ∪ autoOf (compAt (c ∷ cs) (suc i)) .outputs
+  outputs-here : autoOf (merged (compAt (c ∷ cs) i) (compAt (c ∷ cs) (suc i))) .outputs ≡ autoOf (compAt (c ∷ cs) i) .outputs ∪ autoOf
+      (compAt (c ∷ cs) (suc i)) .outputs
   outputs-here = merged-outputs (compAt (c ∷ cs) i) (compAt (c ∷ cs) (suc i))
 
-  urgent-here : autoOf (merged (compAt (c ∷ cs) i) (compAt (c ∷ cs) (suc i))) .urgent ≡ autoOf (compAt (c ∷ cs) i) .urgent ∪ autoOf (compAt (c ∷ cs) (suc i)) .urgent
+  urgent-here : autoOf (merged (compAt (c ∷ cs) i) (compAt (c ∷ cs) (suc i))) .urgent ≡ autoOf (compAt (c ∷ cs) i) .urgent ∪ autoOf
+      (compAt (c ∷ cs) (suc i)) .urgent
   urgent-here = merged-urgent (compAt (c ∷ cs) i) (compAt (c ∷ cs) (suc i))
 
   urgent-again : {a C R : ℕ} (s t : List ℕ) → Within (c ∷ cs) s → Within (c ∷ cs) t → UrgentRow (product c cs) (stateOf c cs s) C a R (stateOf c cs t)
@@ -133,7 +139,8 @@ module _ (c : Comp) (cs : List Comp) (well : WellFormed (c ∷ cs)) (conf : Conf
     state : y ≡ stateOf c cs last
     series : Series (product e es) (stateOf e es (again s)) l R (stateOf e es (again last))
 
-  series-on : {x y : product c cs .State} {l : List ℕ} {R : ℕ} → Series (product c cs) x l R y → (s : List ℕ) → Within (c ∷ cs) s → x ≡ stateOf c cs s → SeriesAgain s l R y
+  series-on : {x y : product c cs .State} {l : List ℕ} {R : ℕ} → Series (product c cs) x l R y → (s : List ℕ) → Within (c ∷ cs) s → x ≡ stateOf c cs s
+      → SeriesAgain s l R y
   series-on over s ok z = record { last = s; within = ok; state = z; series = over }
   series-on (next {y = y} {C = C} {a = a} {R = R} u rest) s ok z =
       let v : UrgentRow (product c cs) (stateOf c cs s) C a R y = rw (← z) u in
@@ -150,7 +157,8 @@ module _ (c : Comp) (cs : List Comp) (well : WellFormed (c ∷ cs)) (conf : Conf
       rw z (n .series)
 
 -- ---- of the call: the model e, es is what merging c, cs at i answers
-module _ (c : Comp) (cs : List Comp) (i : ℕ) (room : Option Told) (e : Comp) (es : List Comp) (well : WellFormed (c ∷ cs)) (z : mergeOf (c ∷ cs) i room ≡ answered (e ∷ es)) where
+module _ (c : Comp) (cs : List Comp) (i : ℕ) (room : Option Told) (e : Comp) (es : List Comp) (well : WellFormed (c ∷ cs))
+    (z : mergeOf (c ∷ cs) i room ≡ answered (e ∷ es)) where
   answer : Answered (c ∷ cs) i (e ∷ es)
   answer = merge-answered (c ∷ cs) i room (e ∷ es) well z
 

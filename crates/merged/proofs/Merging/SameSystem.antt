@@ -5,7 +5,7 @@ use mathlib.Core.List.{List, [], _∷_}
 use Prim.Native.Nat.{ℕ, zero, suc, _<_}
 use native.Mathlib.Omega.{arith}
 use lib.ListN.{length}
-use Rattle.laws.specs.Sets.{has, _∪_, _∈_}
+use Rattle.laws.specs.Sets.{_∪_, _∈_}
 use Rattle.laws.proofs.SetLaws.{or-assoc, in-or, or-in-l, or-in-r}
 use Rattle.laws.proofs.PairLaws.{pair-parts, pair-below}
 use Rattle.model.specs.Model.{Comp, Model, compAt}
@@ -68,7 +68,8 @@ first : {a : ℕ} {c : Comp} {cs : Model} {s t : ℕ} {ss ts : List ℕ} {C R : 
 first (and {C = C} {D = D} {R = R} {Q = Q} g rest) =
     record { guard₁ = C; guard₂ = D; resets₁ = R; resets₂ = Q; here = g; others = rest; guards = refl; sets = refl }
 
-pub merged-go : (i : ℕ) (m : Model) → All WellComp m → All (λ c. Conditions (autoOf c)) m → Pairwise m → suc i < length m → {a C R : ℕ} (s t : List ℕ) → Within m s → Within m t
+pub merged-go : (i : ℕ) (m : Model) → All WellComp m → All (λ c. Conditions (autoOf c)) m → Pairwise m → suc i < length m → {a C R : ℕ} (s t : List ℕ)
+    → Within m s → Within m t
     → GoAll a (mergedAt m i) (pairedAt m i s) C R (pairedAt m i t) → GoAll a m s C R t
 unfolding mergedAt
 merged-go i [] w o j h s t ok ok′ g = absurd (omega arith)
@@ -95,7 +96,8 @@ module _ (f : Automaton → ℕ) (a : ℕ) where
   abbrev pub Has : Comp → Type 0
   Has c = a ∈ f (autoOf c)
 
-  pub label-merged : (i : ℕ) (m : Model) → suc i < length m → f (autoOf (merged (compAt m i) (compAt m (suc i)))) ≡ f (autoOf (compAt m i)) ∪ f (autoOf (compAt m (suc i)))
+  pub label-merged : (i : ℕ) (m : Model) → suc i < length m → f (autoOf (merged (compAt m i) (compAt m (suc i)))) ≡ f (autoOf (compAt m i)) ∪ f
+      (autoOf (compAt m (suc i)))
       → Any Has m → Any Has (mergedAt m i)
   unfolding mergedAt
   label-merged i [] h e u = absurd (omega arith)
@@ -106,7 +108,8 @@ module _ (f : Automaton → ℕ) (a : ℕ) where
   label-merged (suc i) (c ∷ cs) h e (inl u) = inl u
   label-merged (suc i) (c ∷ cs) h e (inr u) = inr (label-merged i cs (omega arith) e u)
 
-  pub merged-label : (i : ℕ) (m : Model) → suc i < length m → f (autoOf (merged (compAt m i) (compAt m (suc i)))) ≡ f (autoOf (compAt m i)) ∪ f (autoOf (compAt m (suc i)))
+  pub merged-label : (i : ℕ) (m : Model) → suc i < length m → f (autoOf (merged (compAt m i) (compAt m (suc i)))) ≡ f (autoOf (compAt m i)) ∪ f
+      (autoOf (compAt m (suc i)))
       → Any Has (mergedAt m i) → Any Has m
   unfolding mergedAt
   merged-label i [] h e u = absurd (omega arith)

@@ -1,4 +1,5 @@
--- Reading by its faults: a text is refused with a number at a line, and the column that the number carries, exactly when every line before it is faultless in its turn and the number is that line's lowest fault.
+-- Reading by its faults: a text is refused with a number at a line, and the column that the number carries, exactly when every line before it is
+-- faultless in its turn and the number is that line's lowest fault.
 use mathlib.Core.Path.{_≡_, refl, sym, _∙_, ap, ap₂, subst}
 use mathlib.Core.Logic.{_⊎_, inl, inr, _↔_, ⊎-elim, by-cases}
 use mathlib.Core.Option.{Option, none, some}
@@ -12,10 +13,14 @@ use Rattle.laws.specs.Lowest.{Lowest}
 use Rattle.answer.specs.Limits.{maxBytes}
 use Rattle.answer.specs.Told.{Told, tell, Answer, answered, refused}
 use Rattle.model.specs.Model.{Comp, Model}
-use Rattle.model.specs.Reading.{Got, Scan, is, stops, Entry, comp-entry, act-entry, clk-entry, row-entry, entry, Progress, current, atStart, turn, faultOf, columnOf, stopColumn, rowOf, withAct, withClk, withRow, onLast, takeIn, finish, linesFrom, readOf}
-use Rattle.model.specs.Faulty.{LineFault, InTurn, Carries, withLine, Reaches, first-line, next-line, LineFaultAt, ReadsAs, is-model, is-too-long, is-empty, has-fault}
+use Rattle.model.specs.Reading.{Got, Scan, is, stops, Entry, comp-entry, act-entry, clk-entry, row-entry, entry, Progress, current, atStart}
+use Rattle.model.specs.Reading.{turn, faultOf, columnOf, stopColumn, rowOf, withAct, withClk, withRow, onLast, takeIn, finish, linesFrom}
+use Rattle.model.specs.Reading.{readOf}
+use Rattle.model.specs.Faulty.{LineFault, InTurn, Carries, withLine, Reaches, first-line, next-line, LineFaultAt, ReadsAs, is-model}
+use Rattle.model.specs.Faulty.{is-too-long, is-empty, has-fault}
 use Rattle.model.proofs.Reading.Lines.{line-exactly}
-use Rattle.model.proofs.Reading.LowestFault.{no-fault, fault-some, fault-carries, fault-none, none-fault, one-lowest, fault-number, shapeless, shapeless-carries, one-column}
+use Rattle.model.proofs.Reading.LowestFault.{no-fault, fault-some, fault-carries, fault-none, none-fault, one-lowest, fault-number, shapeless}
+use Rattle.model.proofs.Reading.LowestFault.{shapeless-carries, one-column}
 use Rattle.model.proofs.Reading.LinesFrom.{entry-shortens, lines-end, lines-shapeless, lines-fault, lines-next}
 
 -- ---- the lines in their turn
@@ -55,7 +60,8 @@ reading-ends zero (b ∷ bs) r l = absurd (omega arith)
 reading-ends (suc f) {k = k} {p} [] r l = at-end r (lines-end k p (suc f))
 reading-ends (suc f) {t} {k} {p} (b ∷ bs) r l = go (λ q cs r h. reading-ends f cs r h) (line-is p (b ∷ bs))
   where
-    go : ((q : Progress) (cs : List ℕ) → Reaches t (suc k) q cs → length cs ≤ f → End t (linesFrom f (suc k) q cs)) → Line p (b ∷ bs) → End t (linesFrom (suc f) k p (b ∷ bs))
+    go : ((q : Progress) (cs : List ℕ) → Reaches t (suc k) q cs → length cs ≤ f → End t (linesFrom f (suc k) q cs)) → Line p (b ∷ bs)
+        → End t (linesFrom (suc f) k p (b ∷ bs))
     go ih (line-shapeless cs read) =
         at-fault r cons≢nil (shapeless p (b ∷ bs) cs read) (shapeless-carries p (b ∷ bs) cs read) (lines-shapeless k p (suc f) (b ∷ bs) cs cons≢nil l read)
     go ih (line-faulty g n read h) =
@@ -72,7 +78,8 @@ line-refused : (k : ℕ) (p : Progress) (bs : List ℕ) (n : ℕ) (column : List
     → linesFrom (length bs) k p bs ≡ refused (tell n (k ∷ column))
 line-refused k p bs n column w h c = go (line-is p bs)
   where
-    told : (m : ℕ) (l : List ℕ) → Lowest (LineFault p bs) m → Carries p bs m l → _≡_ {A = Answer Model} (refused (tell m (k ∷ l))) (refused (tell n (k ∷ column)))
+    told : (m : ℕ) (l : List ℕ) → Lowest (LineFault p bs) m → Carries p bs m l
+        → _≡_ {A = Answer Model} (refused (tell m (k ∷ l))) (refused (tell n (k ∷ column)))
     told m l a d =
         let e = one-lowest p bs m n a h in
         ap₂ {C = Answer Model} (λ m l. refused (tell m (k ∷ l))) e (one-column (subst (λ m. Carries p bs m l) e d) c)
@@ -148,8 +155,7 @@ refused-at {t} a n k column (at-fault {p = p} {bs = bs} {column = l} r w f c e) 
       subst (λ i. Reaches t i p bs) (head-eq-of-cons-eq (z .1)) r,
       w,
       subst (Lowest (LineFault p bs)) (z .0) f,
-      subst (Carries p bs n) (tails (z .1)) (subst
-          (λ i. Carries p bs i l) (z .0) c),
+      subst (Carries p bs n) (tails (z .1)) (subst (λ i. Carries p bs i l) (z .0) c),
     )
 
 -- 1 "text over 32,768 bytes", 8 "no component": place 0
@@ -222,12 +228,16 @@ model-read t m e = by-cases (decLt maxBytes (length t)) (λ h. absurd (not-refus
               progress = p;
               reached = r;
               some = omega (arith, ap length w);
-              model = let q : _≡_ {A = Answer Model} (answered m) (answered (reverse (c ∷ cs))) = sym e ∙ f ∙ ap finish w in let z : m ≡ reverse (c ∷ cs) = cc in z ∙ ap reverse (sym w);
+              model =
+                  let q : _≡_ {A = Answer Model} (answered m) (answered (reverse (c ∷ cs))) = sym e ∙ f ∙ ap finish w in
+                  let z : m ≡ reverse (c ∷ cs) = cc in
+                  z ∙ ap reverse (sym w);
             }
 
 pub read-model : (t : List ℕ) (m : Model) → ReadModel t m → readOf t ≡ answered m
 read-model t m r =
-    read-short t (r .short) ∙ reading-goes-on (r .reached) ∙ lines-end (r .lines) (r .progress) 0 ∙ finished (r .progress .comps) (r .some) ∙ ap {B = Answer Model} answered (sym (r .model))
+    read-short t (r .short) ∙ reading-goes-on (r .reached) ∙ lines-end (r .lines) (r .progress) 0 ∙ finished (r .progress .comps) (r .some) ∙ ap {B =
+    Answer Model} answered (sym (r .model))
   where
     finished : (cs : List Comp) → 1 ≤ length cs → finish cs ≡ answered (reverse cs)
     finished [] h = absurd (omega arith)

@@ -11,7 +11,8 @@ use lib.Dec.{eqb}
 use borrow.Author.Tests.{eqb-true, ne-eqb, eq-eqb}
 use Rattle.answer.specs.Limits.{maxDigits}
 use Rattle.model.specs.Text.{byte0, comma, dash, Kind, in-kind, out-kind, uin-kind, uout-kind, kindWord, decimal, joined, guardField}
-use Rattle.model.specs.Reading.{Got, Scan, is, stops, got, then, furthest, exactly, theByte, number, moreNumbers, numbers, guardOrDash, numbersOrDash, kind, guardOf}
+use Rattle.model.specs.Reading.{Got, Scan, is, stops, got, then, furthest, exactly, theByte, number, moreNumbers, numbers, guardOrDash}
+use Rattle.model.specs.Reading.{numbersOrDash, kind, guardOf}
 use Rattle.model.specs.Line.{Fits, AllFit, ListFits, GuardFits, listField, Ends, Any, Exact}
 use Rattle.model.proofs.Reading.Scans.{is-inj, no-is, then-is}
 use Rattle.model.proofs.Reading.Number.{NoDigit, digits-of, number-printed, number-scanned}
@@ -183,7 +184,15 @@ further-scanned (suc k) (b ∷ bs) g e = go (λ h. list-scanned k (further-scann
 
 further-long : (ns bs : List ℕ) → length ns ≤ length (further ns ++ bs)
 further-long [] bs = omega arith
-further-long (n ∷ ns) bs = omega (arith, further-long ns bs, ap (λ (l : List ℕ). length (l ++ bs)) (joined-first n ns), length-append (decimal n ++ further ns) bs, length-append (decimal n) (further ns), length-append (further ns) bs)
+further-long (n ∷ ns) bs =
+    omega (
+      arith,
+      further-long ns bs,
+      ap (λ (l : List ℕ). length (l ++ bs)) (joined-first n ns),
+      length-append (decimal n ++ further ns) bs,
+      length-append (decimal n) (further ns),
+      length-append (further ns) bs,
+    )
 
 numbers-printed : (ns bs : List ℕ) → ListFits ns → Ends bs → numbers (joined ns ++ bs) ≡ got ns bs
 unfolding numbers

@@ -12,9 +12,11 @@ use Rattle.answer.specs.Limits.{maxClocks}
 use Rattle.model.specs.Model.{Comp}
 use Rattle.model.specs.Text.{tab, comma, dash, rowWord, kindWord, decimal, guardField, fieldsAfter}
 use Rattle.model.specs.Reading.{Entry, comp-entry, act-entry, clk-entry, row-entry, guardOf}
-use Rattle.model.specs.Reading.{Value, states-value, state-value, action-value, clock-value, set-value, dash-value, valueText, guardValue, resetValues, lastValues, valuesOf, wordOf, firstBad, outside, unnamed, statesBy, firstColumn}
+use Rattle.model.specs.Reading.{Value, states-value, state-value, action-value, clock-value, set-value, dash-value, valueText, guardValue}
+use Rattle.model.specs.Reading.{resetValues, lastValues, valuesOf, wordOf, firstBad, outside, unnamed, statesBy, firstColumn}
 use Rattle.model.specs.Line.{listField, lineOf}
-use Rattle.model.specs.Column.{fieldsUpTo, clocksUpTo, Stands, states-at, start-at, act-at, clk-at, set-at, from-at, guard-at, action-at, reset-at, target-at, FirstValue, Ranged, Owned}
+use Rattle.model.specs.Column.{fieldsUpTo, clocksUpTo, Stands, states-at, start-at, act-at, clk-at, set-at, from-at, guard-at, action-at}
+use Rattle.model.specs.Column.{reset-at, target-at, FirstValue, Ranged, Owned}
 use Rattle.model.specs.Faulty.{Each, GuardIs, InRange, Named}
 use Rattle.model.proofs.Reading.Fields.{further, joined-first}
 use Rattle.model.proofs.Reading.Tests.{ranged-decided, owned-decided}

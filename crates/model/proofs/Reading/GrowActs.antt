@@ -34,8 +34,10 @@ act-kept c a uout-kind = record { states = refl; start = refl; clocks = refl; st
 pub act-acts : (c : Comp) (a : ℕ) (k : Kind) → acts (withAct c a k) ≡ acts c ∪ only a
 act-acts c a in-kind = ap (λ s. s ∪ (c .outs ∪ c .uouts)) (or-past (c .ins) (c .uins) (only a)) ∙ or-past (c .ins ∪ c .uins) (c .outs ∪ c .uouts) (only a)
 act-acts c a out-kind = ap (λ s. c .ins ∪ c .uins ∪ s) (or-past (c .outs) (c .uouts) (only a)) ∙ sym (or-assoc (c .ins ∪ c .uins) (c .outs ∪ c .uouts) (only a))
-act-acts c a uin-kind = ap (λ s. s ∪ (c .outs ∪ c .uouts)) (sym (or-assoc (c .ins) (c .uins) (only a))) ∙ or-past (c .ins ∪ c .uins) (c .outs ∪ c .uouts) (only a)
-act-acts c a uout-kind = ap (λ s. c .ins ∪ c .uins ∪ s) (sym (or-assoc (c .outs) (c .uouts) (only a))) ∙ sym (or-assoc (c .ins ∪ c .uins) (c .outs ∪ c .uouts) (only a))
+act-acts c a uin-kind =
+    ap (λ s. s ∪ (c .outs ∪ c .uouts)) (sym (or-assoc (c .ins) (c .uins) (only a))) ∙ or-past (c .ins ∪ c .uins) (c .outs ∪ c .uouts) (only a)
+act-acts c a uout-kind =
+    ap (λ s. c .ins ∪ c .uins ∪ s) (sym (or-assoc (c .outs) (c .uouts) (only a))) ∙ sym (or-assoc (c .ins ∪ c .uins) (c .outs ∪ c .uouts) (only a))
 
 -- an action that the component lacks is of no kind
 pub record NoKind (c : Comp) (a : ℕ) : Type 0 where
@@ -87,7 +89,8 @@ act-lines c a k h below = spread-added (actPart c) (actPart (withAct c a k)) (ac
 pub bare-text : (c : Comp) → c .clocks ≡ 0 → c .rows ≡ [] → compText c ≡ compLine c ++ spread (actPart c) 0 maxActions
 unfolding compText clkPart rowLines
 bare-text c e f =
-    ap₂ (λ (l m : List ℕ). compLine c ++ spread (actPart c) 0 maxActions ++ l ++ m) (spread-none (clkPart c) 0 maxClocks (λ x p. rw e (rw (not-so (has 0 x) (none-in x))))) (ap rowLines f)
+    ap₂ (λ (l m : List ℕ). compLine c ++ spread (actPart c) 0 maxActions ++ l ++ m)
+    (spread-none (clkPart c) 0 maxClocks (λ x p. rw e (rw (not-so (has 0 x) (none-in x))))) (ap rowLines f)
     ∙ append-nil (compLine c ++ spread (actPart c) 0 maxActions ++ [])
     ∙ append-nil (compLine c ++ spread (actPart c) 0 maxActions)
 
@@ -115,5 +118,6 @@ act-apart c a uout-kind h n f = four-turn (four-grow a h (n .ins) (n .outs) (n .
 pub act-well : (c : Comp) (a : ℕ) (k : Kind) → WellComp c → a < maxActions → has (acts c) a ≡ false → c .rows ≡ [] → WellComp (withAct c a k)
 act-well c a k w h e f =
     let q = act-kept c a k in
-    well-with-no-row (withAct c a k) (rw (q .states) (w .some)) (rw (q .states) (w .states)) (rw (q .states, q .start) (w .start)) (act-apart c a k h (no-kind c a e) (kinds-apart c w))
+    well-with-no-row (withAct c a k) (rw (q .states) (w .some)) (rw (q .states) (w .states)) (rw (q .states, q .start) (w .start))
+    (act-apart c a k h (no-kind c a e) (kinds-apart c w))
     (rw (q .clocks) (w .clocks)) (rw (q .clocks, q .started) (w .started)) (q .rows ∙ f)

@@ -34,7 +34,8 @@ line-here s x (suc (suc b)) h n = absurd (omega arith)
 clk-lines : (c : Comp) (x b : ℕ) → x < maxClocks → b ≤ 1 → ((y : ℕ) → y ∈ c .clocks → y < x) → c .started ⊆ c .clocks
     → spread (clkPart (withClk c x b)) 0 maxClocks ≡ spread (clkPart c) 0 maxClocks ++ lineOf (clk-entry x b)
 unfolding clkPart
-clk-lines c x b h l below sub = spread-added (clkPart c) (clkPart (withClk c x b)) (lineOf (clk-entry x b)) x 0 maxClocks (omega arith) (omega arith) none here there
+clk-lines c x b h l below sub =
+    spread-added (clkPart c) (clkPart (withClk c x b)) (lineOf (clk-entry x b)) x 0 maxClocks (omega arith) (omega arith) none here there
   where
     lacks : (y : ℕ) → x ≤ y → has (c .clocks) y ≡ false
     lacks y p = not-so (has (c .clocks) y) (λ m. omega (arith, below y m))

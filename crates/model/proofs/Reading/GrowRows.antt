@@ -36,7 +36,8 @@ pub row-text : (c : Comp) (r : Row) → compText (withRow c r) ≡ compText c ++
 unfolding compText compLine actPart kindOf clkPart
 row-text c r =
     ap₂ (λ (l m : List ℕ). l ++ m)
-    (ap₂ (λ (l m : List ℕ). compLine c ++ l ++ m) (spread-same (actPart (withRow c r)) (actPart c) 0 maxActions (λ x. refl)) (spread-same (clkPart (withRow c r)) (clkPart c) 0 maxClocks (λ x. refl)))
+    (ap₂ (λ (l m : List ℕ). compLine c ++ l ++ m) (spread-same (actPart (withRow c r)) (actPart c) 0 maxActions (λ x. refl))
+    (spread-same (clkPart (withRow c r)) (clkPart c) 0 maxClocks (λ x. refl)))
     (row-lines (c .rows) r)
     ∙ sym (append-assoc (compLine c ++ spread (actPart c) 0 maxActions ++ spread (clkPart c) 0 maxClocks) (rowLines (c .rows)) (rowLine r))
 
@@ -46,14 +47,17 @@ unfolding setOf
 set-below [] h = omega arith
 set-below (x ∷ xs) h = or-lt maxClocks (only x) (setOf xs) (pow-lt (h .0)) (set-below xs (h .1))
 
-pub row-line : (s : ℕ) (g : Option ℕ) (a : ℕ) (r : List ℕ) (t : ℕ) → Ascends r → Each (λ x. x < maxClocks) r → rowLine (rowOf s g a r t) ≡ lineOf (row-entry s g a r t)
+pub row-line : (s : ℕ) (g : Option ℕ) (a : ℕ) (r : List ℕ) (t : ℕ) → Ascends r → Each (λ x. x < maxClocks) r → rowLine (rowOf s g a r t)
+    ≡ lineOf (row-entry s g a r t)
 unfolding rowLine lineOf
 row-line s g a r t h b =
-    let e : setField (setOf r) ≡ listField r = set-printed (setOf r) (set-below r b) ∙ ap listField (members-of-set r (ascends-decided r .1 h) (below-decided maxClocks r .1 b)) in
+    let e : setField (setOf r) ≡ listField r = set-printed (setOf r) (set-below r b)
+    ∙ ap listField (members-of-set r (ascends-decided r .1 h) (below-decided maxClocks r .1 b)) in
     rw e
 
 -- ---- it is well-formed
-pub row-well : (c : Comp) (s : ℕ) (g : Option ℕ) (a : ℕ) (r : List ℕ) (t : ℕ) → InRange c (row-entry s g a r t) → Named c (row-entry s g a r t) → WellRow c (rowOf s g a r t)
+pub row-well : (c : Comp) (s : ℕ) (g : Option ℕ) (a : ℕ) (r : List ℕ) (t : ℕ) → InRange c (row-entry s g a r t) → Named c (row-entry s g a r t)
+    → WellRow c (rowOf s g a r t)
 row-well c s g a r t h n =
     record { from = h .0; guard = guard-within g (n .0); action = n .1; resets = in-set-of (c .clocks) r (in-decided (c .clocks) r .1 (n .2)); target = h .4 }
   where

@@ -76,7 +76,8 @@ kinds-apart c w =
     }
 
 -- a component is well-formed if its kinds are apart and the rest of it is in order
-pub well-by-kinds : (c : Comp) → 1 ≤ c .states → c .states ≤ maxStates → c .start < c .states → KindsApart c → c .clocks < 2 ^ maxClocks → c .started ⊆ c .clocks
+pub well-by-kinds : (c : Comp) → 1 ≤ c .states → c .states ≤ maxStates → c .start < c .states → KindsApart c → c .clocks < 2 ^ maxClocks
+    → c .started ⊆ c .clocks
     → ((k : ℕ) → k < length (c .rows) → WellRow c (rowAt c k)) → ((k : ℕ) → suc k < length (c .rows) → before (rowAt c k) (rowAt c (suc k)) ≡ true) → WellComp c
 well-by-kinds c some states start f clocks started rows ascend =
     record {
@@ -100,6 +101,7 @@ well-by-kinds c some states start f clocks started rows ascend =
     }
 
 -- the same, where there is no row yet
-pub well-with-no-row : (c : Comp) → 1 ≤ c .states → c .states ≤ maxStates → c .start < c .states → KindsApart c → c .clocks < 2 ^ maxClocks → c .started ⊆ c .clocks → c .rows ≡ [] → WellComp c
+pub well-with-no-row : (c : Comp) → 1 ≤ c .states → c .states ≤ maxStates → c .start < c .states → KindsApart c → c .clocks < 2 ^ maxClocks
+    → c .started ⊆ c .clocks → c .rows ≡ [] → WellComp c
 well-with-no-row c some states start f clocks started e =
     well-by-kinds c some states start f clocks started (λ k h. absurd (omega (arith, ap length e))) (λ k h. absurd (omega (arith, ap length e)))

@@ -5,7 +5,9 @@ use mathlib.Core.Option.{Option}
 use mathlib.Core.List.{List, [], _∷_, _++_, append-assoc}
 use Prim.Native.Nat.{ℕ}
 use Rattle.model.specs.Text.{tab, lf, compWord, actWord, clkWord, rowWord, Kind, kindWord, decimal, guardField, fieldsAfter}
-use Rattle.model.specs.Reading.{Got, Scan, is, stops, got, then, shorter, exactly, theByte, field, ended, number, guardOrDash, numbersOrDash, kind, guardOf, Entry, comp-entry, act-entry, clk-entry, row-entry, compEntry, actEntry, clkEntry, rowEntry, entry}
+use Rattle.model.specs.Reading.{Got, Scan, is, stops, got, then, shorter, exactly, theByte, field, ended, number, guardOrDash, numbersOrDash}
+use Rattle.model.specs.Reading.{kind, guardOf, Entry, comp-entry, act-entry, clk-entry, row-entry, compEntry, actEntry, clkEntry, rowEntry}
+use Rattle.model.specs.Reading.{entry}
 use Rattle.model.specs.Line.{Fits, AllFit, GuardFits, listField, lineOf, LineFits, Ends, Any, Exact}
 use Rattle.model.specs.Faulty.{LineAt}
 use Rattle.model.proofs.Reading.Scans.{is-inj, no-is, then-is}
@@ -18,7 +20,8 @@ fields-end [] bs = (refl, refl)
 fields-end (f ∷ fs) bs = (refl, refl)
 
 module _ {A : Type 0} (scan : List ℕ → Scan A) (print : A → List ℕ) (Good : A → Type 0) where
-  pub field-printed : Exact scan print Good Ends → (x : A) → Good x → (fs : List (List ℕ)) (bs : List ℕ) → field scan (fieldsAfter (print x ∷ fs) ++ bs) ≡ got x (fieldsAfter fs ++ bs)
+  pub field-printed : Exact scan print Good Ends → (x : A) → Good x → (fs : List (List ℕ)) (bs : List ℕ)
+      → field scan (fieldsAfter (print x ∷ fs) ++ bs) ≡ got x (fieldsAfter fs ++ bs)
   unfolding fieldsAfter exactly
   field-printed r x h fs bs = ap scan (append-assoc (print x) (fieldsAfter fs) bs) ∙ r .printed x (fieldsAfter fs ++ bs) h (fields-end fs bs)
 
@@ -29,7 +32,8 @@ module _ {A : Type 0} (scan : List ℕ → Scan A) (print : A → List ℕ) (Goo
       let q = r .scanned (t .0 .rest) g (t .2) in
       (exactly-scanned (tab ∷ []) bs (t .0) (t .1) ∙ ap {B = List ℕ} (λ l. tab ∷ l) (q .0), q .1)
 
-pub field-before : (l : List ℕ) (fs : List (List ℕ)) (rest : List ℕ) {bs cs : List ℕ} → bs ≡ (tab ∷ l) ++ cs → cs ≡ fieldsAfter fs ++ rest → bs ≡ fieldsAfter (l ∷ fs) ++ rest
+pub field-before : (l : List ℕ) (fs : List (List ℕ)) (rest : List ℕ) {bs cs : List ℕ} → bs ≡ (tab ∷ l) ++ cs → cs ≡ fieldsAfter fs ++ rest
+    → bs ≡ fieldsAfter (l ∷ fs) ++ rest
 unfolding fieldsAfter
 field-before l fs rest p q = p ∙ ap {B = List ℕ} (λ r. (tab ∷ l) ++ r) q ∙ sym (append-assoc (tab ∷ l) (fieldsAfter fs) rest)
 
@@ -102,7 +106,8 @@ line-read w fs e bs g p h q d =
 
 -- lines of two fields, a number and one more
 two-scanned : {A : Type 0} (scan : List ℕ → Scan A) (print : A → List ℕ) (Good : A → Type 0) {E : List ℕ → Type 0} → Exact scan print Good E
-    → (w : List ℕ) (e : ℕ → A → Entry) → ((n : ℕ) (x : A) → w ++ fieldsAfter (decimal n ∷ print x ∷ []) ≡ lineOf (e n x)) → ((n : ℕ) (x : A) → Fits n → Good x → LineFits (e n x))
+    → (w : List ℕ) (e : ℕ → A → Entry) → ((n : ℕ) (x : A) → w ++ fieldsAfter (decimal n ∷ print x ∷ []) ≡ lineOf (e n x))
+    → ((n : ℕ) (x : A) → Fits n → Good x → LineFits (e n x))
     → (bs : List ℕ) (g : Got Entry) → then (field number bs) (λ n cs. then (field scan cs) (λ x ds. ended (e n x) ds)) ≡ is g → ReadLine w bs g
 two-scanned {A = A} scan print Good r w e line good bs g h =
     let t = then-is (field number bs) (λ n cs. then (field scan cs) (λ x ds. ended (e n x) ds)) h in
@@ -114,7 +119,8 @@ two-scanned {A = A} scan print Good r w e line good bs g h =
         let d = ended-scanned (e (n .value) (x .value)) (x .rest) g z in
         let f = num-back bs n p in
         let k = field-scanned scan print Good r (n .rest) x q in
-        line-read w (decimal (n .value) ∷ print (x .value) ∷ []) (e (n .value) (x .value)) bs g (line (n .value) (x .value)) (good (n .value) (x .value) (f .1) (k .1))
+        line-read w (decimal (n .value) ∷ print (x .value) ∷ []) (e (n .value) (x .value)) bs g (line (n .value) (x .value))
+        (good (n .value) (x .value) (f .1) (k .1))
         (field-before (decimal (n .value)) (print (x .value) ∷ []) (g .rest) (f .0) (field-before (print (x .value)) [] (g .rest) (k .0) (d .0))) (d .1)
 
 comp-scanned : (bs : List ℕ) (g : Got Entry) → compEntry bs ≡ is g → ReadLine compWord bs g
@@ -148,17 +154,21 @@ row-parts bs s g a r t h es eg ea er et e =
     let fr = field-before (listField (r .value)) (decimal (t .value) ∷ []) (h .rest) (pr .0) ft in
     let fa = field-before (decimal (a .value)) (listField (r .value) ∷ decimal (t .value) ∷ []) (h .rest) (pa .0) fr in
     let fg = field-before (guardField (guardOf (g .value))) (decimal (a .value) ∷ listField (r .value) ∷ decimal (t .value) ∷ []) (h .rest) (pg .0) fa in
-    let fs = field-before (decimal (s .value)) (guardField (guardOf (g .value)) ∷ decimal (a .value) ∷ listField (r .value) ∷ decimal (t .value) ∷ []) (h .rest) (ps .0) fg in
-    line-read rowWord (row-fields (s .value) (g .value) (a .value) (r .value) (t .value)) (row-entry (s .value) (g .value) (a .value) (r .value) (t .value)) bs h refl
+    let fs = field-before (decimal (s .value)) (guardField (guardOf (g .value)) ∷ decimal (a .value) ∷ listField (r .value) ∷ decimal (t .value) ∷ [])
+    (h .rest) (ps .0) fg in
+    line-read rowWord (row-fields (s .value) (g .value) (a .value) (r .value) (t .value))
+    (row-entry (s .value) (g .value) (a .value) (r .value) (t .value)) bs h refl
     (ps .1, pg .1, pa .1, pr .1, pt .1) fs (z .1)
 
 row-scanned : (bs : List ℕ) (h : Got Entry) → rowEntry bs ≡ is h → ReadLine rowWord bs h
 unfolding rowEntry
 row-scanned bs h e =
     let s = then-is (field number bs) (λ s cs.
-    then (field guardOrDash cs) (λ g ds. then (field number ds) (λ a es. then (field numbersOrDash es) (λ r fs. then (field number fs) (λ t gs. ended (row-entry s g a r t) gs))))) e in
+    then (field guardOrDash cs) (λ g ds. then (field number ds)
+    (λ a es. then (field numbersOrDash es) (λ r fs. then (field number fs) (λ t gs. ended (row-entry s g a r t) gs))))) e in
     let g = then-is (field guardOrDash (s .0 .rest)) (λ g ds.
-    then (field number ds) (λ a es. then (field numbersOrDash es) (λ r fs. then (field number fs) (λ t gs. ended (row-entry (s .0 .value) g a r t) gs)))) (s .2) in
+    then (field number ds) (λ a es. then (field numbersOrDash es)
+    (λ r fs. then (field number fs) (λ t gs. ended (row-entry (s .0 .value) g a r t) gs)))) (s .2) in
     let a = then-is (field number (g .0 .rest)) (λ a es. then (field numbersOrDash es) (λ r fs. then (field number fs) (λ t gs. ended (row-entry (s .0 .value)
     (g .0 .value) a r t) gs))) (g .2) in
     let r = then-is (field numbersOrDash (a .0 .rest)) (λ r fs. then (field number fs) (λ t gs. ended (row-entry (s .0 .value) (g .0 .value)

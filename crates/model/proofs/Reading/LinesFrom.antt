@@ -6,7 +6,8 @@ use Prim.Native.Nat.{ℕ, zero, suc, _≤_, _<_}
 use native.Mathlib.Omega.{arith}
 use lib.ListN.{length, length-append}
 use Rattle.answer.specs.Told.{tell, refused}
-use Rattle.model.specs.Reading.{Got, Scan, is, stops, got, exactly, shorter, Entry, comp-entry, act-entry, clk-entry, row-entry, entry, Progress, current, faultOf, columnOf, stopColumn, finish, linesFrom}
+use Rattle.model.specs.Reading.{Got, Scan, is, stops, got, exactly, shorter, Entry, comp-entry, act-entry, clk-entry, row-entry, entry}
+use Rattle.model.specs.Reading.{Progress, current, faultOf, columnOf, stopColumn, finish, linesFrom}
 use Rattle.model.specs.Line.{lineOf}
 use Rattle.model.specs.Faulty.{withLine}
 use Rattle.model.proofs.Reading.Scans.{no-is}
@@ -49,7 +50,8 @@ module _ (k : ℕ) (p : Progress) where
     lines-fault zero (b ∷ bs) n l read h = absurd (omega arith)
     lines-fault (suc f) (b ∷ bs) n l read h = rw (read, linesFrom) (rw h)
 
-    taken-in : (f : ℕ) (b : ℕ) (bs : List ℕ) → entry (b ∷ bs) ≡ got e cs → faultOf p e ≡ none → linesFrom (suc f) k p (b ∷ bs) ≡ linesFrom f (suc k) (withLine p e) cs
+    taken-in : (f : ℕ) (b : ℕ) (bs : List ℕ) → entry (b ∷ bs) ≡ got e cs → faultOf p e ≡ none → linesFrom (suc f) k p (b ∷ bs)
+        ≡ linesFrom f (suc k) (withLine p e) cs
     unfolding linesFrom
     taken-in f b bs read h = rw (read, linesFrom) (rw h)
 
@@ -68,15 +70,19 @@ lines-bound (suc f) (suc g) k p (b ∷ bs) l m = go (λ q cs l m. lines-bound f 
     go ih (is r) read = line (faultOf p (r .value)) refl
       where
         line : (o : Option ℕ) → faultOf p (r .value) ≡ o → linesFrom (suc f) k p (b ∷ bs) ≡ linesFrom (suc g) k p (b ∷ bs)
-        line (some n) h = lines-fault k p (r .value) (r .rest) (suc f) (b ∷ bs) n l read h ∙ sym (lines-fault k p (r .value) (r .rest) (suc g) (b ∷ bs) n m read h)
+        line (some n) h =
+            lines-fault k p (r .value) (r .rest) (suc f) (b ∷ bs) n l read h ∙ sym (lines-fault k p (r .value) (r .rest) (suc g) (b ∷ bs) n m read h)
         line none h =
             let s = entry-shortens (b ∷ bs) r read in
-            taken-in k p (r .value) (r .rest) f b bs read h ∙ ih (withLine p (r .value)) (r .rest) (omega arith) (omega arith) ∙ sym (taken-in k p (r .value) (r .rest) g b bs read h)
+            taken-in k p (r .value) (r .rest) f b bs read h ∙ ih (withLine p (r .value)) (r .rest) (omega arith) (omega arith)
+            ∙ sym (taken-in k p (r .value) (r .rest) g b bs read h)
 
 -- a faultless line is taken in, and reading goes on behind it
-pub lines-next : (k : ℕ) (p : Progress) (e : Entry) (cs : List ℕ) (f g : ℕ) (bs : List ℕ) → length bs ≤ f → length cs ≤ g → entry bs ≡ got e cs → faultOf p e ≡ none
+pub lines-next : (k : ℕ) (p : Progress) (e : Entry) (cs : List ℕ) (f g : ℕ) (bs : List ℕ) → length bs ≤ f → length cs ≤ g → entry bs ≡ got e cs
+    → faultOf p e ≡ none
     → linesFrom f k p bs ≡ linesFrom g (suc k) (withLine p e) cs
 lines-next k p e cs f g [] l m read h = absurd (no-is entry-nothing read)
 lines-next k p e cs zero g (b ∷ bs) l m read h = absurd (omega arith)
 lines-next k p e cs (suc f) g (b ∷ bs) l m read h =
-    taken-in k p e cs f b bs read h ∙ lines-bound f g (suc k) (withLine p e) cs (omega (arith, entry-shortens (b ∷ bs) (record { value = e; rest = cs }) read)) m
+    taken-in k p e cs f b bs read h ∙ lines-bound f g (suc k) (withLine p e) cs
+    (omega (arith, entry-shortens (b ∷ bs) (record { value = e; rest = cs }) read)) m

@@ -11,7 +11,8 @@ use lib.Dec.{eqb, ltb}
 use borrow.Author.Tests.{lt-ltb, le-ltb}
 use Rattle.answer.specs.Limits.{maxDigits}
 use Rattle.model.specs.Text.{byte0, tab, lf, comma, dash, Kind, in-kind, out-kind, uin-kind, uout-kind, kindWord}
-use Rattle.model.specs.Reading.{Got, Scan, is, stops, got, then, shorter, furthest, exactly, theByte, isDigit, moreDigits, number, moreNumbers, numbers, guardOrDash, numbersOrDash, kind, field, ended, Entry}
+use Rattle.model.specs.Reading.{Got, Scan, is, stops, got, then, shorter, furthest, exactly, theByte, isDigit, moreDigits, number, moreNumbers}
+use Rattle.model.specs.Reading.{numbers, guardOrDash, numbersOrDash, kind, field, ended, Entry}
 use Rattle.model.specs.Line.{Any, Exact}
 use Rattle.model.proofs.Reading.Scans.{stops-inj, no-is}
 use Rattle.model.proofs.Reading.Fields.{kind-exact}

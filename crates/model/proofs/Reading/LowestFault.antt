@@ -9,9 +9,11 @@ use Rattle.laws.specs.Search.{when, orElse}
 use Rattle.laws.proofs.SearchLaws.{no-some}
 use Rattle.laws.proofs.TestLaws.{apart-cases}
 use Rattle.laws.specs.Lowest.{Lowest}
-use Rattle.model.specs.Reading.{Got, stops, got, Entry, entry, Progress, current, outOfTurn, outOfRange, lacks, outOfOrder, tooMany, faultOf, statesBy, columnOf, stopColumn}
+use Rattle.model.specs.Reading.{Got, stops, got, Entry, entry, Progress, current, outOfTurn, outOfRange, lacks, outOfOrder, tooMany, faultOf}
+use Rattle.model.specs.Reading.{statesBy, columnOf, stopColumn}
 use Rattle.model.specs.Faulty.{InTurn, InRange, Named, InOrder, Room, Faultless, LineAt}
-use Rattle.model.specs.Faulty.{LineFault, wrong-shape, out-of-turn, out-of-range, not-named, out-of-order, too-many, Carries, wrong-byte, range-value, name-value, line-alone}
+use Rattle.model.specs.Faulty.{LineFault, wrong-shape, out-of-turn, out-of-range, not-named, out-of-order, too-many, Carries, wrong-byte}
+use Rattle.model.specs.Faulty.{range-value, name-value, line-alone}
 use Rattle.model.proofs.Reading.Scans.{is-inj}
 use Rattle.model.proofs.Reading.Lines.{line-exactly, no-line}
 use Rattle.model.proofs.Reading.WrongByte.{wrong-byte-here, one-wrong-byte}
@@ -27,7 +29,8 @@ module _ (p : Progress) (bs : List ℕ) (e : Entry) (cs : List ℕ) (read : entr
   here = line-exactly bs e cs .0 read
 
   -- a line of good shape has no fault m where what m would deny holds
-  pub no-fault : (m : ℕ) → (m ≡ 3 → InTurn (p .last) e) → (m ≡ 4 → InRange (current p) e) → (m ≡ 5 → Named (current p) e) → (m ≡ 6 → InOrder (p .last) e) → (m ≡ 7 → Room (p .comps) e)
+  pub no-fault : (m : ℕ) → (m ≡ 3 → InTurn (p .last) e) → (m ≡ 4 → InRange (current p) e) → (m ≡ 5 → Named (current p) e)
+      → (m ≡ 6 → InOrder (p .last) e) → (m ≡ 7 → Room (p .comps) e)
       → LineFault p bs m → ⊥
   no-fault m a b c d f (wrong-shape n h) = h e cs here
   no-fault m a b c d f (out-of-turn n h w) = w (subst (InTurn (p .last)) (same-line h) (a n))
@@ -40,7 +43,8 @@ module _ (p : Progress) (bs : List ℕ) (e : Entry) (cs : List ℕ) (read : entr
   abbrev chain : (a b c d f : Bool) → Option ℕ
   chain a b c d f = orElse (when a 3) (orElse (when b 4) (orElse (when c 5) (orElse (when d 6) (when f 7))))
 
-  faultless : (a b c d f : Bool) → outOfTurn (p .last) e ≡ a → outOfRange (current p) e ≡ b → lacks (current p) e ≡ c → outOfOrder (p .last) e ≡ d → tooMany (p .comps) e ≡ f
+  faultless : (a b c d f : Bool) → outOfTurn (p .last) e ≡ a → outOfRange (current p) e ≡ b → lacks (current p) e ≡ c → outOfOrder (p .last) e ≡ d
+      → tooMany (p .comps) e ≡ f
       → chain a b c d f ≡ none → Faultless p e
   faultless true b c d f ea eb ec ed ef h = absurd (no-some h refl)
   faultless false true c d f ea eb ec ed ef h = absurd (no-some h refl)
@@ -56,43 +60,56 @@ module _ (p : Progress) (bs : List ℕ) (e : Entry) (cs : List ℕ) (read : entr
         room = room-decided (p .comps) e .0 ef;
       }
 
-  lowest : (a b c d f : Bool) → outOfTurn (p .last) e ≡ a → outOfRange (current p) e ≡ b → lacks (current p) e ≡ c → outOfOrder (p .last) e ≡ d → tooMany (p .comps) e ≡ f
+  lowest : (a b c d f : Bool) → outOfTurn (p .last) e ≡ a → outOfRange (current p) e ≡ b → lacks (current p) e ≡ c → outOfOrder (p .last) e ≡ d
+      → tooMany (p .comps) e ≡ f
       → (n : ℕ) → chain a b c d f ≡ some n → Lowest (LineFault p bs) n
   lowest true b c d f ea eb ec ed ef n h =
       let z : 3 ≡ n = Option·some-inj .0 h in
       record {
         here = out-of-turn (sym z) here (λ w. true≢false (sym ea ∙ turn-decided (p .last) e .1 w));
-        before = λ m l. no-fault m (λ q. absurd (omega arith)) (λ q. absurd (omega arith)) (λ q. absurd (omega arith)) (λ q. absurd (omega arith)) (λ q. absurd (omega arith));
+        before =
+            λ m l. no-fault m (λ q. absurd (omega arith)) (λ q. absurd (omega arith)) (λ q. absurd (omega arith)) (λ q. absurd (omega arith))
+            (λ q. absurd (omega arith));
       }
   lowest false true c d f ea eb ec ed ef n h =
       let z : 4 ≡ n = Option·some-inj .0 h in
       record {
         here = out-of-range (sym z) here (λ w. true≢false (sym eb ∙ range-decided (current p) e .1 w));
-        before = λ m l. no-fault m (λ q. turn-decided (p .last) e .0 ea) (λ q. absurd (omega arith)) (λ q. absurd (omega arith)) (λ q. absurd (omega arith)) (λ q. absurd (omega arith));
+        before =
+            λ m l. no-fault m (λ q. turn-decided (p .last) e .0 ea) (λ q. absurd (omega arith)) (λ q. absurd (omega arith))
+            (λ q. absurd (omega arith)) (λ q. absurd (omega arith));
       }
   lowest false false true d f ea eb ec ed ef n h =
       let z : 5 ≡ n = Option·some-inj .0 h in
       record {
         here = not-named (sym z) here (λ w. true≢false (sym ec ∙ names-decided (current p) e .1 w));
-        before = λ m l. no-fault m (λ q. turn-decided (p .last) e .0 ea) (λ q. range-decided (current p) e .0 eb) (λ q. absurd (omega arith)) (λ q. absurd (omega arith)) (λ q. absurd (omega arith));
+        before =
+            λ m l. no-fault m (λ q. turn-decided (p .last) e .0 ea) (λ q. range-decided (current p) e .0 eb) (λ q. absurd (omega arith))
+            (λ q. absurd (omega arith)) (λ q. absurd (omega arith));
       }
   lowest false false false true f ea eb ec ed ef n h =
       let z : 6 ≡ n = Option·some-inj .0 h in
       record {
         here = out-of-order (sym z) here (λ w. true≢false (sym ed ∙ order-decided (p .last) e .1 w));
-        before = λ m l. no-fault m (λ q. turn-decided (p .last) e .0 ea) (λ q. range-decided (current p) e .0 eb) (λ q. names-decided (current p) e .0 ec) (λ q. absurd (omega arith)) (λ q. absurd (omega arith));
+        before =
+            λ m l. no-fault m (λ q. turn-decided (p .last) e .0 ea) (λ q. range-decided (current p) e .0 eb) (λ q. names-decided (current p) e .0 ec)
+            (λ q. absurd (omega arith)) (λ q. absurd (omega arith));
       }
   lowest false false false false true ea eb ec ed ef n h =
       let z : 7 ≡ n = Option·some-inj .0 h in
       record {
         here = too-many (sym z) here (λ w. true≢false (sym ef ∙ room-decided (p .comps) e .1 w));
-        before = λ m l. no-fault m (λ q. turn-decided (p .last) e .0 ea) (λ q. range-decided (current p) e .0 eb) (λ q. names-decided (current p) e .0 ec) (λ q. order-decided (p .last) e .0 ed) (λ q. absurd (omega arith));
+        before =
+            λ m l. no-fault m (λ q. turn-decided (p .last) e .0 ea) (λ q. range-decided (current p) e .0 eb) (λ q. names-decided (current p) e .0 ec)
+            (λ q. order-decided (p .last) e .0 ed) (λ q. absurd (omega arith));
       }
   lowest false false false false false ea eb ec ed ef n h = absurd (no-some refl h)
 
   pub fault-some : (n : ℕ) → faultOf p e ≡ some n → Lowest (LineFault p bs) n
   unfolding faultOf
-  fault-some n h = lowest (outOfTurn (p .last) e) (outOfRange (current p) e) (lacks (current p) e) (outOfOrder (p .last) e) (tooMany (p .comps) e) refl refl refl refl refl n h
+  fault-some n h =
+      lowest (outOfTurn (p .last) e) (outOfRange (current p) e) (lacks (current p) e) (outOfOrder (p .last) e) (tooMany (p .comps) e) refl refl refl
+      refl refl n h
 
   -- the column that is told is the one that the fault carries
   carries : (n : ℕ) → LineFault p bs n → Carries p bs n (columnOf (current p) n e)
@@ -101,7 +118,8 @@ module _ (p : Progress) (bs : List ℕ) (e : Entry) (cs : List ℕ) (read : entr
   carries n (out-of-turn z h w) = rw z (line-alone (λ q. omega arith) (λ q. omega arith) (λ q. omega arith) refl)
   carries n (out-of-range z h w) =
       rw z (range-value refl here (first-value-exactly (current p) e (λ q. w (subst (InRange (current p)) (same-line h) q)) _ .0 refl) refl)
-  carries n (not-named z h w) = rw z (name-value refl here (first-name-exactly (current p) e (λ q. w (subst (Named (current p)) (same-line h) q)) _ .0 refl) refl)
+  carries n (not-named z h w) =
+      rw z (name-value refl here (first-name-exactly (current p) e (λ q. w (subst (Named (current p)) (same-line h) q)) _ .0 refl) refl)
   carries n (out-of-order z h w) = rw z (line-alone (λ q. omega arith) (λ q. omega arith) (λ q. omega arith) refl)
   carries n (too-many z h w) = rw z (line-alone (λ q. omega arith) (λ q. omega arith) (λ q. omega arith) refl)
 
@@ -110,7 +128,9 @@ module _ (p : Progress) (bs : List ℕ) (e : Entry) (cs : List ℕ) (read : entr
 
   pub fault-none : faultOf p e ≡ none → Faultless p e
   unfolding faultOf
-  fault-none h = faultless (outOfTurn (p .last) e) (outOfRange (current p) e) (lacks (current p) e) (outOfOrder (p .last) e) (tooMany (p .comps) e) refl refl refl refl refl h
+  fault-none h =
+      faultless (outOfTurn (p .last) e) (outOfRange (current p) e) (lacks (current p) e) (outOfOrder (p .last) e) (tooMany (p .comps) e) refl refl
+      refl refl refl h
 
 pub none-fault : (p : Progress) (e : Entry) → Faultless p e → faultOf p e ≡ none
 unfolding faultOf

@@ -62,7 +62,8 @@ in-set-of s (y ∷ ys) e x h =
 up-not-in : (k m : ℕ) (xs : List ℕ) (x : ℕ) → Up k m xs → x < k → has (setOf xs) x ≡ false
 unfolding setOf
 up-not-in k m [] x u h = not-so (has 0 x) (none-in x)
-up-not-in k m (y ∷ ys) x u h = or-not (only y) (setOf ys) x (not-so (has (only y) x) (λ e. omega (arith, one-in y x e))) (up-not-in (suc y) m ys x (u .2) (omega arith))
+up-not-in k m (y ∷ ys) x u h =
+    or-not (only y) (setOf ys) x (not-so (has (only y) x) (λ e. omega (arith, one-in y x e))) (up-not-in (suc y) m ys x (u .2) (omega arith))
 
 -- ---- the members of a set
 pub members-up : (s n k m : ℕ) → k + n ≡ m → Up k m (members s n k)
@@ -97,7 +98,8 @@ up-members (suc n) k m (x ∷ xs) e u = go (up-members n (suc k) m xs (omega ari
         → members (setOf (x ∷ xs)) (suc n) k ≡ x ∷ xs
     go here later (yes p) =
         rw (or-in-l (only x) (setOf xs) k (rw p (in-one k))) (ap₂ {C = List ℕ} (λ n l. n ∷ l) (sym p) (
-        members-same (setOf (x ∷ xs)) (setOf xs) n (suc k) (λ y h. has-or (only x) (setOf xs) y ∙ rw (not-so (has (only x) y) (λ q. omega (arith, one-in x y q))))
+        members-same (setOf (x ∷ xs)) (setOf xs) n (suc k) (λ y h. has-or (only x) (setOf xs) y
+        ∙ rw (not-so (has (only x) y) (λ q. omega (arith, one-in x y q))))
         ∙ here (up-lower (suc k) (suc x) m xs (omega arith) (u .2))))
     go here later (no p) = rw (up-not-in (suc k) m (x ∷ xs) k (omega (arith, u .0), u .1, u .2) (omega arith)) (later (omega (arith, u .0), u .1, u .2))
 
@@ -107,7 +109,8 @@ unfolding members setOf
 has-members s zero k x h p q = absurd (omega arith)
 has-members s (suc n) k x h p q = go (has-members s n (suc k) x h) (has s k) refl
   where
-    go : (suc k ≤ x → x < suc k + n → x ∈ setOf (members s n (suc k))) → (b : Bool) → has s k ≡ b → x ∈ setOf (cond b (k ∷ members s n (suc k)) (members s n (suc k)))
+    go : (suc k ≤ x → x < suc k + n → x ∈ setOf (members s n (suc k))) → (b : Bool) → has s k ≡ b
+        → x ∈ setOf (cond b (k ∷ members s n (suc k)) (members s n (suc k)))
     go ih true e = by-cases (ℕ-discrete x k)
         (λ w. or-in-l (only k) (setOf (members s n (suc k))) x (rw w (in-one k)))
         (λ w. or-in-r (only k) (setOf (members s n (suc k))) x (ih (omega arith) (omega arith)))

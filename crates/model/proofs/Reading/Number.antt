@@ -77,7 +77,10 @@ digits-taken j d bs none-behind h = let e : j ≡ j - 0 = omega arith in ap (λ 
 digits-taken j d bs (one-more {ds} {n} c w l) h =
     ap (moreDigits j d) (append-assoc ds ((byte0 + c) ∷ []) bs)
     ∙ digits-taken j d ((byte0 + c) ∷ bs) w (omega (arith, length-append ds ((byte0 + c) ∷ [])))
-    ∙ ap (λ k. moreDigits k n ((byte0 + c) ∷ bs)) (let e : j - length ds ≡ suc (j - length (ds ++ (byte0 + c) ∷ [])) = omega (arith, length-append ds ((byte0 + c) ∷ [])) in e)
+    ∙ ap (λ k. moreDigits k n ((byte0 + c) ∷ bs)) (let e : j - length ds ≡ suc (j - length (ds ++ (byte0 + c) ∷ [])) = omega (
+      arith,
+      length-append ds ((byte0 + c) ∷ []),
+    ) in e)
     ∙ step (j - length (ds ++ (byte0 + c) ∷ []))
   where
     step : (k : ℕ) → moreDigits (suc k) n ((byte0 + c) ∷ bs) ≡ moreDigits k (n * 10 + c) bs
@@ -111,7 +114,8 @@ taken zero d bs = nothing-taken zero d bs
 taken (suc j) d [] = nothing-taken (suc j) d []
 taken (suc j) d (b ∷ bs) = go (taken j (d * 10 + (b - byte0)) bs) (isDigit b) refl
   where
-    go : Taken j (d * 10 + (b - byte0)) bs (moreDigits j (d * 10 + (b - byte0)) bs) → (t : Bool) → isDigit b ≡ t → Taken (suc j) d (b ∷ bs) (moreDigits (suc j) d (b ∷ bs))
+    go : Taken j (d * 10 + (b - byte0)) bs (moreDigits j (d * 10 + (b - byte0)) bs) → (t : Bool) → isDigit b ≡ t
+        → Taken (suc j) d (b ∷ bs) (moreDigits (suc j) d (b ∷ bs))
     go r false e = rw (e, moreDigits) (nothing-taken (suc j) d (b ∷ bs))
     go r true e = rw (e, moreDigits) (
         let h = is-digit b e in

@@ -12,7 +12,8 @@ use Rattle.model.specs.Line.{lineOf, LineFits}
 use Rattle.model.specs.Faulty.{Faultless, withLine, Reaches, next-line}
 
 -- a line as printed is read and taken in
-pub line-on : {t : List ℕ} {k : ℕ} {p : Progress} {bs : List ℕ} (e : Entry) (cs : List ℕ) → Reaches t k p bs → bs ≡ lineOf e ++ cs → LineFits e → Faultless p e → Reaches t (suc k) (withLine p e) cs
+pub line-on : {t : List ℕ} {k : ℕ} {p : Progress} {bs : List ℕ} (e : Entry) (cs : List ℕ) → Reaches t k p bs → bs ≡ lineOf e ++ cs → LineFits e
+    → Faultless p e → Reaches t (suc k) (withLine p e) cs
 line-on e cs r q l f = next-line r (record { fits = l; printed = q }) f
 
 -- the component c is being read, behind the components m, and d was its last line
@@ -21,7 +22,11 @@ pub record At (t : List ℕ) (c : Comp) (m : List Comp) (d : Entry) (bs : List �
   pub reached : Reaches t line (record { comps = c ∷ m; last = some d }) bs
 
 pub move : {t : List ℕ} {c e : Comp} {m : List Comp} {d : Entry} {bs cs : List ℕ} → c ≡ e → bs ≡ cs → At t c m d bs → At t e m d cs
-move {t} {m = m} {d} p q a = record { line = a .line; reached = subst₂ (λ c bs. Reaches t (a .line) (record { comps = c ∷ m; last = some d }) bs) p q (a .reached) }
+move {t} {m =
+    m} {d} p q a = record {
+      line = a .line;
+      reached = subst₂ (λ c bs. Reaches t (a .line) (record { comps = c ∷ m; last = some d }) bs) p q (a .reached);
+    }
 
 -- a line for each member of a set of numbers below top, ascending, behind the components m
 pub record Series (m : List Comp) (top : ℕ) : Type 1 where
@@ -41,7 +46,8 @@ pub record Series (m : List Comp) (top : ℕ) : Type 1 where
   pub fits : (a : ℕ) → a < top → LineFits (line a)
   pub faultless : (a : ℕ) (d : Entry) → a < top → Last a d → Faultless (record { comps = upTo a ∷ m; last = some d }) (line a)
 
-pub series-read : {t : List ℕ} {m : List Comp} {top : ℕ} (S : Series m top) (n a : ℕ) (d : Entry) (bs : List ℕ) → a + n ≡ top → S .Last a d → At t (S .upTo a) m d (spread (S .part) a n ++ bs)
+pub series-read : {t : List ℕ} {m : List Comp} {top : ℕ} (S : Series m top) (n a : ℕ) (d : Entry) (bs : List ℕ) → a + n ≡ top → S .Last a d
+    → At t (S .upTo a) m d (spread (S .part) a n ++ bs)
     → (e : Entry) × S .Last top e × At t (S .upTo top) m e bs
 series-read {top = top} S zero a d bs q h r = let e : a ≡ top = omega arith in (d, subst (λ a. S .Last a d) e h, move (ap (S .upTo) e) refl r)
 series-read {t} {m} {top} S (suc n) a d bs q h r = go (series-read S n (suc a)) (S .member a) refl
@@ -52,7 +58,8 @@ series-read {t} {m} {top} S (suc n) a d bs q h r = go (series-read S n (suc a)) 
     front : (l : List ℕ) → S .part a ≡ l → spread (S .part) a (suc n) ++ bs ≡ l ++ rest
     front l e = append-assoc (S .part a) (spread (S .part) (suc a) n) bs ∙ ap (λ (l : List ℕ). l ++ rest) e
 
-    go : ((d : Entry) (bs : List ℕ) → suc a + n ≡ top → S .Last (suc a) d → At t (S .upTo (suc a)) m d (spread (S .part) (suc a) n ++ bs) → (e : Entry) × S .Last top e × At t (S .upTo top) m e bs)
+    go : ((d : Entry) (bs : List ℕ) → suc a + n ≡ top → S .Last (suc a) d → At t (S .upTo (suc a)) m d (spread (S .part) (suc a) n ++ bs)
+        → (e : Entry) × S .Last top e × At t (S .upTo top) m e bs)
         → (b : Bool) → S .member a ≡ b → (e : Entry) × S .Last top e × At t (S .upTo top) m e bs
     go ih false e = ih d bs (omega arith) (S .later a d h) (move (S .none-more a e) (front [] (S .none-part a e)) r)
     go ih true e = ih (S .line a) bs (omega arith) (S .one-last a) (record {

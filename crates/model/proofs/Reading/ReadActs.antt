@@ -34,7 +34,8 @@ same-kinds c a b d e = λ k. withKinds c (a k) (b k) (d k) (e k)
 acts-none : (c : Comp) (a : ℕ) → has (acts c) a ≡ false → actsUpTo c a ≡ actsUpTo c (suc a)
 acts-none c a h =
     let n = no-kind c a h in
-    same-kinds c (sym (below-out (c .ins) a (n .ins))) (sym (below-out (c .outs) a (n .outs))) (sym (below-out (c .uins) a (n .uins))) (sym (below-out (c .uouts) a (n .uouts)))
+    same-kinds c (sym (below-out (c .ins) a (n .ins))) (sym (below-out (c .outs) a (n .outs))) (sym (below-out (c .uins) a (n .uins)))
+    (sym (below-out (c .uouts) a (n .uouts)))
 
 acts-one : (c : Comp) (a : ℕ) → WellComp c → a ∈ acts c → withAct (actsUpTo c a) a (kindOf c a) ≡ actsUpTo c (suc a)
 unfolding kindOf
@@ -63,12 +64,14 @@ acts-one c a w h = ⊎-elim
     is-uin : a ∈ c .uins → withAct (actsUpTo c a) a (kindOf c a) ≡ actsUpTo c (suc a)
     is-uin m =
         rw (no (c .ins) (λ i. w .ins-uins a i m), no (c .outs) (λ o. w .outs-uins a o m), m)
-        (same-kinds c (keep (c .ins) (λ i. w .ins-uins a i m)) (keep (c .outs) (λ o. w .outs-uins a o m)) (grow (c .uins) m) (keep (c .uouts) (w .uins-uouts a m)))
+        (same-kinds c (keep (c .ins) (λ i. w .ins-uins a i m)) (keep (c .outs) (λ o. w .outs-uins a o m)) (grow (c .uins) m)
+        (keep (c .uouts) (w .uins-uouts a m)))
 
     is-uout : a ∈ c .uouts → withAct (actsUpTo c a) a (kindOf c a) ≡ actsUpTo c (suc a)
     is-uout m =
         rw (no (c .ins) (λ i. w .ins-uouts a i m), no (c .outs) (λ o. w .outs-uouts a o m), no (c .uins) (λ u. w .uins-uouts a u m))
-        (same-kinds c (keep (c .ins) (λ i. w .ins-uouts a i m)) (keep (c .outs) (λ o. w .outs-uouts a o m)) (keep (c .uins) (λ u. w .uins-uouts a u m)) (grow (c .uouts) m))
+        (same-kinds c (keep (c .ins) (λ i. w .ins-uouts a i m)) (keep (c .outs) (λ o. w .outs-uouts a o m))
+        (keep (c .uins) (λ u. w .uins-uouts a u m)) (grow (c .uouts) m))
 
 -- the last line is a `comp` line, or that of an action below a
 abbrev pub ActLast : ℕ → Entry → Type 0
@@ -99,10 +102,21 @@ act-series c m w =
       one-more = λ a e. ap {B = List Comp} (λ d. d ∷ m) (acts-one c a w e);
       one-last = λ a. omega arith;
       fits = λ a h. omega arith;
-      faultless = λ a d h l. let f = act-follows a (kindOf c a) d l in record { in-turn = inr (f .0); in-range = h; named = tt; in-order = (f .1, tt); room = tt };
+      faultless =
+          λ a d h l. let f = act-follows a (kindOf c a) d l in record {
+            in-turn = inr (f .0);
+            in-range = h;
+            named = tt;
+            in-order = (
+              f .1,
+              tt,
+            );
+            room = tt;
+          };
     }
 
-pub acts-read : {t : List ℕ} (c : Comp) (m : List Comp) (d : Entry) (bs : List ℕ) → WellComp c → ActLast 0 d → At t (actsUpTo c 0) m d (spread (actPart c) 0 maxActions ++ bs)
+pub acts-read : {t : List ℕ} (c : Comp) (m : List Comp) (d : Entry) (bs : List ℕ) → WellComp c → ActLast 0 d
+    → At t (actsUpTo c 0) m d (spread (actPart c) 0 maxActions ++ bs)
     → (e : Entry) × ActLast maxActions e × At t (actsUpTo c maxActions) m e bs
 unfolding act-series
 acts-read c m d bs w h r = series-read (act-series c m w) maxActions 0 d bs refl h r

@@ -21,7 +21,18 @@ use Rattle.model.proofs.Reading.Phases.{At, Series, series-read}
 
 -- c with these clocks, and no row yet
 abbrev pub withClocks : Comp → ℕ → ℕ → Comp
-withClocks c k s = record { states = c .states; start = c .start; ins = c .ins; outs = c .outs; uins = c .uins; uouts = c .uouts; clocks = k; started = s; rows = [] }
+withClocks c k s =
+    record {
+      states = c .states;
+      start = c .start;
+      ins = c .ins;
+      outs = c .outs;
+      uins = c .uins;
+      uouts = c .uouts;
+      clocks = k;
+      started = s;
+      rows = [];
+    }
 
 -- c with its clocks below x
 abbrev pub clksUpTo : Comp → ℕ → Comp
@@ -29,7 +40,8 @@ clksUpTo c x = withClocks c (c .clocks % 2 ^ x) (c .started % 2 ^ x)
 
 clks-none : (c : Comp) (x : ℕ) → WellComp c → has (c .clocks) x ≡ false → clksUpTo c x ≡ clksUpTo c (suc x)
 clks-none c x w h =
-    ap₂ (withClocks c) (sym (below-out (c .clocks) x h)) (sym (below-out (c .started) x (not-so (has (c .started) x) (λ m. true≢false (sym (w .started x m) ∙ h)))))
+    ap₂ (withClocks c) (sym (below-out (c .clocks) x h))
+    (sym (below-out (c .started) x (not-so (has (c .started) x) (λ m. true≢false (sym (w .started x m) ∙ h)))))
 
 clks-one : (c : Comp) (x : ℕ) → x ∈ c .clocks → withClk (clksUpTo c x) x (cond (has (c .started) x) 1 0) ≡ clksUpTo c (suc x)
 clks-one c x h = ap₂ (withClocks c) (sym (below-in (c .clocks) x h)) (go (has (c .started) x) refl)
@@ -72,10 +84,12 @@ clk-series c m w =
       one-last = λ x. omega arith;
       fits = λ x h. (omega arith, omega (arith, flag-small (has (c .started) x)));
       faultless = λ x d h l.
-          let f = clk-follows x (cond (has (c .started) x) 1 0) d l in record { in-turn = inr (f .0); in-range = (h, flag-small (has (c .started) x)); named = tt; in-order = (f .1, tt); room = tt };
+          let f = clk-follows x (cond (has (c .started) x) 1 0) d l in
+          record { in-turn = inr (f .0); in-range = (h, flag-small (has (c .started) x)); named = tt; in-order = (f .1, tt); room = tt };
     }
 
-pub clks-read : {t : List ℕ} (c : Comp) (m : List Comp) (d : Entry) (bs : List ℕ) → WellComp c → ClkLast 0 d → At t (clksUpTo c 0) m d (spread (clkPart c) 0 maxClocks ++ bs)
+pub clks-read : {t : List ℕ} (c : Comp) (m : List Comp) (d : Entry) (bs : List ℕ) → WellComp c → ClkLast 0 d
+    → At t (clksUpTo c 0) m d (spread (clkPart c) 0 maxClocks ++ bs)
     → (e : Entry) × ClkLast maxClocks e × At t (clksUpTo c maxClocks) m e bs
 unfolding clk-series
 clks-read c m d bs w h r = series-read (clk-series c m w) maxClocks 0 d bs refl h r

@@ -26,7 +26,18 @@ use Rattle.model.proofs.Reading.ReadClocks.{ClkLast}
 
 -- c with these rows
 abbrev pub withRows : Comp → List Row → Comp
-withRows c rs = record { states = c .states; start = c .start; ins = c .ins; outs = c .outs; uins = c .uins; uouts = c .uouts; clocks = c .clocks; started = c .started; rows = rs }
+withRows c rs =
+    record {
+      states = c .states;
+      start = c .start;
+      ins = c .ins;
+      outs = c .outs;
+      uins = c .uins;
+      uouts = c .uouts;
+      clocks = c .clocks;
+      started = c .started;
+      rows = rs;
+    }
 
 -- each row follows the line before it
 abbrev pub Follow : Entry → List Row → Type 0
@@ -39,7 +50,8 @@ module _ (c : Comp) (w : WellComp c) (r : Row) (h : WellRow c r) where
 
   action-small : r .action < maxActions
   action-small = in-below maxActions (acts c) (r .action)
-      (or-lt maxActions (c .ins ∪ c .uins) (c .outs ∪ c .uouts) (or-lt maxActions (c .ins) (c .uins) (w .ins) (w .uins)) (or-lt maxActions (c .outs) (c .uouts) (w .outs) (w .uouts)))
+      (or-lt maxActions (c .ins ∪ c .uins) (c .outs ∪ c .uouts) (or-lt maxActions (c .ins) (c .uins) (w .ins) (w .uins))
+      (or-lt maxActions (c .outs) (c .uouts) (w .outs) (w .uouts)))
       (h .action)
 
   guard-named : GuardIs (λ x. x ∈ c .clocks) (guardRead (r .guard))
@@ -78,16 +90,19 @@ turn-most (act-entry a k) = omega arith
 turn-most (clk-entry x b) = omega arith
 turn-most (row-entry s g a r t) = omega arith
 
-pub rows-read : {t : List ℕ} (c : Comp) (m : List Comp) → WellComp c → (rs qs : List Row) (d : Entry) (bs : List ℕ) → All (WellRow c) qs → Follow d qs → length rs + length qs + rowCount m ≤ maxRows
+pub rows-read : {t : List ℕ} (c : Comp) (m : List Comp) → WellComp c → (rs qs : List Row) (d : Entry) (bs : List ℕ) → All (WellRow c) qs → Follow d qs
+    → length rs + length qs + rowCount m ≤ maxRows
     → At t (withRows c rs) m d (rowLines qs ++ bs) → (e : Entry) × At t (withRows c (rs ++ qs)) m e bs
 unfolding rowLines takeIn rowCount
 rows-read c m w rs [] d bs h f l r = (d, move (ap (withRows c) (sym (append-nil rs))) refl r)
 rows-read c m w rs (q ∷ qs) d bs h f l r =
     let s = resets-small c w q (h .0) in
-    let z = rows-read c m w (rs ++ q ∷ []) qs (rowRead q) bs (h .1) (f .1) (omega (arith, length-append rs (q ∷ []))) (move (ap (λ (p : Row). withRows c (rs ++ p ∷ [])) (row-back q s)) refl (record {
+    let z = rows-read c m w (rs ++ q ∷ []) qs (rowRead q) bs (h .1) (f .1) (omega (arith, length-append rs (q ∷ [])))
+    (move (ap (λ (p : Row). withRows c (rs ++ p ∷ [])) (row-back q s)) refl (record {
       line = suc (r .line);
       reached =
-          line-on (rowRead q) (rowLines qs ++ bs) (r .reached) (append-assoc (rowLine q) (rowLines qs) bs ∙ ap (λ (x : List ℕ). x ++ (rowLines qs ++ bs)) (row-line q s)) (row-fits c w q (h .0))
+          line-on (rowRead q) (rowLines qs ++ bs) (r .reached) (append-assoc (rowLine q) (rowLines qs) bs
+          ∙ ap (λ (x : List ℕ). x ++ (rowLines qs ++ bs)) (row-line q s)) (row-fits c w q (h .0))
           (record {
             in-turn = inr (turn-most d);
             in-range = row-in-range c w q (h .0) rs;
@@ -110,8 +125,10 @@ Up rs = (k : ℕ) → suc k < length rs → before (getD rs k noRow) (getD rs (s
 
 rows-behind : (c : Comp) → WellComp c → (r : Row) (rs : List Row) → All (WellRow c) (r ∷ rs) → Up (r ∷ rs) → Follow (rowRead r) rs
 rows-behind c w r [] h b = tt
-rows-behind c w r (q ∷ qs) h b =
-    (ap₂ before (row-back r (resets-small c w r (h .0))) (row-back q (resets-small c w q (h .1 .0))) ∙ b 0 (omega arith), rows-behind c w q qs (h .1) (λ k l. b (suc k) (omega arith)))
+rows-behind c w r (q ∷ qs) h b = (
+  ap₂ before (row-back r (resets-small c w r (h .0))) (row-back q (resets-small c w q (h .1 .0))) ∙ b 0 (omega arith),
+  rows-behind c w q qs (h .1) (λ k l. b (suc k) (omega arith)),
+)
 
 pub rows-follow : (c : Comp) → WellComp c → (x : ℕ) (d : Entry) → ClkLast x d → (rs : List Row) → All (WellRow c) rs → Up rs → Follow d rs
 rows-follow c w x d l [] h b = tt

@@ -1,4 +1,5 @@
--- The wrong byte of a line, whatever lines there are: where a line's scan stops, up to there a line is begun, and no byte behind matters, the scan stops at the wrong byte.
+-- The wrong byte of a line, whatever lines there are: where a line's scan stops, up to there a line is begun, and no byte behind matters, the scan
+-- stops at the wrong byte.
 use mathlib.Core.Path.{_≡_, refl, sym, _∙_, ap, subst}
 use mathlib.Core.List.{List, [], _∷_, _++_, append-assoc, append-nil}
 use Prim.Native.Nat.{ℕ, suc, _<_}
@@ -37,7 +38,8 @@ module _ {A : Type 0} (print : A → List ℕ) (Fits : A → Type 0) where
 
   pub one-wrong : {bs : List ℕ} {j k : ℕ} → WrongByteOf print Fits bs j → WrongByteOf print Fits bs k → j ≡ k
   one-wrong a b =
-      apart-cases (length (a .before)) (length (b .before)) (λ e. a .at ∙ ap suc e ∙ sym (b .at)) (λ h. absurd (no-earlier a b h)) (λ h. absurd (no-earlier b a h))
+      apart-cases (length (a .before)) (length (b .before)) (λ e. a .at ∙ ap suc e ∙ sym (b .at)) (λ h. absurd (no-earlier a b h))
+      (λ h. absurd (no-earlier b a h))
 
 module _ {A : Type 0} (scan : List ℕ → Scan A) (print : A → List ℕ) (Fits : A → Type 0) (exact : Exact scan print Fits Any) (local : StopLocal scan)
     (begins : (bs m : List ℕ) → scan bs ≡ stops m → (f : List ℕ) × (bs ≡ f ++ m) × BeginsOf print Fits f) where

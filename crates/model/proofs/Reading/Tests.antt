@@ -12,7 +12,8 @@ use Rattle.laws.specs.Sets.{has, _∈_}
 use Rattle.laws.proofs.TestLaws.{and-true}
 use Rattle.answer.specs.Limits.{maxComponents, maxRows, maxStates, maxActions, maxClocks}
 use Rattle.model.specs.Model.{Comp, acts, rowCount}
-use Rattle.model.specs.Reading.{Entry, comp-entry, act-entry, clk-entry, row-entry, turn, outOfTurn, allBelow, guardBelow, outOfRange, allIn, guardIn, lacks, ascending, follows, resetsAscend, outOfOrder, tooMany}
+use Rattle.model.specs.Reading.{Entry, comp-entry, act-entry, clk-entry, row-entry, turn, outOfTurn, allBelow, guardBelow, outOfRange, allIn}
+use Rattle.model.specs.Reading.{guardIn, lacks, ascending, follows, resetsAscend, outOfOrder, tooMany}
 use Rattle.model.specs.Reading.{Value, states-value, state-value, action-value, clock-value, set-value, dash-value, outside, unnamed}
 use Rattle.model.specs.Column.{Ranged, Owned}
 use Rattle.model.specs.Faulty.{Each, GuardIs, InTurn, InRange, Named, After, Ascends, ResetsAscend, InOrder, Room}
@@ -86,7 +87,8 @@ ascends-decided (x ∷ y ∷ ys) = test-and (ltb x y) (ascending (y ∷ ys)) (le
 pub range-decided : (c : Comp) (e : Entry) → (outOfRange c e ≡ false) ↔ InRange c e
 unfolding outOfRange
 range-decided c (comp-entry n s) =
-    let r = no-fault (leb 1 n && (leb n maxStates && ltb s n)) (test-and (leb 1 n) (leb n maxStates && ltb s n) (most 1 n) (test-and (leb n maxStates) (ltb s n) (most n maxStates) (less s n))) in
+    let r = no-fault (leb 1 n && (leb n maxStates && ltb s n)) (test-and (leb 1 n) (leb n maxStates && ltb s n) (most 1 n)
+    (test-and (leb n maxStates) (ltb s n) (most n maxStates) (less s n))) in
     (λ h. let q = r .0 h in (q .0, q .1 .0, q .1 .1), λ h. r .1 (h .0, (h .1, h .2)))
 range-decided c (act-entry a k) = no-fault (ltb a maxActions) (less a maxActions)
 range-decided c (clk-entry x b) = no-fault (ltb x maxClocks && leb b 1) (test-and (ltb x maxClocks) (leb b 1) (less x maxClocks) (most b 1))
@@ -106,7 +108,8 @@ names-decided c (act-entry a k) = never
 names-decided c (clk-entry x b) = never
 names-decided c (row-entry s g a r t) =
     let more = test-and (has (acts c) a) (allIn (c .clocks) r) same (in-decided (c .clocks) r) in
-    let d = no-fault (guardIn (c .clocks) g && (has (acts c) a && allIn (c .clocks) r)) (test-and (guardIn (c .clocks) g) (has (acts c) a && allIn (c .clocks) r) (guard-in-decided (c .clocks) g) more) in
+    let d = no-fault (guardIn (c .clocks) g && (has (acts c) a && allIn (c .clocks) r))
+    (test-and (guardIn (c .clocks) g) (has (acts c) a && allIn (c .clocks) r) (guard-in-decided (c .clocks) g) more) in
     (λ h. let q = d .0 h in (q .0, q .1 .0, q .1 .1), λ h. d .1 (h .0, (h .1, h .2)))
 
 -- ---- 4 and 5, of one value
@@ -152,7 +155,8 @@ resets-decided (row-entry s g a r t) = ascends-decided r
 pub order-decided : (l : Option Entry) (e : Entry) → (outOfOrder l e ≡ false) ↔ InOrder l e
 unfolding outOfOrder follows
 order-decided none e = no-fault (resetsAscend e) (resets-decided e)
-order-decided (some d) e = no-fault (follows (some d) e && resetsAscend e) (test-and (follows (some d) e) (resetsAscend e) (after-decided d e) (resets-decided e))
+order-decided (some d) e =
+    no-fault (follows (some d) e && resetsAscend e) (test-and (follows (some d) e) (resetsAscend e) (after-decided d e) (resets-decided e))
 
 -- ---- 7
 pub room-decided : (m : List Comp) (e : Entry) → (tooMany m e ≡ false) ↔ Room m e

@@ -1,25 +1,30 @@
--- 2 tells the first byte that no well-shaped line could have there: where a line's scan stops, the bytes before begin some line, and with the byte there they begin none.
+-- 2 tells the first byte that no well-shaped line could have there: where a line's scan stops, the bytes before begin some line, and with the byte
+-- there they begin none.
 use mathlib.Core.Path.{_≡_, refl, sym, _∙_, ap, subst}
 use mathlib.Core.Logic.{_↔_}
 use mathlib.Core.Option.{Option, none, some}
 use mathlib.Core.Bool.{Bool, true, false}
 use mathlib.Core.List.{List, [], _∷_, _++_, append-assoc, append-nil}
-use Prim.Native.Nat.{ℕ, zero, suc, _-_, _<_}
+use Prim.Native.Nat.{ℕ, zero, suc, _-_}
 use native.Mathlib.Omega.{arith}
-use lib.ListN.{length, length-append}
+use lib.ListN.{length}
 use lib.Dec.{eqb}
 use borrow.Author.Tests.{eqb-true}
 use Rattle.answer.specs.Limits.{maxDigits}
-use Rattle.model.specs.Text.{byte0, tab, lf, comma, dash, compWord, actWord, clkWord, rowWord, Kind, in-kind, out-kind, uin-kind, uout-kind, kindWord, decimal, guardField, joined, fieldsAfter}
-use Rattle.model.specs.Reading.{Scan, is, stops, got, then, shorter, furthest, exactly, theByte, isDigit, moreDigits, number, moreNumbers, numbers, guardOrDash, numbersOrDash, kind, guardOf, field, ended}
+use Rattle.model.specs.Text.{byte0, tab, lf, comma, dash, compWord, actWord, clkWord, rowWord, Kind, in-kind, out-kind, uin-kind, uout-kind}
+use Rattle.model.specs.Text.{kindWord, decimal, guardField, joined, fieldsAfter}
+use Rattle.model.specs.Reading.{Scan, is, stops, got, then, shorter, furthest, exactly, theByte, isDigit, moreDigits, number, moreNumbers}
+use Rattle.model.specs.Reading.{numbers, guardOrDash, numbersOrDash, kind, guardOf, field, ended}
 use Rattle.model.specs.Reading.{Entry, comp-entry, act-entry, clk-entry, row-entry, compEntry, actEntry, clkEntry, rowEntry, entry, stopColumn}
-use Rattle.model.specs.Line.{Fits, AllFit, GuardFits, listField, lineOf, LineFits, Ends, Any, Exact}
+use Rattle.model.specs.Line.{Fits, AllFit, GuardFits, listField, lineOf, LineFits, Exact}
 use Rattle.model.specs.Column.{Begins, WrongByte}
 use Rattle.model.proofs.Reading.Scans.{stops-inj, no-is}
 use Rattle.model.proofs.Reading.Fields.{exactly-scanned, number-exact, kind-exact, guard-exact, list-exact, further, joined-first}
 use Rattle.model.proofs.Reading.Lines.{field-scanned, entry-exact}
 use Rattle.model.proofs.Reading.Stopped.{front-begins, stop-is-wrong, one-wrong}
-use Rattle.model.proofs.Reading.Local.{restOf, leaving, Local, StopLocal, stop-local, behind, then-local, exactly-local, number-local, guard-local, list-local, kind-local, field-local, ended-local, both-stop, furthest-local, shorter-either}
+use Rattle.model.proofs.Reading.Local.{Local, StopLocal, stop-local, behind, then-local, exactly-local, number-local}
+use Rattle.model.proofs.Reading.Local.{guard-local, list-local, kind-local, field-local, ended-local, both-stop, furthest-local}
+use Rattle.model.proofs.Reading.Local.{shorter-either}
 
 -- ---- the bytes up to where a scan stops can be gone on with
 -- of one field: they begin what is printed of some good value
@@ -220,8 +225,7 @@ field-opens {S = S} {print} {Good} x good o bs m e = go (theByte tab bs) refl e
           value = x;
           good = good;
           rest = p .1 ++ print x;
-          printed = ap (λ (l : List ℕ). l ++ print x) (p .3) ∙ append-assoc
-              (p .0) (p .1) (print x);
+          printed = ap (λ (l : List ℕ). l ++ print x) (p .3) ∙ append-assoc (p .0) (p .1) (print x);
         }
 
 -- ---- of a line: behind the bytes u, the bytes up to where the scan stops begin a line

@@ -27,7 +27,8 @@ no-state-requires c κs = search needs
 returns : tie.Need-returns
 returns c =
     let r = c .before .before in
-    refused-20 (r .before .before .args .table .now) (r .recognise .result) (r .recognise .ensures) (c .before .if1 .taken) (c .no-state .result) (c .no-state .ensures)
+    refused-20 (r .before .before .args .table .now) (r .recognise .result) (r .recognise .ensures) (c .before .if1 .taken) (c .no-state .result)
+    (c .no-state .ensures)
 
 joined-requires : tie.Need-joined-requires
 joined-requires c κs = (image-long _ (image c), count-below _ (image c), search needs)

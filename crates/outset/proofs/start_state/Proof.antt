@@ -1,13 +1,11 @@
 -- `outset::start_state` meets its contract: the places passed hold the starts of the components.
 use mathlib.Core.Path.{_≡_, refl, sym, _∙_, ap}
-use mathlib.Core.List.{List}
 use Prim.Native.Nat.{ℕ, _-_, _<_, _≤_}
 use native.Mathlib.Omega.{arith}
 use borrow.Author.Needs.{needs}
 use denote.Ref.{now}
 use lib.ListN.{length, getD, length-set}
 use Rattle.answer.specs.Limits.{maxComponents}
-use Rattle.answer.specs.declared.State.{State}
 use Rattle.iosa.specs.Start.{startAll}
 use Rattle.layout.specs.Image.{modelOf}
 use Rattle.layout.proofs.ImageIsSane.{image-long}

@@ -1,9 +1,7 @@
 -- `pairs::clash_set` meets its contract: the sets of the components passed, and what those clash by.
-use mathlib.Core.Path.{_≡_, refl, sym, ap, ap₂, _∙_}
-use Prim.Native.Nat.{ℕ, zero, suc, _+_, _-_, _≤_, _<_}
+use mathlib.Core.Path.{_≡_, sym, ap, ap₂, _∙_}
+use Prim.Native.Nat.{_-_, _≤_}
 use native.Mathlib.Omega.{arith}
-use native.Mathlib.Numerals.{add-one}
-use lib.ListN.{length, getD, set}
 use denote.Ref.{now}
 use Rattle.laws.specs.Sets.{_∪_, _∩_}
 use Rattle.laws.specs.Fold.{over}
@@ -16,13 +14,10 @@ use Rattle.pairs.specs.Clashes.{leftOf, rightOf, leftBelow, rightBelow, 
 use borrow.Author.Needs.{needs}
 use Rattle.pairs.proofs.clash_set.Statement.{statement}
 use Rattle.pairs.proofs.clash_set.Tie as tie
-use Rattle.pairs.proofs.clash_set.Reads as reads
-use Rattle.pairs.proofs.clash_set.Lts as lts
-use Rattle.layout.proofs.count_of.Reads as count-of-reads
-use Rattle.pairs.proofs.sides_of.Reads as sides-of-reads
 
 abbrev Inv-loop : tie.InvT-loop
-Inv-loop t kind n left₀ right₀ all₀ i₀ left right all i = (i ≤ n) × (left ≡ leftBelow kind t i) × (right ≡ rightBelow kind t i) × (all ≡ over (λ j s. s ∪ clashAt kind t j) 0 i 0)
+Inv-loop t kind n left₀ right₀ all₀ i₀ left right all i =
+    (i ≤ n) × (left ≡ leftBelow kind t i) × (right ≡ rightBelow kind t i) × (all ≡ over (λ j s. s ∪ clashAt kind t j) 0 i 0)
 
 abbrev μ-loop : tie.MeasureT-loop
 μ-loop t kind n left₀ right₀ all₀ i₀ left right all i = n - i
@@ -46,15 +41,17 @@ loop-less c = search needs
 loop-again : tie.Need-loop-again Inv-loop μ-loop
 unfolding leftBelow rightBelow clashAt
 loop-again c =
-    let l = c .before .before .before .before .before .before .loop in
-    let s0 = c .before .before .before .before .before .before .before .before .before in
+    let d = c .before .before .before .before in
+    let s0 = d .before .before .before .before .before in
+    let l = d .before .before .loop in
     let t = now (s0 .args .t) in
     let k = s0 .args .kind in
-    let s = c .before .before .before .before .sides-of in (
+    let s = d .sides-of in (
       search needs,
       ap₂ _∪_ (l .inv .1) (s .ensures .0) ∙ sym (over-last (λ i s. s ∪ leftOf k (compOf t i)) 0 (l .i) 0 (omega arith)),
       ap₂ _∪_ (l .inv .2) (s .ensures .1) ∙ sym (over-last (λ i s. s ∪ rightOf k (compOf t i)) 0 (l .i) 0 (omega arith)),
-      ap₂ _∪_ (l .inv .3) (ap₂ _∪_ (ap₂ _∩_ (l .inv .1) (s .ensures .1)) (ap₂ _∩_ (l .inv .2) (s .ensures .0))) ∙ sym (over-last (λ j s. s ∪ clashAt k t j) 0 (l .i) 0 (omega arith)),
+      ap₂ _∪_ (l .inv .3) (ap₂ _∪_ (ap₂ _∩_ (l .inv .1) (s .ensures .1)) (ap₂ _∩_ (l .inv .2) (s .ensures .0)))
+          ∙ sym (over-last (λ j s. s ∪ clashAt k t j) 0 (l .i) 0 (omega arith)),
     )
 
 returns : tie.Need-returns Inv-loop μ-loop

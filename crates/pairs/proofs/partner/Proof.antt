@@ -1,16 +1,13 @@
 -- `pairs::partner` meets its contract: what is left to search is the whole search.
 use mathlib.Core.Path.{_≡_, refl, sym, ap, ap₂, _∙_}
-use Prim.Native.Nat.{ℕ, zero, suc, _+_, _-_, _≤_, _<_}
+use Prim.Native.Nat.{ℕ, _+_, _-_, _≤_}
 use native.Mathlib.Omega.{arith}
-use native.Mathlib.Numerals.{add-one}
-use lib.ListN.{length, getD, set}
 use denote.Ref.{now}
 use mathlib.Core.Bool.{Bool}
 use mathlib.Core.List.{List}
 use Rattle.laws.specs.Sets.{has, _∪_, _∩_}
 use Rattle.laws.specs.Search.{seek, when}
 use Rattle.laws.proofs.SearchLaws.{test-here, test-next, seek-end}
-use Rattle.layout.specs.Layout.{countOf}
 use Rattle.layout.specs.Image.{compOf}
 use Rattle.layout.proofs.ImageIsSane.{image-long, count-below}
 use Rattle.rows.specs.Ranges.{foundOf}
@@ -19,11 +16,6 @@ use Rattle.pairs.specs.Clashes.{clashOf, partnerOf}
 use borrow.Author.Needs.{needs}
 use Rattle.pairs.proofs.partner.Statement.{statement}
 use Rattle.pairs.proofs.partner.Tie as tie
-use Rattle.pairs.proofs.partner.Reads as reads
-use Rattle.pairs.proofs.partner.Lts as lts
-use Rattle.layout.proofs.count_of.Reads as count-of-reads
-use Rattle.pairs.proofs.sides_of.Reads as sides-of-reads
-use Rattle.sets.proofs.has.Reads as has-reads
 
 abbrev with : List ℕ → Shared → ℕ → ℕ → ℕ → Bool
 with t k x i j = has (clashOf k (compOf t i) (compOf t j)) x
@@ -50,18 +42,25 @@ sides-of-requires-2 : tie.Need-sides-of-requires-2 Inv-loop μ-loop
 sides-of-requires-2 c κs = let s0 = c .before .before .before .before .before in (s0 .pre .0, omega (arith, c .before .before .before .count-of .ensures))
 
 has-requires : tie.Need-has-requires Inv-loop μ-loop
-has-requires c κs = c .before .before .before .before .before .before .before .before .before .before .pre .2
+has-requires c κs =
+    let m = c .before .before .before .before .before .before in
+    let s = m .before .before .before .before in
+    s .pre .2
 
 returns : tie.Need-returns Inv-loop μ-loop
 unfolding partnerOf clashOf foundOf
 returns c =
-    let s0 = c .before .before .before .before .before .before .before .before .before .before .before .before in
-    let l = c .before .before .before .before .before .before .before .before .loop in
+    let d₁ = c .before .before .before .before .before .before in
+    let d₂ = d₁ .before .before .before .before in
+    let s0 = d₂ .before .before in
+    let l = d₁ .before .before .loop in
     let t = now (s0 .args .t) in
-    let a = c .before .before .before .before .before .before .before .before .before .sides-of in
-    let b = c .before .before .before .before .before .before .sides-of2 in
-    let e = c .before .has .ensures ∙ ap (λ s. has s (s0 .args .x)) (ap₂ _∪_ (ap₂ _∩_ (a .ensures .0) (b .ensures .1)) (ap₂ _∩_ (a .ensures .1) (b .ensures .0))) in
-    ap foundOf (sym (ap (seek (λ j. when (with t (s0 .args .kind) (s0 .args .x) (s0 .args .i) j) j) (s0 .args .i + 1)) (sym (c .before .before .before .before .before .before .before .before .before .before .count-of .ensures)) ∙ sym (l .inv .1) ∙ test-here (with t (s0 .args .kind) (s0 .args .x) (s0 .args .i)) (l .j) _ (search needs) (sym e ∙ c .if1 .taken)))
+    let a = d₁ .before .before .before .sides-of in
+    let b = d₁ .sides-of2 in
+    let e = c .before .has .ensures ∙ ap (λ s. has s (s0 .args .x))
+    (ap₂ _∪_ (ap₂ _∩_ (a .ensures .0) (b .ensures .1)) (ap₂ _∩_ (a .ensures .1) (b .ensures .0))) in
+    ap foundOf (sym (ap (seek (λ j. when (with t (s0 .args .kind) (s0 .args .x) (s0 .args .i) j) j) (s0 .args .i + 1)) (sym (d₂ .count-of .ensures))
+    ∙ sym (l .inv .1) ∙ test-here (with t (s0 .args .kind) (s0 .args .x) (s0 .args .i)) (l .j) _ (search needs) (sym e ∙ c .if1 .taken)))
 
 add-j-2 : tie.Need-add-j-2 Inv-loop μ-loop
 add-j-2 c = search needs
@@ -72,12 +71,14 @@ loop-less c = search needs
 loop-again : tie.Need-loop-again Inv-loop μ-loop
 unfolding clashOf
 loop-again c =
-    let s0 = c .before .before .before .before .before .before .before .before .before .before .before .before in
-    let l = c .before .before .before .before .before .before .before .before .loop in
+    let d = c .before .before .before .before .before .before in
+    let s0 = d .before .before .before .before .before .before in
+    let l = d .before .before .loop in
     let t = now (s0 .args .t) in
-    let a = c .before .before .before .before .before .before .before .before .before .sides-of in
-    let b = c .before .before .before .before .before .before .sides-of2 in
-    let e = c .before .has .ensures ∙ ap (λ s. has s (s0 .args .x)) (ap₂ _∪_ (ap₂ _∩_ (a .ensures .0) (b .ensures .1)) (ap₂ _∩_ (a .ensures .1) (b .ensures .0))) in
+    let a = d .before .before .before .sides-of in
+    let b = d .sides-of2 in
+    let e = c .before .has .ensures ∙ ap (λ s. has s (s0 .args .x))
+    (ap₂ _∪_ (ap₂ _∩_ (a .ensures .0) (b .ensures .1)) (ap₂ _∩_ (a .ensures .1) (b .ensures .0))) in
     (search needs, sym (test-next (with t (s0 .args .kind) (s0 .args .x) (s0 .args .i)) (l .j) _ (search needs) (sym e ∙ c .if1 .left)) ∙ l .inv .1)
 
 returns-2 : tie.Need-returns-2 Inv-loop μ-loop
@@ -86,7 +87,9 @@ returns-2 c =
     let s0 = c .before .before .before .before .before in
     let l = c .before .loop in
     let t = now (s0 .args .t) in
-    ap foundOf (sym (ap (seek (λ j. when (with t (s0 .args .kind) (s0 .args .x) (s0 .args .i) j) j) (s0 .args .i + 1)) (sym (c .before .before .before .count-of .ensures)) ∙ sym (l .inv .1) ∙ seek-end (λ j. when (with t (s0 .args .kind) (s0 .args .x) (s0 .args .i) j) j) (l .j) _ (search needs)))
+    ap foundOf (sym (ap (seek (λ j. when (with t (s0 .args .kind) (s0 .args .x) (s0 .args .i) j) j) (s0 .args .i + 1))
+    (sym (c .before .before .before .count-of .ensures)) ∙ sym (l .inv .1)
+    ∙ seek-end (λ j. when (with t (s0 .args .kind) (s0 .args .x) (s0 .args .i) j) j) (l .j) _ (search needs)))
 
 pub partner-spec : {M : Type 1} → statement M
 partner-spec =

@@ -1,9 +1,6 @@
 -- `pairs::sides_of` meets its contract.
-use mathlib.Core.Path.{_≡_, refl, sym, ap, ap₂, _∙_}
-use Prim.Native.Nat.{ℕ, zero, suc, _+_, _-_, _≤_, _<_}
+use mathlib.Core.Path.{sym, ap, ap₂, _∙_}
 use native.Mathlib.Omega.{arith}
-use native.Mathlib.Numerals.{add-one}
-use lib.ListN.{length, getD, set}
 use denote.Ref.{now}
 use Rattle.laws.specs.Sets.{_∪_}
 use Rattle.layout.specs.Image.{compOf}
@@ -12,9 +9,6 @@ use Rattle.pairs.specs.Clashes.{leftOf, rightOf}
 use borrow.Author.Needs.{needs}
 use Rattle.pairs.proofs.sides_of.Statement.{statement}
 use Rattle.pairs.proofs.sides_of.Tie as tie
-use Rattle.pairs.proofs.sides_of.Reads as reads
-use Rattle.pairs.proofs.sides_of.Lts as lts
-use Rattle.layout.proofs.block_word.Reads as block-word-reads
 
 block-word-requires : tie.Need-block-word-requires
 block-word-requires c κs = let s0 = c .before in word-ready _ (s0 .pre .0) _ (s0 .pre .1) _ (omega arith)
@@ -43,16 +37,18 @@ enum-told-3 c = search needs
 returns : tie.Need-returns
 unfolding leftOf rightOf compOf
 returns c =
-    let s0 = c .before .before .before .before .before .before .before .before in
+    let f = c .before .before .before .before .before in
+    let s0 = f .before .before .before in
     let d = compOf (now (s0 .args .t)) (s0 .args .i) in
     let k = sym (c .enum-told .given .1) in
-    let e = ap₂ _∪_ (c .before .before .before .before .before .block-word2 .ensures) (c .before .before .before .block-word4 .ensures) in
+    let e = ap₂ _∪_ (f .block-word2 .ensures) (c .before .before .before .block-word4 .ensures) in
     (e ∙ ap (λ k. leftOf k d) k, e ∙ ap (λ k. rightOf k d) k)
 
 returns-2 : tie.Need-returns-2
 unfolding leftOf rightOf compOf
 returns-2 c =
-    let s0 = c .before .before .before .before .before .before .before .before in
+    let m = c .before .before .before .before .before .before in
+    let s0 = m .before .before in
     let d = compOf (now (s0 .args .t)) (s0 .args .i) in
     let k = sym (c .enum-told2 .given .1) in
     let e = c .before .before .block-word5 .ensures in
@@ -61,10 +57,13 @@ returns-2 c =
 returns-3 : tie.Need-returns-3
 unfolding leftOf rightOf compOf
 returns-3 c =
-    let s0 = c .before .before .before .before .before .before .before .before in
+    let e = c .before .before .before .before in
+    let s0 = e .before .before .before .before in
     let d = compOf (now (s0 .args .t)) (s0 .args .i) in
-    let k = sym (c .enum-told3 .given .1) in
-    (ap₂ _∪_ (c .before .before .before .before .block-word3 .ensures) (c .before .before .before .block-word4 .ensures) ∙ ap (λ k. leftOf k d) k, ap₂ _∪_ (c .before .before .before .before .before .before .block-word .ensures) (c .before .before .before .before .before .block-word2 .ensures) ∙ ap (λ k. rightOf k d) k)
+    let k = sym (c .enum-told3 .given .1) in (
+      ap₂ _∪_ (e .block-word3 .ensures) (c .before .before .before .block-word4 .ensures) ∙ ap (λ k. leftOf k d) k,
+      ap₂ _∪_ (e .before .before .block-word .ensures) (e .before .block-word2 .ensures) ∙ ap (λ k. rightOf k d) k,
+    )
 
 pub sides-of-spec : {M : Type 1} → statement M
 sides-of-spec =

@@ -1,9 +1,7 @@
 -- `parts::actions_at` meets its contract: the actions of the range, joined row by row.
-use mathlib.Core.Path.{_≡_, refl, sym, ap, ap₂, _∙_}
-use Prim.Native.Nat.{ℕ, zero, suc, _+_, _-_, _≤_, _<_}
+use mathlib.Core.Path.{_≡_, refl, sym, ap, _∙_}
+use Prim.Native.Nat.{ℕ, _+_, _-_, _≤_}
 use native.Mathlib.Omega.{arith}
-use native.Mathlib.Numerals.{add-one}
-use lib.ListN.{length, getD, set}
 use denote.Ref.{now}
 use Rattle.laws.specs.Sets.{_∪_, only}
 use Rattle.laws.specs.Fold.{over}
@@ -14,12 +12,6 @@ use Rattle.parts.specs.Faults.{actionsIn}
 use borrow.Author.Needs.{needs}
 use Rattle.parts.proofs.actions_at.Statement.{statement}
 use Rattle.parts.proofs.actions_at.Tie as tie
-use Rattle.parts.proofs.actions_at.Reads as reads
-use Rattle.parts.proofs.actions_at.Lts as lts
-use Rattle.layout.proofs.action_at.Reads as action-at-reads
-use Rattle.layout.proofs.first_of.Reads as first-of-reads
-use Rattle.sets.proofs.single.Reads as single-reads
-use Rattle.sets.proofs.union.Reads as union-reads
 
 abbrev Inv-loop : tie.InvT-loop
 Inv-loop t i s lo hi seen₀ k₀ seen k = (lo ≤ k) × (over (λ r x. x ∪ only (actionAt t r)) k hi seen ≡ over (λ r x. x ∪ only (actionAt t r)) lo hi 0)
@@ -42,14 +34,17 @@ loop-holds c = (search needs, refl)
 action-at-requires : tie.Need-action-at-requires Inv-loop μ-loop
 action-at-requires c κs =
     let s0 = c .before .before .before .before .before in
-    let r = range-ready _ (s0 .pre .0) _ (s0 .pre .1) _ (s0 .pre .2) _ _ (c .before .before .before .first-of .ensures) (c .before .before .first-of2 .ensures) in
+    let r = range-ready _ (s0 .pre .0) _ (s0 .pre .1) _ (s0 .pre .2) _ _ (c .before .before .before .first-of .ensures)
+    (c .before .before .first-of2 .ensures) in
     (r .0, omega (arith, r .1))
 
 single-requires : tie.Need-single-requires Inv-loop μ-loop
 single-requires c κs =
-    let s0 = c .before .before .before .before .before .before in
+    let d = c .before .before .before .before in
+    let s0 = d .before .before in
     let l = c .before .before .loop in
-    rw (c .action-at .ensures) (row-ready _ (s0 .pre .0) _ (s0 .pre .1) _ (s0 .pre .2) _ _ (c .before .before .before .before .first-of .ensures) (c .before .before .before .first-of2 .ensures) (l .k) (l .inv .0) (search needs) .action)
+    rw (c .action-at .ensures) (row-ready _ (s0 .pre .0) _ (s0 .pre .1) _ (s0 .pre .2) _ _ (d .first-of .ensures)
+    (c .before .before .before .first-of2 .ensures) (l .k) (l .inv .0) (search needs) .action)
 
 union-requires : tie.Need-union-requires Inv-loop μ-loop
 union-requires c κs = search needs
@@ -62,11 +57,13 @@ loop-less c = search needs
 
 loop-again : tie.Need-loop-again Inv-loop μ-loop
 loop-again c =
-    let l = c .before .before .before .before .loop in
-    let s0 = c .before .before .before .before .before .before .before .before in
+    let d = c .before .before .before .before in
+    let s0 = d .before .before .before .before in
+    let l = d .loop in
     let t = now (s0 .args .t) in (
       search needs,
-      ap (over (λ r x. x ∪ only (actionAt t r)) (l .k + 1) _) (c .union .ensures ∙ ap (λ g. l .seen ∪ g) (c .before .single .ensures ∙ ap only (c .before .before .action-at .ensures)))
+      ap (over (λ r x. x ∪ only (actionAt t r)) (l .k + 1) _)
+          (c .union .ensures ∙ ap (λ g. l .seen ∪ g) (c .before .single .ensures ∙ ap only (c .before .before .action-at .ensures)))
           ∙ sym (over-next (λ r x. x ∪ only (actionAt t r)) (l .k) _ (l .seen) (search needs)) ∙ l .inv .1,
     )
 

@@ -1,12 +1,7 @@
 -- `parts::again_at` meets its contract.
-use mathlib.Core.Path.{_≡_, refl, sym, ap, ap₂, _∙_}
-use Prim.Native.Nat.{ℕ, zero, suc, _+_, _-_, _≤_, _<_}
-use native.Mathlib.Omega.{arith}
-use native.Mathlib.Numerals.{add-one}
-use lib.ListN.{length, getD, set}
+use mathlib.Core.Path.{sym, ap, _∙_}
 use denote.Ref.{now}
 use mathlib.Core.Bool.{_&&_}
-use lib.Dec.{eqb}
 use borrow.Author.Tests.{eq-eqb, ne-eqb}
 use Rattle.laws.specs.Sets.{has}
 use Rattle.layout.specs.Layout.{actionAt}
@@ -14,10 +9,6 @@ use Rattle.parts.specs.Faults.{againAt}
 use borrow.Author.Needs.{needs}
 use Rattle.parts.proofs.again_at.Statement.{statement}
 use Rattle.parts.proofs.again_at.Tie as tie
-use Rattle.parts.proofs.again_at.Reads as reads
-use Rattle.parts.proofs.again_at.Lts as lts
-use Rattle.layout.proofs.action_at.Reads as action-at-reads
-use Rattle.sets.proofs.has.Reads as has-reads
 
 action-at-requires : tie.Need-action-at-requires
 action-at-requires c κs = search needs
@@ -37,13 +28,15 @@ returns c =
     let s0 = c .before .before .before .before .before in
     let a = c .before .before .before .action-at in
     let same = sym (a .ensures) ∙ c .before .if1 .taken ∙ c .before .before .action-at2 .ensures in
-    c .has .ensures ∙ ap (has (s0 .args .calm)) (a .ensures) ∙ ap (λ b. b && has (s0 .args .calm) (actionAt (now (s0 .args .t)) (s0 .args .k))) (sym (eq-eqb _ _ same))
+    c .has .ensures ∙ ap (has (s0 .args .calm)) (a .ensures) ∙ ap (λ b. b && has (s0 .args .calm) (actionAt (now (s0 .args .t)) (s0 .args .k)))
+    (sym (eq-eqb _ _ same))
 
 returns-2 : tie.Need-returns-2
 unfolding againAt
 returns-2 c =
     let s0 = c .before .before .before .before in
-    ap (λ b. b && has (s0 .args .calm) (actionAt (now (s0 .args .t)) (s0 .args .k))) (sym (ne-eqb _ _ (λ e. c .if1 .left (c .before .before .action-at .ensures ∙ e ∙ sym (c .before .action-at2 .ensures)))))
+    ap (λ b. b && has (s0 .args .calm) (actionAt (now (s0 .args .t)) (s0 .args .k)))
+    (sym (ne-eqb _ _ (λ e. c .if1 .left (c .before .before .action-at .ensures ∙ e ∙ sym (c .before .action-at2 .ensures)))))
 
 pub again-at-spec : {M : Type 1} → statement M
 again-at-spec =

@@ -1,10 +1,5 @@
 -- `parts::bad_guard` meets its contract.
-use mathlib.Core.Path.{_≡_, refl, sym, ap, ap₂, _∙_}
-use Prim.Native.Nat.{ℕ, zero, suc, _+_, _-_, _≤_, _<_}
-use native.Mathlib.Omega.{arith}
-use native.Mathlib.Numerals.{add-one}
-use lib.ListN.{length, getD, set}
-use denote.Ref.{now}
+use mathlib.Core.Path.{_≡_, refl, _∙_}
 use mathlib.Core.Bool.{Bool, true, false, _&&_, _||_, not, true≢false, false≢true}
 use lib.Dec.{eqb}
 use borrow.Author.Tests.{eq-eqb, ne-eqb}
@@ -13,9 +8,6 @@ use Rattle.parts.specs.Faults.{badGuardBy}
 use borrow.Author.Needs.{needs}
 use Rattle.parts.proofs.bad_guard.Statement.{statement}
 use Rattle.parts.proofs.bad_guard.Tie as tie
-use Rattle.parts.proofs.bad_guard.Reads as reads
-use Rattle.parts.proofs.bad_guard.Lts as lts
-use Rattle.sets.proofs.has.Reads as has-reads
 
 unguarded : (x y b : Bool) → b ≡ true → y ≡ ((x && not b) || (y && b))
 unguarded true true true e = refl
@@ -39,11 +31,15 @@ has-requires-2 c κs = search needs
 
 returns : tie.Need-returns
 unfolding badGuardBy
-returns c = let a = c .before .before .args in c .has .ensures ∙ unguarded (has (a .calm) (a .a)) (has (a .outs) (a .a)) (eqb (a .g) 0) (eq-eqb _ _ (c .before .if1 .taken))
+returns c =
+    let a = c .before .before .args in
+    c .has .ensures ∙ unguarded (has (a .calm) (a .a)) (has (a .outs) (a .a)) (eqb (a .g) 0) (eq-eqb _ _ (c .before .if1 .taken))
 
 returns-2 : tie.Need-returns-2
 unfolding badGuardBy
-returns-2 c = let a = c .before .before .args in c .has2 .ensures ∙ guarded (has (a .calm) (a .a)) (has (a .outs) (a .a)) (eqb (a .g) 0) (ne-eqb _ _ (c .before .if1 .left))
+returns-2 c =
+    let a = c .before .before .args in
+    c .has2 .ensures ∙ guarded (has (a .calm) (a .a)) (has (a .outs) (a .a)) (eqb (a .g) 0) (ne-eqb _ _ (c .before .if1 .left))
 
 pub bad-guard-spec : {M : Type 1} → statement M
 bad-guard-spec = tie.close (tie.spec has-requires has-requires-2 returns returns-2)

@@ -1,20 +1,11 @@
 -- `parts::check_state` meets its contract.
-use mathlib.Core.Path.{_≡_, refl, sym, ap, ap₂, _∙_}
-use Prim.Native.Nat.{ℕ, zero, suc, _+_, _-_, _≤_, _<_}
-use native.Mathlib.Omega.{arith}
-use native.Mathlib.Numerals.{add-one}
-use lib.ListN.{length, getD, set}
+use mathlib.Core.Path.{sym, ap}
 use denote.Ref.{now}
 use Rattle.parts.specs.Faults.{stateFault}
 use Rattle.parts.proofs.Saying.{says-as}
 use borrow.Author.Needs.{needs}
 use Rattle.parts.proofs.check_state.Statement.{statement}
 use Rattle.parts.proofs.check_state.Tie as tie
-use Rattle.parts.proofs.check_state.Reads as reads
-use Rattle.parts.proofs.check_state.Lts as lts
-use Rattle.parts.proofs.double_at.Reads as double-at-reads
-use Rattle.parts.proofs.lack_at.Reads as lack-at-reads
-use Rattle.parts.proofs.repeat_at.Reads as repeat-at-reads
 
 enum-told : tie.Need-enum-told
 enum-told c = search needs
@@ -35,13 +26,19 @@ double-at-requires : tie.Need-double-at-requires
 double-at-requires c κs = search needs
 
 returns : tie.Need-returns
-returns c = let s0 = c .before .before .before .before in says-as _ _ _ (ap (λ a. stateFault a (now (s0 .args .t)) (s0 .args .i) (s0 .args .s)) (sym (c .before .enum-told .given .1))) (c .repeat-at .ensures)
+returns c =
+    let s0 = c .before .before .before .before in
+    says-as _ _ _ (ap (λ a. stateFault a (now (s0 .args .t)) (s0 .args .i) (s0 .args .s)) (sym (c .before .enum-told .given .1))) (c .repeat-at .ensures)
 
 returns-2 : tie.Need-returns-2
-returns-2 c = let s0 = c .before .before .before .before in says-as _ _ _ (ap (λ a. stateFault a (now (s0 .args .t)) (s0 .args .i) (s0 .args .s)) (sym (c .before .enum-told2 .given .1))) (c .lack-at .ensures)
+returns-2 c =
+    let s0 = c .before .before .before .before in
+    says-as _ _ _ (ap (λ a. stateFault a (now (s0 .args .t)) (s0 .args .i) (s0 .args .s)) (sym (c .before .enum-told2 .given .1))) (c .lack-at .ensures)
 
 returns-3 : tie.Need-returns-3
-returns-3 c = let s0 = c .before .before .before .before in says-as _ _ _ (ap (λ a. stateFault a (now (s0 .args .t)) (s0 .args .i) (s0 .args .s)) (sym (c .before .enum-told3 .given .1))) (c .double-at .ensures)
+returns-3 c =
+    let s0 = c .before .before .before .before in
+    says-as _ _ _ (ap (λ a. stateFault a (now (s0 .args .t)) (s0 .args .i) (s0 .args .s)) (sym (c .before .enum-told3 .given .1))) (c .double-at .ensures)
 
 pub check-state-spec : {M : Type 1} → statement M
 check-state-spec =

@@ -1,23 +1,16 @@
 -- `parts::check_states` meets its contract: the states passed have no fault, and what is left to search is the whole search.
-use mathlib.Core.Path.{_≡_, refl, sym, ap, ap₂, _∙_}
-use Prim.Native.Nat.{ℕ, zero, suc, _+_, _-_, _≤_, _<_}
+use mathlib.Core.Path.{_≡_, refl, sym, ap, _∙_}
+use Prim.Native.Nat.{_-_}
 use native.Mathlib.Omega.{arith}
-use native.Mathlib.Numerals.{add-one}
-use lib.ListN.{length, getD, set}
 use denote.Ref.{now}
 use Rattle.laws.specs.Search.{seek}
 use Rattle.laws.proofs.SearchLaws.{seek-here, seek-next, seek-end}
-use Rattle.layout.specs.Layout.{blockWord}
 use Rattle.rows.proofs.Ready.{word-ready}
 use Rattle.parts.specs.Faults.{stateFault}
 use Rattle.parts.proofs.Saying.{says-fine, says-as, fine-none, refused-some, not-fine}
 use borrow.Author.Needs.{needs}
 use Rattle.parts.proofs.check_states.Statement.{statement}
 use Rattle.parts.proofs.check_states.Tie as tie
-use Rattle.parts.proofs.check_states.Reads as reads
-use Rattle.parts.proofs.check_states.Lts as lts
-use Rattle.layout.proofs.block_word.Reads as block-word-reads
-use Rattle.parts.proofs.check_state.Reads as check-state-reads
 
 abbrev Inv-loop : tie.InvT-loop
 Inv-loop t i asked states s₀ s = seek (stateFault asked t i) s states ≡ seek (stateFault asked t i) 0 states
@@ -42,12 +35,13 @@ enum-told-2 c = search needs
 
 returns : tie.Need-returns Inv-loop μ-loop
 returns c =
-    let s0 = c .before .before .before .before .before .before .before in
-    let l = c .before .before .before .before .loop in
+    let d = c .before .before .before .before in
+    let s0 = d .before .before .before in
+    let l = d .loop in
     let f = stateFault (s0 .args .asked) (now (s0 .args .t)) (s0 .args .i) in
     let r = c .before .before .check-state in
     let u = refused-some (r .result) (f (l .s)) (r .ensures) (not-fine (r .result) _ (c .enum-told2 .given .1)) in
-    says-as _ (f (l .s)) _ (u .1 ∙ sym (seek-here f (l .s) _ (search needs) (u .1)) ∙ l .inv ∙ ap (seek f 0) (c .before .before .before .before .before .block-word .ensures)) (r .ensures)
+    says-as _ (f (l .s)) _ (u .1 ∙ sym (seek-here f (l .s) _ (search needs) (u .1)) ∙ l .inv ∙ ap (seek f 0) (d .before .block-word .ensures)) (r .ensures)
 
 add-s : tie.Need-add-s Inv-loop μ-loop
 add-s c = search needs
@@ -57,8 +51,9 @@ loop-less c = search needs
 
 loop-again : tie.Need-loop-again Inv-loop μ-loop
 loop-again c =
-    let s0 = c .before .before .before .before .before .before .before in
-    let l = c .before .before .before .before .loop in
+    let d = c .before .before .before .before in
+    let s0 = d .before .before .before in
+    let l = d .loop in
     let f = stateFault (s0 .args .asked) (now (s0 .args .t)) (s0 .args .i) in
     let r = c .before .before .check-state in
     sym (seek-next f (l .s) _ (search needs) (fine-none (f (l .s)) (rw (c .enum-told .given .1) at (r .ensures)))) ∙ l .inv

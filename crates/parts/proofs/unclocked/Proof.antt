@@ -1,20 +1,12 @@
 -- `parts::unclocked` meets its contract.
-use mathlib.Core.Path.{_≡_, refl, sym, ap, ap₂, _∙_}
-use Prim.Native.Nat.{ℕ, zero, suc, _+_, _-_, _≤_, _<_}
+use mathlib.Core.Path.{ap₂, _∙_}
 use native.Mathlib.Omega.{arith}
-use native.Mathlib.Numerals.{add-one}
-use lib.ListN.{length, getD, set}
-use denote.Ref.{now}
 use Rattle.laws.specs.Sets.{_∪_}
 use Rattle.layout.specs.Image.{compOf}
 use Rattle.rows.proofs.Ready.{word-ready}
 use borrow.Author.Needs.{needs}
 use Rattle.parts.proofs.unclocked.Statement.{statement}
 use Rattle.parts.proofs.unclocked.Tie as tie
-use Rattle.parts.proofs.unclocked.Reads as reads
-use Rattle.parts.proofs.unclocked.Lts as lts
-use Rattle.layout.proofs.block_word.Reads as block-word-reads
-use Rattle.sets.proofs.union.Reads as union-reads
 
 block-word-requires : tie.Need-block-word-requires
 block-word-requires c κs = let s0 = c .before in word-ready _ (s0 .pre .0) _ (s0 .pre .1) _ (omega arith)
@@ -36,7 +28,10 @@ union-requires-3 c κs = search needs
 
 returns : tie.Need-returns
 unfolding compOf
-returns c = c .union3 .ensures ∙ ap₂ _∪_ (c .before .before .union .ensures ∙ ap₂ _∪_ (c .before .before .before .before .before .block-word .ensures) (c .before .before .before .before .block-word2 .ensures)) (c .before .union2 .ensures ∙ ap₂ _∪_ (c .before .before .before .before .block-word2 .ensures) (c .before .before .before .block-word3 .ensures))
+returns c =
+    let d = c .before .before .before .before in
+    c .union3 .ensures ∙ ap₂ _∪_ (c .before .before .union .ensures ∙ ap₂ _∪_ (d .before .block-word .ensures) (d .block-word2 .ensures))
+    (c .before .union2 .ensures ∙ ap₂ _∪_ (d .block-word2 .ensures) (c .before .before .before .block-word3 .ensures))
 
 pub unclocked-spec : {M : Type 1} → statement M
 unclocked-spec =

@@ -23,7 +23,8 @@ returns c =
     let s = k .before in
     let h = s .before in
     let a = h .before .args in
-    head-by (a .words .now) (a .count) (elementOf (a .e)) (a .k) (h .kinds-of .result) _ _ _ (h .kinds-of .ensures) (s .states-of .ensures) (k .clocks-of .ensures) (c .started-of .ensures)
+    head-by (a .words .now) (a .count) (elementOf (a .e)) (a .k) (h .kinds-of .result) _ _ _ (h .kinds-of .ensures) (s .states-of .ensures)
+    (k .clocks-of .ensures) (c .started-of .ensures)
 
 pub head-of-spec : {M : Type 1} → statement M
 head-of-spec =

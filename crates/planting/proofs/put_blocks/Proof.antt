@@ -1,5 +1,4 @@
 -- `planting::put_blocks`. The loop's invariant: the blocks so far, with those of the lines from here on, are all.
-use mathlib.Core.Path.{_≡_, refl}
 use mathlib.Core.List.{List}
 use Prim.Native.Nat.{ℕ}
 use native.Mathlib.Omega.{arith}
@@ -92,7 +91,8 @@ loop-again c =
     let w = c .before .before .before in
     let k = w .before .before .before in
     let l = k .before .before .loop in
-    blocking-on (textAt k) _ _ _ (l .into) (l .n) (l .k) (l .i) (l .at) (l .inv) _ _ (here k) _ _ _ (w .put-block .ensures .0) (w .put-block .ensures .1) (c .next-be .ensures)
+    blocking-on (textAt k) _ _ _ (l .into) (l .n) (l .k) (l .i) (l .at) (l .inv) _ _ (here k) _ _ _ (w .put-block .ensures .0)
+    (w .put-block .ensures .1) (c .next-be .ensures)
 
 same-length : tie.Need-same-length Inv-loop μ-loop
 same-length c = c .before .loop .inv .long

@@ -1,7 +1,6 @@
 -- `planting::put_firsts`: the starts of the states, counted state by state.
-use Prim.Native.Nat.{ℕ, _+_, _*_, _-_, _≤_, _<_}
+use Prim.Native.Nat.{ℕ, _+_, _-_, _≤_}
 use mathlib.Core.Path.{_≡_, refl, sym, _∙_, ap}
-use mathlib.Core.List.{List}
 use native.Mathlib.Omega.{arith}
 use lib.ListN.{length, set, length-set}
 use lib.Seq.{sets}
@@ -19,7 +18,8 @@ use Rattle.planting.proofs.put_firsts.Tie as tie
 abbrev Inv-loop : tie.InvT-loop
 Inv-loop words count into₀ at base e k states n₀ s₀ into n s =
     (length into ≡ length into₀) × (n ≡ startOf base words count (elementOf e) k s) × (s ≤ states)
-    × (sets into (at + s) (tab (startOf base words count (elementOf e) k) s (states - s)) ≡ sets into₀ at (tab (startOf base words count (elementOf e) k) 0 states))
+    × (sets into (at + s) (tab (startOf base words count (elementOf e) k) s (states - s))
+    ≡ sets into₀ at (tab (startOf base words count (elementOf e) k) 0 states))
 
 abbrev μ-loop : tie.MeasureT-loop
 μ-loop words count into₀ at base e k states n₀ s₀ into n s = states - s
@@ -70,8 +70,16 @@ emit-state-requires c κs =
     let f = states-fit st in
     let few = p .1 in
     let low =
-    start-low (a .base) (a .words .now) (a .count) (elementOf (a .e)) (a .k) (l .s) (l .n) (st .states-of .result) (l .inv .1) (l .inv .2) (st .states-of .ensures) (p .6) in
-    (p .0, few, omega arith, p .2, p .3, omega (arith, h, f), record { rows = omega (arith, low, few); bytes = omega (arith, few); long = λ z. absurd (omega (arith, z)) })
+    start-low (a .base) (a .words .now) (a .count) (elementOf (a .e)) (a .k) (l .s) (l .n) (st .states-of .result) (l .inv .1) (l .inv .2)
+    (st .states-of .ensures) (p .6) in (
+      p .0,
+      few,
+      omega arith,
+      p .2,
+      p .3,
+      omega (arith, h, f),
+      record { rows = omega (arith, low, few); bytes = omega (arith, few); long = λ z. absurd (omega (arith, z)) },
+    )
 
 add-s : tie.Need-add-s Inv-loop μ-loop
 add-s c = search needs
@@ -88,7 +96,8 @@ loop-again c =
     let a = st .before .before .args in
     let h = t .loop-test .taken in
     let n =
-    state-next (a .base) (a .words .now) (a .count) (elementOf (a .e)) (a .k) (l .s) (l .n) (set (l .into) (a .at + l .s) (l .n)) _ (r .emit-state .result) (l .inv .1)
+    state-next (a .base) (a .words .now) (a .count) (elementOf (a .e)) (a .k) (l .s) (l .n) (set (l .into) (a .at + l .s) (l .n)) _
+    (r .emit-state .result) (l .inv .1)
     (r .emit-state .ensures) in (
       ap length (n .0) ∙ simp length-set (l .inv .0),
       n .1,

@@ -1,9 +1,7 @@
 -- `planting::put_front`: the number of components, the blocks, the zeros.
 use mathlib.Core.Path.{_≡_, _∙_}
-use Prim.Native.Nat.{ℕ, _≤_}
 use native.Mathlib.Omega.{arith}
 use lib.ListN.{length, set, length-set}
-use Rattle.answer.specs.Limits.{maxComponents}
 use Rattle.treenames.specs.Names.{treeIn}
 use Rattle.planting.proofs.LineWalks.{front-written}
 use Rattle.planting.proofs.put_front.Statement.{statement}
@@ -16,13 +14,25 @@ put-blocks-requires : tie.Need-put-blocks-requires
 put-blocks-requires c κs = let p = c .before .before .before .pre in (p .0, simp length-set (p .2))
 
 mul-zero-words : tie.Need-mul-zero-words
-mul-zero-words c = let p = c .before .before .before .before .before .before .before .pre in omega (arith, p .1, p .0 .components)
+mul-zero-words c =
+    let m = c .before .before .before .before .before .before in
+    let s = m .before in
+    let p = s .pre in
+    omega (arith, p .1, p .0 .components)
 
 add-zero-words : tie.Need-add-zero-words
-add-zero-words c = let p = c .before .before .before .before .before .before .before .pre in omega (arith, p .1, p .0 .components)
+add-zero-words c =
+    let m = c .before .before .before .before .before .before in
+    let s = m .before in
+    let p = s .pre in
+    omega (arith, p .1, p .0 .components)
 
 sub-zero-words : tie.Need-sub-zero-words
-sub-zero-words c = let p = c .before .before .before .before .before .before .before .pre in omega (arith, p .1, p .0 .components)
+sub-zero-words c =
+    let m = c .before .before .before .before .before .before in
+    let s = m .before in
+    let p = s .pre in
+    omega (arith, p .1, p .0 .components)
 
 mul-zero-words-2 : tie.Need-mul-zero-words-2
 mul-zero-words-2 c = omega arith

@@ -1,5 +1,4 @@
 -- `planting::put_lines`. The loop's invariant: the rows so far, with those of the lines from here on, are all.
-use mathlib.Core.Path.{_≡_, refl}
 use mathlib.Core.List.{List}
 use Prim.Native.Nat.{ℕ}
 use native.Mathlib.Omega.{arith}
@@ -71,7 +70,8 @@ loop-again c =
     let w = c .before .before .before in
     let k = w .before .before .before in
     let l = k .before .before .loop in
-    rowing-on (textAt k) _ _ _ (l .into) (l .n) (l .k) (l .at) (l .inv) _ _ (here k) _ (w .emit-states .result) _ (w .emit-states .ensures) (c .next-be .ensures)
+    rowing-on (textAt k) _ _ _ (l .into) (l .n) (l .k) (l .at) (l .inv) _ _ (here k) _ (w .emit-states .result) _ (w .emit-states .ensures)
+    (c .next-be .ensures)
 
 same-length : tie.Need-same-length Inv-loop μ-loop
 same-length c = c .before .loop .inv .long

@@ -1,6 +1,6 @@
 -- `planting::put_rows`: the rows, then the zeros.
 use mathlib.Core.Path.{_≡_, _∙_}
-use Prim.Native.Nat.{ℕ, _≤_}
+use Prim.Native.Nat.{_≤_}
 use native.Mathlib.Omega.{arith}
 use lib.ListN.{length}
 use Rattle.answer.specs.Limits.{maxRows}
@@ -51,7 +51,8 @@ returns c =
     let z = c .before .before in
     let b = z .before .before .before .before in
     let x = b .before .before .before .before in
-    rows-written (treeIn (x .args .text .now)) (x .args .into .now) _ _ (b .put-lines .result) (b .put-lines .ensures .1) (b .put-lines .ensures .0) (z .zero-words .ensures)
+    rows-written (treeIn (x .args .text .now)) (x .args .into .now) _ _ (b .put-lines .result) (b .put-lines .ensures .1) (b .put-lines .ensures .0)
+    (z .zero-words .ensures)
 
 pub put-rows-spec : {M : Type 1} → statement M
 put-rows-spec =

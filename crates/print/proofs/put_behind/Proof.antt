@@ -1,15 +1,19 @@
 -- `print::put_behind` meets its contract: the sign, then the number.
-use mathlib.Core.Path.{refl}
 use mathlib.Core.List.{[], _∷_}
 use denote.Ref.{now}
 use Rattle.model.specs.Text.{decimal}
-use Rattle.print.proofs.LaidLaws.{left-all, left-as, left-next, left-last}
+use Rattle.print.proofs.LaidLaws.{Left, left-all, part-put, left-last}
 use borrow.Author.Needs.{needs}
 use Rattle.print.proofs.put_behind.Statement.{statement}
 use Rattle.print.proofs.put_behind.Tie as tie
 
+-- behind the sign the number is left
+l1 : (c : tie.After-put-byte) → let s = c .before .before .before in
+    Left (now (s .args .out)) (s .args .at) (s .args .sign ∷ decimal (s .args .n)) (c .put-byte .last .0) (c .put-byte .result) (decimal (s .args .n))
+l1 c = let s = c .before .before .before in part-put (s .args .sign ∷ []) _ (left-all _ _ _ (s .pre)) (c .put-byte .ensures)
+
 returns : tie.Need-returns
-returns c = left-last (left-next (left-as (left-all (now (c .before .before .before .before .before .before .before .before .before .args .out)) (c .before .before .before .before .before .before .before .before .before .args .at) (c .before .before .before .before .before .before .before .before .before .args .sign ∷ decimal (c .before .before .before .before .before .before .before .before .before .args .n)) (c .before .before .before .before .before .before .before .before .before .pre)) (c .before .before .before .before .before .before .before .before .before .args .sign ∷ []) (decimal (c .before .before .before .before .before .before .before .before .before .args .n)) refl) (c .before .before .before .before .before .before .put-byte .ensures)) (c .before .before .put-decimal .ensures)
+returns c = left-last (l1 (c .before .before .before .before .before .before)) (c .before .before .put-decimal .ensures)
 
 put-byte-requires : tie.Need-put-byte-requires
 put-byte-requires c κs = search needs

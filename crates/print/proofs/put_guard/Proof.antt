@@ -12,13 +12,19 @@ put-byte-requires : tie.Need-put-byte-requires
 put-byte-requires c κs = omega (arith, c .before .before .before .pre, ap length (no-guard (c .before .before .before .args .g) (c .before .if1 .taken)))
 
 returns : tie.Need-returns
-returns c = put-as (c .before .before .put-byte .ensures) _ (sym (no-guard (c .before .before .before .before .before .before .args .g) (c .before .before .before .before .if1 .taken)))
+returns c =
+    let d = c .before .before .before .before in
+    let s = d .before .before in
+    put-as (c .before .before .put-byte .ensures) _ (sym (no-guard (s .args .g) (d .if1 .taken)))
 
 put-decimal-requires : tie.Need-put-decimal-requires
 put-decimal-requires c κs = omega (arith, c .before .before .before .pre, ap length (some-guard (c .before .before .before .args .g) (c .before .if1 .left)))
 
 returns-2 : tie.Need-returns-2
-returns-2 c = put-as (c .before .before .put-decimal .ensures) _ (sym (some-guard (c .before .before .before .before .before .before .args .g) (c .before .before .before .before .if1 .left)))
+returns-2 c =
+    let d = c .before .before .before .before in
+    let s = d .before .before in
+    put-as (c .before .before .put-decimal .ensures) _ (sym (some-guard (s .args .g) (d .if1 .left)))
 
 same-length : tie.Need-same-length
 same-length c = search needs

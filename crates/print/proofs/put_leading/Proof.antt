@@ -1,9 +1,7 @@
 -- `print::put_leading` meets its contract.
 use mathlib.Core.Path.{refl, sym, ap}
-use Prim.Native.Nat.{_/_, _%_}
 use native.Mathlib.Omega.{arith}
 use lib.ListN.{length}
-use denote.Ref.{now}
 use Rattle.print.proofs.LaidLaws.{nothing-put, put-as}
 use Rattle.print.proofs.PrintLaws.{below, reaches}
 use borrow.Author.Needs.{needs}
@@ -14,10 +12,15 @@ returns : tie.Need-returns
 returns c = put-as (nothing-put _ _) _ (sym (below _ _ (c .if1 .taken)))
 
 put-byte-requires : tie.Need-put-byte-requires
-put-byte-requires c κs = omega (arith, c .before .before .before .pre .1, ap length (reaches (c .before .before .before .args .n) (c .before .before .before .args .scale) _ (c .before .if1 .left) refl))
+put-byte-requires c κs =
+    let s = c .before .before .before in
+    omega (arith, s .pre .1, ap length (reaches (s .args .n) (s .args .scale) _ (c .before .if1 .left) refl))
 
 returns-2 : tie.Need-returns-2
-returns-2 c = put-as (c .before .before .put-byte .ensures) _ (sym (reaches (c .before .before .before .before .before .before .args .n) (c .before .before .before .before .before .before .args .scale) _ (c .before .before .before .before .if1 .left) refl))
+returns-2 c =
+    let d = c .before .before .before .before in
+    let s = d .before .before in
+    put-as (c .before .before .put-byte .ensures) _ (sym (reaches (s .args .n) (s .args .scale) _ (d .if1 .left) refl))
 
 div-put-byte : tie.Need-div-put-byte
 div-put-byte c = search needs

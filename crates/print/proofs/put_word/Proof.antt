@@ -1,13 +1,12 @@
 -- `print::put_word` meets its contract: what is put, and what is left of the word, make the whole.
-use mathlib.Core.Path.{_≡_, refl, sym, _∙_, ap}
-use mathlib.Core.List.{List, [], _∷_, _++_}
-use Prim.Native.Nat.{ℕ, _+_, _-_, _≤_, _<_}
+use mathlib.Core.Path.{refl, sym, _∙_, ap}
+use mathlib.Core.List.{[], _∷_}
+use Prim.Native.Nat.{_+_, _-_, _≤_}
 use native.Mathlib.Omega.{arith}
 use native.Mathlib.Numerals.{add-one}
 use lib.ListN.{length, getD, drop, drop-of-length-le}
 use lib.Seq.{drop-cons}
 use denote.Ref.{now}
-use Rattle.print.specs.Put.{Put}
 use Rattle.print.proofs.LaidLaws.{Left, Next, left-all, left-as, left-room, left-next, left-none, stored}
 use Rattle.print.proofs.put_word.Statement.{statement}
 use Rattle.print.proofs.put_word.Tie as tie
@@ -18,9 +17,13 @@ Inv-loop out₀ at w next₀ i₀ out next i = (i ≤ length w) × Left out₀ a
 abbrev μ-loop : tie.MeasureT-loop
 μ-loop out₀ at w next₀ i₀ out next i = length w - i
 
-module _ {old : List ℕ} {at : ℕ} {w out : List ℕ} {next : ℕ} (i : ℕ) (l : Left old at w out next (drop i w)) (more : i < length w) where
-  here : Next old at w out next (getD w i 0 ∷ []) (drop (i + 1) w)
-  here = left-as l _ _ (drop-cons w i 0 more ∙ ap (λ k. getD w i 0 ∷ drop k w) (sym (add-one i)))
+-- the byte that comes next
+here : (c : tie.In-loop Inv-loop μ-loop) → let l = c .before .loop in let s = c .before .before in let w = now (s .args .w) in
+    Next (now (s .args .out)) (s .args .at) w (l .out) (l .next) (getD w (l .i) 0 ∷ []) (drop (l .i + 1) w)
+here c =
+    let i = c .before .loop .i in
+    let w = now (c .before .before .args .w) in
+    left-as (c .before .loop .inv .1) _ _ (drop-cons w i 0 (c .loop-test .taken) ∙ ap (λ k. getD w i 0 ∷ drop k w) (sym (add-one i)))
 
 loop-holds : tie.Need-loop-holds Inv-loop μ-loop
 loop-holds c = (omega arith, left-all (now (c .args .out)) (c .args .at) (now (c .args .w)) (c .pre))
@@ -29,10 +32,10 @@ shared-slice-read-out : tie.Need-shared-slice-read-out Inv-loop μ-loop
 shared-slice-read-out c = omega arith
 
 slice-write-out : tie.Need-slice-write-out Inv-loop μ-loop
-slice-write-out c = omega (arith, left-room (here (c .before .before .loop .i) (c .before .before .loop .inv .1) (c .before .loop-test .taken)))
+slice-write-out c = omega (arith, left-room (here (c .before)))
 
 add-next : tie.Need-add-next Inv-loop μ-loop
-add-next c = omega (arith, left-room (here (c .before .before .loop .i) (c .before .before .loop .inv .1) (c .before .loop-test .taken)), c .before .before .loop .inv .1 .long)
+add-next c = omega (arith, left-room (here (c .before)), c .before .before .loop .inv .1 .long)
 
 add-i : tie.Need-add-i Inv-loop μ-loop
 add-i c = omega arith
@@ -41,7 +44,10 @@ loop-less : tie.Need-loop-less Inv-loop μ-loop
 loop-less c = omega arith
 
 loop-again : tie.Need-loop-again Inv-loop μ-loop
-loop-again c = let q = here (c .before .before .loop .i) (c .before .before .loop .inv .1) (c .before .loop-test .taken) in (omega arith, left-next q (stored (c .before .before .loop .out) (c .before .before .loop .next) _ _ (omega (arith, left-room q)) refl))
+loop-again c =
+    let l = c .before .before .loop in
+    let q = here (c .before) in
+    (omega arith, left-next q (stored (l .out) (l .next) _ _ (omega (arith, left-room q)) refl))
 
 same-length : tie.Need-same-length Inv-loop μ-loop
 same-length c = c .before .loop .inv .1 .long

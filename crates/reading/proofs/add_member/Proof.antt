@@ -1,5 +1,4 @@
 -- `reading::add_member` meets its contract.
-use lib.ListN.{getD}
 use borrow.Author.Needs.{needs}
 use Rattle.reading.proofs.add_member.Statement.{statement}
 use Rattle.reading.proofs.add_member.Tie as tie

@@ -1,7 +1,6 @@
 -- `reading::fill_words` meets its contract. The loop's invariant: the words below j are filled.
-use Prim.Native.Nat.{_-_, _≤_, _<_}
+use Prim.Native.Nat.{_-_, _≤_}
 use native.Mathlib.Omega.{arith}
-use lib.ListN.{length}
 use Rattle.reading.specs.Changes.{Filled}
 use Rattle.reading.proofs.Raise.{filled-none, filled-more, filled-to}
 use Rattle.reading.proofs.fill_words.Statement.{statement}

@@ -1,8 +1,8 @@
 -- `reading::put_comp` meets its contract.
 use mathlib.Core.Path.{_≡_, _∙_, ap}
-use Prim.Native.Nat.{ℕ, suc, _+_, _*_}
+use Prim.Native.Nat.{suc, _+_, _*_}
 use native.Mathlib.Omega.{arith}
-use lib.ListN.{length, set, length-set}
+use lib.ListN.{set, length-set}
 use Rattle.reading.proofs.Raise.{filled-to}
 use Rattle.layout.specs.Layout.{blockWords}
 use borrow.Author.Needs.{needs}

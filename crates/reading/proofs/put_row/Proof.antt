@@ -1,8 +1,7 @@
 -- `reading::put_row` meets its contract.
-use mathlib.Core.Path.{_≡_, _∙_, ap}
-use Prim.Native.Nat.{ℕ, suc, _+_, _*_}
+use Prim.Native.Nat.{_+_, _*_}
 use native.Mathlib.Omega.{arith}
-use lib.ListN.{length, length-set}
+use lib.ListN.{length-set}
 use Rattle.reading.proofs.Raise.{raised-to, raised-from}
 use Rattle.reading.proofs.SetsLaws.{four-words}
 use Rattle.layout.specs.Layout.{rowsAt, rowWords}
@@ -32,7 +31,9 @@ add-hi-2 : tie.Need-add-hi-2
 add-hi-2 c = search needs
 
 raise-words-requires : tie.Need-raise-words-requires
-raise-words-requires c κs = (omega (arith, c .before .before .pre), omega (arith, c .before .before .pre), λ j h l. c .before .before .pre .5 j (omega arith) (omega arith))
+raise-words-requires c κs =
+    let s = c .before .before in
+    (omega (arith, s .pre), omega (arith, s .pre), λ j h l. s .pre .5 j (omega arith) (omega arith))
 
 mul-at : tie.Need-mul-at
 mul-at c = search needs

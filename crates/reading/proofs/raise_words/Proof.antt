@@ -1,9 +1,6 @@
 -- `reading::raise_words` meets its contract. The loop's invariant: the words below j are raised.
-use mathlib.Core.Path.{_≡_, sym, _∙_}
-use Prim.Native.Nat.{_-_, _≤_, _<_}
+use Prim.Native.Nat.{_-_, _≤_}
 use native.Mathlib.Omega.{arith}
-use lib.ListN.{length, getD, length-set}
-use denote.Ref.{now}
 use Rattle.reading.specs.Changes.{Raised}
 use Rattle.reading.proofs.Raise.{raised-none, raised-more, raised-to}
 use Rattle.reading.proofs.raise_words.Statement.{statement}

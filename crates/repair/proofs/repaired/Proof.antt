@@ -1,5 +1,5 @@
 -- `repair::repaired`: counted, then written.
-use mathlib.Core.Path.{_≡_, _∙_}
+use mathlib.Core.Path.{_∙_}
 use native.Mathlib.Omega.{arith}
 use denote.Ref.{now}
 use Rattle.layout.proofs.ImageIsSane.{image-is-sane}
@@ -56,7 +56,8 @@ row-count-requires c κs = search needs
 
 add-rows : tie.Need-add-rows
 add-rows c =
-    let w = c .before .before .before .before .before .before .before in
+    let o = c .before .before .before .before .before .before in
+    let w = o .before in
     let m = w .before .before .before in
     let s = m .before .before .before .before in
     let im = s .pre in
@@ -79,31 +80,36 @@ same-length-4 c = search needs
 
 returns-2 : tie.Need-returns-2
 returns-2 c =
-    let w = c .before .before .before .before .before .before .before .before .before .before in
+    let d = c .before .before .before .before in
+    let w = d .before .before .before .before .before .before in
     let m = w .before .before .before in
     let s = m .before .before .before .before in
     let im = s .pre in
     let wf = well-formed _ im in
     let n = w .walk .result in
     let eb = m .text-length .ensures in
-    let room = room-there _ wf _ _ eb n _ (w .walk .ensures) (c .before .before .before .before .before .before .if1 .left) in
-    too-big _ _ im room _ _ (c .refused2 .ensures) (size-there _ wf _ _ eb n _ (w .walk .ensures) _ _ (c .before .before .before .before .row-count .ensures)
+    let room = room-there _ wf _ _ eb n _ (w .walk .ensures) (d .before .before .if1 .left) in
+    too-big _ _ im room _ _ (c .refused2 .ensures) (size-there _ wf _ _ eb n _ (w .walk .ensures) _ _ (d .row-count .ensures)
     (c .before .before .too-large .ensures) ∙ c .before .if2 .taken) (dry-list _ wf _ _ eb n _ (w .walk .ensures))
 
 walk-requires-2 : tie.Need-walk-requires-2
 walk-requires-2 c κs =
-    let w = c .before .before .before .before .before .before .before .before .before .before .before in
+    let o = c .before .before .before .before .before .before in
+    let d = o .before in
+    let w = d .before .before .before .before in
     let m = w .before .before .before in
     let s = m .before .before .before .before in
     let im = s .pre in
     let wf = well-formed _ im in
     let n = w .walk .result in
     let eb = m .text-length .ensures in
-    (im, wet-roomy _ wf _ _ eb n _ (w .walk .ensures) (c .before .before .before .before .before .before .before .if1 .left))
+    (im, wet-roomy _ wf _ _ eb n _ (w .walk .ensures) (d .if1 .left))
 
 mend-requires : tie.Need-mend-requires
 mend-requires c κs =
-    let w = c .before .before .before .before .before .before .before .before .before .before .before .before .before .before .before in
+    let d₁ = c .before .before .before .before .before .before in
+    let d₂ = d₁ .before .before .before .before .before in
+    let w = d₂ .before .before .before .before in
     let m = w .before .before .before in
     let s = m .before .before .before .before in
     let im = s .pre in
@@ -111,9 +117,9 @@ mend-requires c κs =
     let n = w .walk .result in
     let eb = m .text-length .ensures in
     let room = room-there _ wf _ _ eb n _ (w .walk .ensures)
-    (c .before .before .before .before .before .before .before .before .before .before .before .if1 .left) in
-    let h = size-there _ wf _ _ eb n _ (w .walk .ensures) _ _ (c .before .before .before .before .before .before .before .before .before .row-count .ensures)
-    (c .before .before .before .before .before .before .before .too-large .ensures) ∙ c .before .before .before .before .before .before .if2 .left in
+    (d₂ .if1 .left) in
+    let h = size-there _ wf _ _ eb n _ (w .walk .ensures) _ _ (d₁ .before .before .before .row-count .ensures)
+    (d₁ .before .too-large .ensures) ∙ d₁ .if2 .left in
     (im, fine-well _ (now (s .args .list)) im room h, dry-rows _ wf _ _ eb n _ (w .walk .ensures))
 
 same-length-5 : tie.Need-same-length-5
@@ -124,21 +130,24 @@ same-length-6 c = search needs
 
 returns-3 : tie.Need-returns-3
 returns-3 c =
-    let w = c .before .before .before .before .before .before .before .before .before .before .before .before .before .before .before .before .before .before in
+    let d₁ = c .before .before .before .before .before .before in
+    let d₂ = d₁ .before .before .before .before in
+    let d₃ = d₂ .before .before .before .before in
+    let w = d₃ .before .before .before .before in
     let m = w .before .before .before in
     let s = m .before .before .before .before in
     let im = s .pre in
     let wf = well-formed _ im in
     let n = w .walk .result in
     let eb = m .text-length .ensures in
-    let left = c .before .before .before .before .before .before .before .before .before .before .before .before .before .before .if1 .left in
+    let left = d₃ .if1 .left in
     let room = room-there _ wf _ _ eb n _ (w .walk .ensures) left in
     let h = size-there _ wf _ _ eb n _ (w .walk .ensures) _ _
-    (c .before .before .before .before .before .before .before .before .before .before .before .before .row-count .ensures)
-    (c .before .before .before .before .before .before .before .before .before .before .too-large .ensures)
-    ∙ c .before .before .before .before .before .before .before .before .before .if2 .left in
+    (d₂ .before .before .row-count .ensures)
+    (d₂ .too-large .ensures)
+    ∙ d₁ .before .before .before .if2 .left in
     done _ _ im room h _ _ _ (dry-rows _ wf _ _ eb n _ (w .walk .ensures)) (c .before .before .mend .ensures)
-    (wet-list _ wf _ _ eb n _ (w .walk .ensures) left _ _ (c .before .before .before .before .before .before .walk2 .ensures))
+    (wet-list _ wf _ _ eb n _ (w .walk .ensures) left _ _ (d₁ .walk2 .ensures))
 
 pub repaired-spec : {M : Type 1} → statement M
 repaired-spec = tie.close

@@ -2,7 +2,6 @@
 use native.Mathlib.Omega.{arith}
 use Rattle.layout.proofs.ImageIsSane.{image-long, comp-ranges}
 use Rattle.mending.proofs.Whole.{total-rows, last-inside}
-use borrow.Author.Needs.{needs}
 use Rattle.repair.proofs.row_count.Statement.{statement}
 use Rattle.repair.proofs.row_count.Tie as tie
 

@@ -1,6 +1,5 @@
 -- `repair::too_large`: rows first, then bytes.
 use Rattle.repair.proofs.Counted.{over-rows, over-bytes}
-use borrow.Author.Needs.{needs}
 use Rattle.repair.proofs.too_large.Statement.{statement}
 use Rattle.repair.proofs.too_large.Tie as tie
 

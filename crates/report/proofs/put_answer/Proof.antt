@@ -15,7 +15,10 @@ enum-known-checked : tie.Need-enum-known-checked
 enum-known-checked c = search needs
 
 put-refused-requires : tie.Need-put-refused-requires
-put-refused-requires c κs = omega (arith, refused-most (c .before .before .checked .given .0 .0), c .before .before .before .before .before .before .before .pre .1)
+put-refused-requires c κs =
+    let m = c .before .before .before .before .before .before in
+    let s = m .before in
+    omega (arith, refused-most (c .before .before .checked .given .0 .0), s .pre .1)
 
 enum-told : tie.Need-enum-told
 enum-told c = search needs
@@ -33,10 +36,11 @@ same-length c = search needs
 
 returns : tie.Need-returns
 returns c =
-    let s0 = c .before .before .before .before .before .before .before .before .before .before in
+    let d = c .before .before .before .before .before in
+    let s0 = d .before .before .before .before .before in
     let t = now (s0 .args .t) in
-    let r = c .before .before .before .before .before .before .before .check-entry in
-    let why = c .before .before .before .before .before .checked in
+    let r = d .before .before .check-entry in
+    let why = d .checked in
     let e = checked-refused t (s0 .args .x) (r .result) (r .ensures) (why .given .0 .0) (why .given .1) (s0 .args .budget) in
     put-as e (c .before .before .put-refused .ensures)
 

@@ -40,14 +40,17 @@ returns c =
 
 returns-2 : tie.Need-returns-2
 returns-2 c =
-    let r = c .before .before .before .before .before .before .before .before in
+    let d = c .before .before .before .before .before in
+    let r = d .before .before .before in
     let u = r .before .before .before .before .before in
     let bs = now (u .before .before .before .args .input) in
     let q = u .request-of .result in
     let k = kept-some keep (requestOf bs) (sym (u .request-of .ensures .0) ∙ found-asked bs q (not-false (q .found) (r .before .before .before .if1 .left))) in
-    let f = c .before .before .before .before .before .checked .given .0 .0 in
-    let p = refused-read (take (length bs - q .at) (drop (q .at) bs)) _ _ _ (r .read .ensures) (omega (arith, length-replicate {A = ℕ} imageWords 0)) f (c .before .before .before .before .before .checked .given .1) in
-    put-as (told-text f (p .0) (p .2) ∙ sym (report-text bs (drop (q .at) bs) (k .0) (k .1) (p .0) (ap readOf (sym (part-from bs (q .at))) ∙ p .1))) (c .before .before .put-refused .ensures)
+    let f = d .checked .given .0 .0 in
+    let p = refused-read (take (length bs - q .at) (drop (q .at) bs)) _ _ _ (r .read .ensures) (omega (arith, length-replicate {A = ℕ} imageWords 0))
+    f (d .checked .given .1) in
+    put-as (told-text f (p .0) (p .2) ∙ sym (report-text bs (drop (q .at) bs) (k .0) (k .1) (p .0) (ap readOf (sym (part-from bs (q .at))) ∙ p .1)))
+    (c .before .before .put-refused .ensures)
 
 sub-read : tie.Need-sub-read
 sub-read c = search needs
@@ -68,7 +71,10 @@ enum-known-checked : tie.Need-enum-known-checked
 enum-known-checked c = search needs
 
 put-refused-requires : tie.Need-put-refused-requires
-put-refused-requires c κs = let u = c .before .before .before .before .before .before .before .before .before .before in omega (arith, refused-most (c .before .before .checked .given .0 .0), u .before .before .before .pre)
+put-refused-requires c κs =
+    let m = c .before .before .before .before .before .before in
+    let u = m .before .before .before .before in
+    omega (arith, refused-most (c .before .before .checked .given .0 .0), u .before .before .before .pre)
 
 enum-told : tie.Need-enum-told
 enum-told c = search needs
@@ -81,8 +87,11 @@ put-answer-requires c κs =
     let r = c .before .before .before .before .before .before in
     let u = r .before .before .before .before .before in
     let bs = now (u .before .before .before .args .input) in
-    let at = u .request-of .result .at in
-    (fine-read (take (length bs - at) (drop at bs)) _ _ _ (r .read .ensures) (omega (arith, length-replicate {A = ℕ} imageWords 0)) (c .before .before .before .enum-told .given .1) .2, u .before .before .before .pre)
+    let at = u .request-of .result .at in (
+      fine-read (take (length bs - at) (drop at bs)) _ _ _ (r .read .ensures) (omega (arith, length-replicate {A = ℕ} imageWords 0))
+          (c .before .before .before .enum-told .given .1) .2,
+      u .before .before .before .pre,
+    )
 
 same-length-2 : tie.Need-same-length-2
 same-length-2 c = search needs
@@ -92,14 +101,18 @@ same-length-3 c = search needs
 
 returns-3 : tie.Need-returns-3
 returns-3 c =
-    let r = c .before .before .before .before .before .before .before .before .before in
+    let d = c .before .before .before .before .before .before in
+    let r = d .before .before .before in
     let u = r .before .before .before .before .before in
     let bs = now (u .before .before .before .args .input) in
     let q = u .request-of .result in
     let k = kept-some keep (requestOf bs) (sym (u .request-of .ensures .0) ∙ found-asked bs q (not-false (q .found) (r .before .before .before .if1 .left))) in
-    let p = fine-read (take (length bs - q .at) (drop (q .at) bs)) _ _ _ (r .read .ensures) (omega (arith, length-replicate {A = ℕ} imageWords 0)) (c .before .before .before .before .before .before .enum-told .given .1) in
-    let whole = report-run bs (drop (q .at) bs) (k .0) (k .1) (p .0) (ap readOf (sym (part-from bs (q .at))) ∙ p .1) (record { state = q .state; budget = q .budget }) (k .2) in
-    put-as (ap (λ m. answerLines m (partsOf (q .state)) (settleOf m (partsOf (q .state)) (q .budget) (q .budget))) (p .3) ∙ whole) (c .before .before .put-answer .ensures)
+    let p = fine-read (take (length bs - q .at) (drop (q .at) bs)) _ _ _ (r .read .ensures) (omega (arith, length-replicate {A = ℕ} imageWords 0))
+    (d .enum-told .given .1) in
+    let whole = report-run bs (drop (q .at) bs) (k .0) (k .1) (p .0) (ap readOf (sym (part-from bs (q .at))) ∙ p .1)
+    (record { state = q .state; budget = q .budget }) (k .2) in
+    put-as (ap (λ m. answerLines m (partsOf (q .state)) (settleOf m (partsOf (q .state)) (q .budget) (q .budget))) (p .3) ∙ whole)
+    (c .before .before .put-answer .ensures)
 
 pub put-report-spec : {M : Type 1} → statement M
 put-report-spec =

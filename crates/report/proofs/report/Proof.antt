@@ -8,8 +8,9 @@ use Rattle.report.proofs.report.Tie as tie
 
 returns-2 : tie.Need-returns-2
 returns-2 c =
-    let s0 = c .before .before .before .before .before .before .before in
-    filled (now (s0 .args .input)) (now (s0 .args .out)) _ _ (omega (arith, c .before .before .before .before .if1 .left)) (c .before .before .put-report .ensures)
+    let d = c .before .before .before .before in
+    let s0 = d .before .before .before in
+    filled (now (s0 .args .input)) (now (s0 .args .out)) _ _ (omega (arith, d .if1 .left)) (c .before .before .put-report .ensures)
 
 returns : tie.Need-returns
 returns c = too-short (now (c .before .before .before .args .input)) (now (c .before .before .before .args .out)) (omega (arith, c .if1 .taken))

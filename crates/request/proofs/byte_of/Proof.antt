@@ -3,8 +3,6 @@ use borrow.Author.Tests.{lt-ltb, le-ltb}
 use borrow.Author.Needs.{needs}
 use Rattle.request.proofs.byte_of.Statement.{statement}
 use Rattle.request.proofs.byte_of.Tie as tie
-use Rattle.request.proofs.byte_of.Reads as reads
-use Rattle.request.proofs.byte_of.Lts as lts
 
 cast-if1 : tie.Need-cast-if1
 cast-if1 c = search needs

@@ -2,8 +2,6 @@
 use borrow.Author.Tests.{lt-ltb, le-ltb}
 use Rattle.request.proofs.less_of.Statement.{statement}
 use Rattle.request.proofs.less_of.Tie as tie
-use Rattle.request.proofs.less_of.Reads as reads
-use Rattle.request.proofs.less_of.Lts as lts
 
 returns : tie.Need-returns
 returns c = rw (lt-ltb (c .before .args .n) (c .before .args .m) (c .if1 .taken))

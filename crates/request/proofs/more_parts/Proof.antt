@@ -51,13 +51,17 @@ with-part-requires c κs = search needs
 
 loop-less : tie.Need-loop-less Inv-loop μ-loop
 loop-less c =
-    let b = c .before .before .before .before .before in
-    gathered-less with withAll nothing-more one-more _ _ _ _ _ (b .before .before .before .loop .inv) (b .before .before .loop-test .taken) (b .if1 .left) _ (c .before .before .before .before .number .ensures) _ _ (c .before .before .next .given .1)
+    let d = c .before .before .before .before in
+    let b = d .before in
+    gathered-less with withAll nothing-more one-more _ _ _ _ _ (b .before .before .before .loop .inv) (b .before .before .loop-test .taken)
+    (b .if1 .left) _ (d .number .ensures) _ _ (c .before .before .next .given .1)
 
 loop-again : tie.Need-loop-again Inv-loop μ-loop
 loop-again c =
-    let b = c .before .before .before .before .before in
-    gathered-more with withAll nothing-more one-more _ _ _ _ _ (b .before .before .before .loop .inv) (b .before .before .loop-test .taken) (b .if1 .left) _ (c .before .before .before .before .number .ensures) _ _ (c .before .before .next .given .1) _ (c .with-part .ensures)
+    let d = c .before .before .before .before in
+    let b = d .before in
+    gathered-more with withAll nothing-more one-more _ _ _ _ _ (b .before .before .before .loop .inv) (b .before .before .loop-test .taken)
+    (b .if1 .left) _ (d .number .ensures) _ _ (c .before .before .next .given .1) _ (c .with-part .ensures)
 
 returns-3 : tie.Need-returns-3 Inv-loop μ-loop
 returns-3 c = ap heard (gathered-end with withAll nothing-more one-more _ _ _ _ _ (c .before .loop .inv) (c .loop-test .left))

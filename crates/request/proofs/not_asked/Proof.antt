@@ -2,9 +2,6 @@
 use borrow.Author.Needs.{needs}
 use Rattle.request.proofs.not_asked.Statement.{statement}
 use Rattle.request.proofs.not_asked.Tie as tie
-use Rattle.request.proofs.not_asked.Reads as reads
-use Rattle.request.proofs.not_asked.Lts as lts
-use Rattle.answer.proofs.no_state.Reads as no-state-reads
 
 no-state-requires : tie.Need-no-state-requires
 no-state-requires c κs = search needs

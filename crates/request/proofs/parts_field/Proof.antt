@@ -1,5 +1,5 @@
 -- `request::parts_field` meets its contract.
-use mathlib.Core.Path.{_≡_, sym, _∙_, ap}
+use mathlib.Core.Path.{sym, _∙_, ap}
 use lib.ListN.{drop, length}
 use denote.Ref.{now}
 use Rattle.model.specs.Text.{tab}
@@ -25,7 +25,10 @@ no-state-requires : tie.Need-no-state-requires
 no-state-requires c κs = search needs
 
 returns : tie.Need-returns
-returns c = sym (parts-missing (theByte tab (drop (c .before .before .before .before .before .args .c .at) (now (c .before .before .before .before .before .args .text)))) (sym (c .before .before .before .number-field .ensures) ∙ ap (gotNumber (now (c .before .before .before .before .before .args .text))) (c .before .enum-told .given .1)))
+returns c =
+    let s = c .before .before .before .before .before in
+    sym (parts-missing (theByte tab (drop (s .args .c .at) (now (s .args .text)))) (sym (c .before .before .before .number-field .ensures)
+    ∙ ap (gotNumber (now (s .args .text))) (c .before .enum-told .given .1)))
 
 no-state-requires-2 : tie.Need-no-state-requires-2
 no-state-requires-2 c κs = search needs
@@ -38,14 +41,16 @@ more-parts-requires c κs = search needs
 
 returns-2 : tie.Need-returns-2
 returns-2 c =
-    let t = now (c .before .before .before .before .before .before .before .before .args .text) in
-    let v = c .before .before .before .before .d .given .0 in
+    let e = c .before .before .before .before in
+    let s = e .before .before .before .before in
+    let t = now (s .args .text) in
+    let v = e .d .given .0 in
     let cs = drop (v .0 .at) t in
     c .more-parts .ensures
     ∙ ap (λ x. heard (valued (withAll x) (moreNumbers (length cs) cs))) (c .before .with-part .ensures ∙ ap (λ x. with x (v .1 .0))
     (c .before .before .no-state2 .ensures))
-    ∙ sym (ap heard (parts-all (theByte tab (drop (c .before .before .before .before .before .before .before .before .args .c .at) t)) (v .1 .0) cs (sym
-    (c .before .before .before .before .before .before .number-field .ensures) ∙ ap (gotNumber t) (c .before .before .before .before .d .given .1))))
+    ∙ sym (ap heard (parts-all (theByte tab (drop (s .args .c .at) t)) (v .1 .0) cs (sym
+    (e .before .before .number-field .ensures) ∙ ap (gotNumber t) (e .d .given .1))))
 
 pub parts-field-spec : {M : Type 1} → statement M
 parts-field-spec =

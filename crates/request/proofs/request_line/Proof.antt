@@ -1,6 +1,6 @@
 -- `request::request_line` meets its contract.
-use mathlib.Core.Path.{_≡_, sym, _∙_, ap}
-use lib.ListN.{drop, length}
+use mathlib.Core.Path.{sym, _∙_, ap}
+use lib.ListN.{drop}
 use denote.Ref.{now}
 use borrow.Author.Tests.{not-true, not-false}
 use Rattle.model.specs.Reading.{field, numbers}
@@ -42,8 +42,10 @@ not-asked-requires-2 c κs = search needs
 
 returns-2 : tie.Need-returns-2
 returns-2 c =
-    let t = now (c .before .before .before .before .before .before .before .before .before .before .args .text) in
-    let e0 = sym (c .before .before .before .before .before .before .before .word .ensures) ∙ ap (past t) (c .before .before .before .before .before .c1 .given .1) in
+    let d = c .before .before .before .before .before in
+    let s = d .before .before .before .before .before in
+    let t = now (s .args .text) in
+    let e0 = sym (d .before .before .word .ensures) ∙ ap (past t) (d .c1 .given .1) in
     let p = c .before .before .before .parts-field in
     let gone = heard-not _ (sym (p .ensures) ∙ missing-parts t (p .result) (not-true (p .result .found) (c .before .if1 .taken))) in
     ap (asked t) (c .not-asked2 .ensures) ∙ sym (ap (λ o. heard (valued keep o)) (line-no-2 t e0 (valued-stops held (field numbers _) (gone .1))))
@@ -62,11 +64,14 @@ not-asked-requires-3 c κs = search needs
 
 returns-3 : tie.Need-returns-3
 returns-3 c =
-    let t = now (c .before .before .before .before .before .before .before .before .before .before .before .before .before .args .text) in
-    let e0 = sym (c .before .before .before .before .before .before .before .before .before .before .word .ensures) ∙ ap (past t) (c .before .before .before .before .before .before .before .before .c1 .given .1) in
-    let p = c .before .before .before .before .before .before .parts-field in
+    let d₁ = c .before .before .before .before in
+    let d₂ = d₁ .before .before .before .before in
+    let s = d₂ .before .before .before .before .before in
+    let t = now (s .args .text) in
+    let e0 = sym (d₂ .before .before .word .ensures) ∙ ap (past t) (d₂ .c1 .given .1) in
+    let p = d₁ .before .before .parts-field in
     let r = valued-is held (field numbers _) (heard-is _ _ _ (sym (p .ensures) ∙ found-parts t (p .result) (not-false (p .result .found)
-    (c .before .before .before .before .if1 .left)))) in
+    (d₁ .if1 .left)))) in
     ap (asked t) (c .not-asked3 .ensures) ∙ sym (ap (λ o. heard (valued keep o)) (line-no-3 t e0 (r .1) (sym (c .before .before .before .number-field .ensures)
     ∙ ap (gotNumber t) (c .before .enum-told2 .given .1))))
 
@@ -84,26 +89,34 @@ not-asked-requires-4 c κs = search needs
 
 returns-4 : tie.Need-returns-4
 returns-4 c =
-    let t = now (c .before .before .before .before .before .before .before .before .before .before .before .before .before .before .before .before .before .args .text) in
-    let e0 = sym (c .before .before .before .before .before .before .before .before .before .before .before .before .before .before .word .ensures) ∙ ap (past t) (c .before .before .before .before .before .before .before .before .before .before .before .before .c1 .given .1) in
-    let p = c .before .before .before .before .before .before .before .before .before .before .parts-field in
+    let d₁ = c .before .before .before .before .before in
+    let d₂ = d₁ .before .before .before .before .before in
+    let d₃ = d₂ .before .before .before .before in
+    let s = d₃ .before .before .before in
+    let t = now (s .args .text) in
+    let e0 = sym (d₃ .word .ensures) ∙ ap (past t) (d₂ .before .before .c1 .given .1) in
+    let p = d₂ .parts-field in
     let r = valued-is held (field numbers _) (heard-is _ _ _ (sym (p .ensures) ∙ found-parts t (p .result) (not-false (p .result .found)
-    (c .before .before .before .before .before .before .before .before .if1 .left)))) in
-    let e2 = sym (c .before .before .before .before .before .before .before .number-field .ensures) ∙ ap (gotNumber t) (c .before .before .before .before .before .c2 .given .1) in
+    (d₁ .before .before .before .if1 .left)))) in
+    let e2 = sym (d₁ .before .before .number-field .ensures) ∙ ap (gotNumber t) (d₁ .c2 .given .1) in
     ap (asked t) (c .not-asked4 .ensures) ∙ sym (ap (λ o. heard (valued keep o)) (line-no-4 t e0 (r .1) e2 (sym (c .before .before .before .byte .ensures) ∙ ap
     (past t) (c .before .enum-told3 .given .1))))
 
 returns-5 : tie.Need-returns-5
 returns-5 c =
-    let t = now (c .before .before .before .before .before .before .before .before .before .before .before .before .before .before .before .before .before .before .args .text) in
-    let e0 = sym (c .before .before .before .before .before .before .before .before .before .before .before .before .before .before .before .word .ensures) ∙ ap (past t) (c .before .before .before .before .before .before .before .before .before .before .before .before .before .c1 .given .1) in
-    let p = c .before .before .before .before .before .before .before .before .before .before .before .parts-field in
+    let d₁ = c .before .before .before .before in
+    let d₂ = d₁ .before .before .before .before in
+    let d₃ = d₂ .before .before .before .before .before in
+    let s = d₃ .before .before .before .before .before in
+    let t = now (s .args .text) in
+    let e0 = sym (d₃ .before .before .word .ensures) ∙ ap (past t) (d₃ .c1 .given .1) in
+    let p = d₂ .before .before .before .parts-field in
     let r = valued-is held (field numbers _) (heard-is _ _ _ (sym (p .ensures) ∙ found-parts t (p .result) (not-false (p .result .found)
-    (c .before .before .before .before .before .before .before .before .before .if1 .left)))) in
-    let e2 = sym (c .before .before .before .before .before .before .before .before .number-field .ensures) ∙ ap (gotNumber t) (c .before .before .before .before .before .before .c2 .given .1) in
-    let e3 = sym (c .before .before .before .before .byte .ensures) ∙ ap (past t) (c .before .before .c3 .given .1) in
+    (d₂ .before .if1 .left)))) in
+    let e2 = sym (d₂ .number-field .ensures) ∙ ap (gotNumber t) (d₁ .before .before .c2 .given .1) in
+    let e3 = sym (d₁ .byte .ensures) ∙ ap (past t) (c .before .before .c3 .given .1) in
     sym (ap (λ o. heard (valued keep o)) (line-is t e0 (r .1) e2 e3) ∙ ap (λ x. there {A = Kept}
-    (record { state = x; budget = c .before .before .before .before .before .before .c2 .given .0 .1 .0 }) (drop
+    (record { state = x; budget = d₁ .before .before .c2 .given .0 .1 .0 }) (drop
     (c .before .before .c3 .given .0 .0 .at) t)) (r .2))
 
 pub request-line-spec : {M : Type 1} → statement M

@@ -4,9 +4,6 @@ use Rattle.answer.specs.Limits.{maxComponents}
 use borrow.Author.Needs.{needs}
 use Rattle.request.proofs.with_part.Statement.{statement}
 use Rattle.request.proofs.with_part.Tie as tie
-use Rattle.request.proofs.with_part.Reads as reads
-use Rattle.request.proofs.with_part.Lts as lts
-use Rattle.request.proofs.byte_of.Reads as byte-of-reads
 
 byte-of-requires : tie.Need-byte-of-requires
 byte-of-requires c κs = search needs

@@ -56,7 +56,10 @@ returns : tie.Need-returns
 returns c = let a = c .before .before .args in let e : 2 * a .k + 1 ≡ suc (2 * a .k) = omega arith in rw (c .enum-told .given .1, e)
 
 returns-2 : tie.Need-returns-2
-returns-2 c = let a = c .before .before .before .args in let e : 2 * a .k + 1 + 1 ≡ suc (2 * a .k + 1) = omega arith in rw (c .before .enum-told2 .given .1, e, c .single .ensures)
+returns-2 c =
+    let a = c .before .before .before .args in
+    let e : 2 * a .k + 1 + 1 ≡ suc (2 * a .k + 1) = omega arith in
+    rw (c .before .enum-told2 .given .1, e, c .single .ensures)
 
 returns-3 : tie.Need-returns-3
 returns-3 c = let a = c .before .before .before .args in rw (c .before .enum-told3 .given .1) (c .to .ensures ∙ be-told (a .k) (a .s / 3) (a .s % 3))

@@ -60,7 +60,8 @@ returns : tie.Need-returns
 returns c =
     let k = c .before .before in
     let p = place (k .before .before) in
-    rw (k .enum-told .given .1) (c .to .ensures ∙ ap (λ x. some (plainMove x)) (c .before .union .ensures ∙ ap (λ x. k .before .before .before .before .args .s ∪ x) p))
+    rw (k .enum-told .given .1) (c .to .ensures ∙ ap (λ x. some (plainMove x))
+    (c .before .union .ensures ∙ ap (λ x. k .before .before .before .before .args .s ∪ x) p))
 
 returns-2 : tie.Need-returns-2
 returns-2 c =

@@ -96,10 +96,14 @@ returns : tie.Need-returns
 returns c = rw (c .before .enum-told .given .1) (c .to .ensures)
 
 returns-2 : tie.Need-returns-2
-returns-2 c = let a = c .before .before .before .args in rw (c .before .enum-told2 .given .1) (c .to2 .ensures ∙ tells-f (a .n) (a .s / 6) (a .s / 3 % 2) (a .s % 3))
+returns-2 c =
+    let a = c .before .before .before .args in
+    rw (c .before .enum-told2 .given .1) (c .to2 .ensures ∙ tells-f (a .n) (a .s / 6) (a .s / 3 % 2) (a .s % 3))
 
 returns-3 : tie.Need-returns-3
-returns-3 c = let a = c .before .before .before .args in rw (c .before .enum-told3 .given .1) (c .to3 .ensures ∙ tells-u (a .n) (a .s / 6) (a .s / 3 % 2) (a .s % 3))
+returns-3 c =
+    let a = c .before .before .before .args in
+    rw (c .before .enum-told3 .given .1) (c .to3 .ensures ∙ tells-u (a .n) (a .s / 6) (a .s / 3 % 2) (a .s % 3))
 
 returns-4 : tie.Need-returns-4
 returns-4 c = rw (c .before .before .enum-told4 .given .1) (c .to4 .ensures ∙ ap (λ x. some (plainMove x)) (c .before .one-more .ensures))

@@ -1,7 +1,6 @@
 -- `roles::earlier` meets its contract. The loop's invariant: what is found from here on is what is found at all.
 use mathlib.Core.Path.{_≡_, refl, sym, _∙_, ap}
-use Prim.Native.Nat.{ℕ, _-_}
-use native.Mathlib.Omega.{arith}
+use Prim.Native.Nat.{_-_}
 use Rattle.laws.specs.Sets.{has}
 use Rattle.laws.specs.Search.{seek, when, isSome, any}
 use Rattle.laws.proofs.SearchLaws.{seek-end, test-here, test-next}

@@ -1,5 +1,4 @@
 -- `roles::ordered` meets its contract.
-use mathlib.Core.Path.{_∙_}
 use borrow.Author.Tests.{eq-eqb, ne-eqb}
 use borrow.Author.Needs.{needs}
 use Rattle.roles.proofs.ordered.Statement.{statement}

@@ -82,10 +82,16 @@ returns : tie.Need-returns
 returns c = rw (c .before .enum-told .given .1) (c .to .ensures)
 
 returns-2 : tie.Need-returns-2
-returns-2 c = let a = c .before .before .before .before .args in rw (c .before .before .enum-told2 .given .1) (c .to2 .ensures ∙ map-when (eqb (a .s % 5) 1) _ _ (c .before .pand-state .ensures))
+returns-2 c =
+    let start = c .before .before .before .before in
+    let a = start .args in
+    rw (c .before .before .enum-told2 .given .1) (c .to2 .ensures ∙ map-when (eqb (a .s % 5) 1) _ _ (c .before .pand-state .ensures))
 
 returns-3 : tie.Need-returns-3
-returns-3 c = let a = c .before .before .before .before .args in rw (c .before .before .enum-told3 .given .1) (c .to3 .ensures ∙ map-when (eqb (a .s % 5) 3) _ _ (c .before .pand-state2 .ensures))
+returns-3 c =
+    let start = c .before .before .before .before in
+    let a = start .args in
+    rw (c .before .before .enum-told3 .given .1) (c .to3 .ensures ∙ map-when (eqb (a .s % 5) 3) _ _ (c .before .pand-state2 .ensures))
 
 returns-4 : tie.Need-returns-4
 returns-4 c = rw (c .before .before .enum-told4 .given .1) (c .to4 .ensures ∙ ap (mapSome plainMove) (c .before .first-fails .ensures))

@@ -31,13 +31,19 @@ returns-2 : tie.Need-returns-2
 returns-2 c = let a = c .before .before .before .args in rw (c .enum-told2 .given .1) (ticks-up (gateOf (a .number) (a .first) (a .second)) (a .of))
 
 returns-3 : tie.Need-returns-3
-returns-3 c = let a = c .before .before .before .args in c .before .before .gate-role .ensures ∙ rw (c .enum-told3 .given .1) (hears-f (gateOf (a .number) (a .first) (a .second)) (a .of))
+returns-3 c =
+    let a = c .before .before .before .args in
+    c .before .before .gate-role .ensures ∙ rw (c .enum-told3 .given .1) (hears-f (gateOf (a .number) (a .first) (a .second)) (a .of))
 
 returns-4 : tie.Need-returns-4
-returns-4 c = let a = c .before .before .before .args in c .before .before .gate-role .ensures ∙ rw (c .enum-told4 .given .1) (hears-u (gateOf (a .number) (a .first) (a .second)) (a .of))
+returns-4 c =
+    let a = c .before .before .before .args in
+    c .before .before .gate-role .ensures ∙ rw (c .enum-told4 .given .1) (hears-u (gateOf (a .number) (a .first) (a .second)) (a .of))
 
 returns-5 : tie.Need-returns-5
-returns-5 c = let a = c .before .before .before .args in c .before .before .gate-role .ensures ∙ rw (c .enum-told5 .given .1) (hears-r (gateOf (a .number) (a .first) (a .second)) (a .of))
+returns-5 c =
+    let a = c .before .before .before .args in
+    c .before .before .gate-role .ensures ∙ rw (c .enum-told5 .given .1) (hears-r (gateOf (a .number) (a .first) (a .second)) (a .of))
 
 pub pand-role-spec : {M : Type 1} → statement M
 pand-role-spec =

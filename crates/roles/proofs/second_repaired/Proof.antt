@@ -17,19 +17,29 @@ pand-state-requires-2 : tie.Need-pand-state-requires-2
 pand-state-requires-2 c κs = search needs
 
 returns-2 : tie.Need-returns-2
-returns-2 c = let a = c .before .before .before .args in rw (ne-eqb (a .y) 0 (c .before .before .if1 .left), c .before .if2 .taken) (ap {B = Option ℕ} some (c .pand-state2 .ensures))
+returns-2 c =
+    let a = c .before .before .before .args in
+    rw (ne-eqb (a .y) 0 (c .before .before .if1 .left), c .before .if2 .taken) (ap {B = Option ℕ} some (c .pand-state2 .ensures))
 
 pand-state-requires-3 : tie.Need-pand-state-requires-3
 pand-state-requires-3 c κs = search needs
 
 returns-3 : tie.Need-returns-3
-returns-3 c = let a = c .before .before .before .before .args in rw (ne-eqb (a .y) 0 (c .before .before .before .if1 .left), c .before .before .if2 .left, eq-eqb (a .st) 2 (c .before .if3 .taken)) (ap {B = Option ℕ} some (c .pand-state3 .ensures))
+returns-3 c =
+    let s = c .before .before .before .before in
+    let a = s .args in
+    rw (ne-eqb (a .y) 0 (c .before .before .before .if1 .left), c .before .before .if2 .left, eq-eqb (a .st) 2 (c .before .if3 .taken))
+    (ap {B = Option ℕ} some (c .pand-state3 .ensures))
 
 pand-state-requires-4 : tie.Need-pand-state-requires-4
 pand-state-requires-4 c κs = search needs
 
 returns-4 : tie.Need-returns-4
-returns-4 c = let a = c .before .before .before .before .args in rw (ne-eqb (a .y) 0 (c .before .before .before .if1 .left), c .before .before .if2 .left, ne-eqb (a .st) 2 (c .before .if3 .left)) (ap {B = Option ℕ} some (c .pand-state4 .ensures))
+returns-4 c =
+    let s = c .before .before .before .before in
+    let a = s .args in
+    rw (ne-eqb (a .y) 0 (c .before .before .before .if1 .left), c .before .before .if2 .left, ne-eqb (a .st) 2 (c .before .if3 .left))
+    (ap {B = Option ℕ} some (c .pand-state4 .ensures))
 
 pub second-repaired-spec : {M : Type 1} → statement M
 second-repaired-spec =

@@ -1,11 +1,10 @@
 -- `rows::find_in` meets its contract: what is left to search from k on is the whole search.
 use mathlib.Core.Path.{_≡_, sym, ap, _∙_}
-use Prim.Native.Nat.{_+_, _-_, _≤_, _<_}
-use native.Mathlib.Omega.{arith}
+use Prim.Native.Nat.{_-_, _≤_}
 use borrow.Author.Needs.{needs}
 use denote.Ref.{now}
 use Rattle.laws.specs.Sets.{has}
-use Rattle.laws.specs.Search.{seek, when}
+use Rattle.laws.specs.Search.{when}
 use Rattle.laws.proofs.SearchLaws.{test-here, test-next, seek-end}
 use Rattle.layout.specs.Layout.{actionAt}
 use Rattle.rows.specs.Ranges.{foundOf, bySet}
@@ -33,9 +32,11 @@ has-requires c κs =
 returns : tie.Need-returns Inv-loop μ-loop
 unfolding foundOf bySet
 returns c =
-    let l = c .before .before .before .before .loop in
-    let s0 = c .before .before .before .before .before .before in
-    ap foundOf (sym (test-here (λ k. has (s0 .args .set) (actionAt (now (s0 .args .t)) k)) (l .k) (s0 .args .hi) (search needs) (ap (has (s0 .args .set)) (sym (c .before .before .action-at .ensures)) ∙ sym (c .before .has .ensures) ∙ c .if1 .taken)) ∙ l .inv .1)
+    let d = c .before .before .before .before in
+    let s0 = d .before .before in
+    let l = d .loop in
+    ap foundOf (sym (test-here (λ k. has (s0 .args .set) (actionAt (now (s0 .args .t)) k)) (l .k) (s0 .args .hi) (search needs)
+    (ap (has (s0 .args .set)) (sym (c .before .before .action-at .ensures)) ∙ sym (c .before .has .ensures) ∙ c .if1 .taken)) ∙ l .inv .1)
 
 add-k : tie.Need-add-k Inv-loop μ-loop
 add-k c = search needs
@@ -46,9 +47,13 @@ loop-less c = search needs
 loop-again : tie.Need-loop-again Inv-loop μ-loop
 unfolding bySet
 loop-again c =
-    let l = c .before .before .before .before .loop in
-    let s0 = c .before .before .before .before .before .before in
-    (search needs, sym (test-next (λ k. has (s0 .args .set) (actionAt (now (s0 .args .t)) k)) (l .k) (s0 .args .hi) (search needs) (ap (has (s0 .args .set)) (sym (c .before .before .action-at .ensures)) ∙ sym (c .before .has .ensures) ∙ c .if1 .left)) ∙ l .inv .1)
+    let d = c .before .before .before .before in
+    let s0 = d .before .before in
+    let l = d .loop in (
+      search needs,
+      sym (test-next (λ k. has (s0 .args .set) (actionAt (now (s0 .args .t)) k)) (l .k) (s0 .args .hi) (search needs)
+          (ap (has (s0 .args .set)) (sym (c .before .before .action-at .ensures)) ∙ sym (c .before .has .ensures) ∙ c .if1 .left)) ∙ l .inv .1,
+    )
 
 returns-2 : tie.Need-returns-2 Inv-loop μ-loop
 unfolding foundOf bySet

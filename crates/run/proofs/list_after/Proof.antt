@@ -26,7 +26,8 @@ refused-settling-requires-2 c κs = search needs
 -- 22
 returns : tie.Need-returns
 returns c =
-    let s0 = c .before .before .before .before .before .before .before in
+    let m = c .before .before .before .before .before .before in
+    let s0 = m .before in
     let why = by-steps _ _ _ _ (list-follows _ _) _ (s0 .pre) (c .before .before .before .enum-told .given .1) (c .before .before .if1 .taken) in
     list-refuses _ _ _ _ _ why (c .refused-settling2 .ensures ∙ ap refusedSettling (c .before .refusal .ensures))
 

@@ -1,18 +1,13 @@
 -- `run::refused_step` meets its contract.
-use mathlib.Core.Path.{_≡_, ap}
+use mathlib.Core.Path.{ap}
 use Rattle.answer.specs.declared.Outcome.the-variants as Outcome
 use borrow.Author.Needs.{needs}
 use Rattle.run.proofs.refused_step.Statement.{statement}
 use Rattle.run.proofs.refused_step.Tie as tie
-use Rattle.run.proofs.refused_step.Reads as reads
-use Rattle.run.proofs.refused_step.Lts as lts
-use Rattle.answer.proofs.no_state.Reads as no-state-reads
 
--- src/lib.rt:35:16
 no-state-requires : tie.Need-no-state-requires
 no-state-requires c κs = search needs
 
--- src/lib.rt:30:1
 returns : tie.Need-returns
 returns c = ap (λ x. record { outcome = Outcome.Refused (c .before .args .why); state = x }) (c .no-state .ensures)
 

@@ -26,7 +26,8 @@ refused-settling-requires-2 c κs = search needs
 -- 22
 returns : tie.Need-returns
 returns c =
-    let s0 = c .before .before .before .before .before .before .before in
+    let m = c .before .before .before .before .before .before in
+    let s0 = m .before in
     let why = by-steps _ _ _ _ (settle-follows _ _ _) _ (s0 .pre) (c .before .before .before .enum-told .given .1) (c .before .before .if1 .taken) in
     settle-refuses _ _ _ _ _ _ why (c .refused-settling2 .ensures ∙ ap refusedSettling (c .before .refusal .ensures))
 
@@ -39,14 +40,16 @@ refused-settling-requires-3 c κs = search needs
 -- 24
 returns-2 : tie.Need-returns-2
 returns-2 c =
-    let s0 = c .before .before .before .before .before .before .before .before in
-    let ok = passed _ (entryFault (s0 .args .state)) _ (s0 .pre) (c .before .before .before .before .enum-told .given .1) in
+    let d = c .before .before .before .before in
+    let s0 = d .before .before .before .before in
+    let ok = passed _ (entryFault (s0 .args .state)) _ (s0 .pre) (d .enum-told .given .1) in
     settle-is-short _ _ _ _ ok _ (c .before .before .before .if1 .left) (c .before .before .if2 .taken)
     (c .refused-settling3 .ensures ∙ ap refusedSettling (c .before .short-trace .ensures))
 
 by-rule-requires : tie.Need-by-rule-requires
 by-rule-requires c κs =
-    let s0 = c .before .before .before .before .before .before .before in
+    let m = c .before .before .before .before .before .before in
+    let s0 = m .before in
     let ok = passed _ (entryFault (s0 .args .state)) _ (s0 .pre) (c .before .before .before .enum-told .given .1) in
     (ready-to-settle _ (ok .image) _ (ok .none), c .before .if2 .left)
 

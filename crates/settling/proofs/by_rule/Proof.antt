@@ -29,17 +29,23 @@ lowest-of-requires : tie.Need-lowest-of-requires Inv-loop μ-loop
 lowest-of-requires c κs = let l = c .before .before .loop in stands-at _ _ (l .inv .1 .reached .standing) (l .inv .0)
 
 ended-requires : tie.Need-ended-requires Inv-loop μ-loop
-ended-requires c κs = reached-ready _ _ _ (c .before .before .before .before .before .before .before .before .pre .0) (c .before .before .before .before .loop .inv .1 .reached)
+ended-requires c κs =
+    let d = c .before .before .before .before in
+    let s = d .before .before .before .before in
+    reached-ready _ _ _ (s .pre .0) (d .loop .inv .1 .reached)
 
 same-length : tie.Need-same-length Inv-loop μ-loop
 same-length c = c .before .before .before .before .before .loop .inv .1 .size
 
 returns : tie.Need-returns Inv-loop μ-loop
 returns c =
-    let l = c .before .before .before .before .before .loop in
-    let r = c .before .before .before .before .before .before .before .before .before .pre .0 in
+    let d = c .before .before .before .before .before in
+    let s = d .before .before .before .before in
+    let l = d .loop in
+    let r = s .pre .0 in
     let at = stands-at _ _ (l .inv .1 .reached .standing) (l .inv .0) in
-    let st = rests _ _ (reached-ready _ _ _ r (l .inv .1 .reached)) _ (lowest-of-state _ _ _ at _ (c .before .before .lowest-of .ensures)) (c .before .if1 .taken) in
+    let st = rests _ _ (reached-ready _ _ _ r (l .inv .1 .reached)) _ (lowest-of-state _ _ _ at _ (c .before .before .lowest-of .ensures))
+    (c .before .if1 .taken) in
     ends _ _ _ _ _ _ _ _ (l .inv .1) (λ f. let z : _≡_ {A = ℕ} 0 1 = cc in absurd (omega arith)) _ (c .ended .ensures)
 
 slice-aggregate-move-in : tie.Need-slice-aggregate-move-in Inv-loop μ-loop
@@ -52,7 +58,11 @@ cast-trace : tie.Need-cast-trace Inv-loop μ-loop
 cast-trace c = search needs
 
 slice-write-trace : tie.Need-slice-write-trace Inv-loop μ-loop
-slice-write-trace c = let l = c .before .before .before .before .before .before .before .loop in omega (arith, l .inv .1 .size, l .inv .1 .room)
+slice-write-trace c =
+    let m = c .before .before .before .before .before .before in
+    let d = m .before in
+    let l = d .loop in
+    omega (arith, l .inv .1 .size, l .inv .1 .room)
 
 union-requires : tie.Need-union-requires Inv-loop μ-loop
 union-requires c κs = search needs
@@ -65,13 +75,15 @@ loop-less c = search needs
 
 loop-again : tie.Need-loop-again Inv-loop μ-loop
 loop-again c =
-    let l = c .before .before .before .before .before .before .before .before .loop in
-    let s0 = c .before .before .before .before .before .before .before .before .before .before .before .before in
+    let d₁ = c .before .before .before .before in
+    let d₂ = d₁ .before .before .before .before in
+    let s0 = d₂ .before .before .before .before in
+    let l = d₂ .loop in
     let m = c .before .before .move-in in
     let at = stands-at _ _ (l .inv .1 .reached .standing) (l .inv .0) in
-    let low = lowest-of-state _ _ _ at _ (c .before .before .before .before .before .lowest-of .ensures) in (
+    let low = lowest-of-state _ _ _ at _ (d₁ .before .lowest-of .ensures) in (
       search needs,
-      onward _ _ _ _ (s0 .pre .0 .conforming) (s0 .pre .0 .joinable) _ _ _ _ (l .inv .1) _ low (search needs) (c .before .before .before .before .if1 .left) _ _ _
+      onward _ _ _ _ (s0 .pre .0 .conforming) (s0 .pre .0 .joinable) _ _ _ _ (l .inv .1) _ low (search needs) (d₁ .if1 .left) _ _ _
           (state-of _ _ _ at _ _ (m .ensures .1)) (resets-of _ _ _ at _ _ (m .ensures .0)) (c .union .ensures),
     )
 

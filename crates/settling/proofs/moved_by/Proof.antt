@@ -1,19 +1,14 @@
 -- `settling::moved_by` meets its contract.
-use mathlib.Core.Path.{_≡_, ap}
+use mathlib.Core.Path.{ap}
 use mathlib.Core.Option.{some}
 use borrow.Author.Needs.{needs}
 use Rattle.answer.specs.Told.{answered, moved, saysOutcome}
 use Rattle.settling.proofs.moved_by.Statement.{statement}
 use Rattle.settling.proofs.moved_by.Tie as tie
-use Rattle.settling.proofs.moved_by.Reads as reads
-use Rattle.settling.proofs.moved_by.Lts as lts
-use Rattle.moves.proofs.move_all.Reads as move-all-reads
 
--- src/lib.rt:22:9
 move-all-requires : tie.Need-move-all-requires
 move-all-requires c κs = search needs
 
--- src/lib.rt:18:1
 returns : tie.Need-returns
 unfolding saysOutcome
 returns c =

@@ -1,36 +1,27 @@
 -- `settling::rule_step` meets its contract.
-use mathlib.Core.Path.{_≡_, refl, sym, ap, _∙_}
+use mathlib.Core.Path.{_≡_, sym, ap, _∙_}
 use mathlib.Core.Option.{some}
-use Prim.Native.Nat.{ℕ, _≤_, _<_}
 use native.Mathlib.Omega.{arith}
 use borrow.Author.Needs.{needs}
 use lib.ListN.{length}
 use denote.Ref.{now}
-use Rattle.answer.specs.Limits.{maxActions, maxComponents}
-use Rattle.answer.specs.Told.{answered, Step, moved, saysOutcome}
+use Rattle.answer.specs.Limits.{maxComponents}
+use Rattle.answer.specs.Told.{answered, saysOutcome}
 use Rattle.answer.specs.State.{partsOf, withParts}
 use Rattle.answer.proofs.StateLaws.{with-own-parts}
 use Rattle.iosa.specs.Step.{taken}
-use Rattle.iosa.specs.Stepped.{Stepping}
 use Rattle.layout.specs.Image.{modelOf}
 use Rattle.moves.proofs.Ready.{count-few}
-use Rattle.settling.specs.Gives.{byRuleOf}
 use Rattle.moves.proofs.Lowest.{lowest-here, lowest-nowhere}
 use Rattle.settling.proofs.rule_step.Statement.{statement}
 use Rattle.settling.proofs.rule_step.Tie as tie
-use Rattle.settling.proofs.rule_step.Reads as reads
-use Rattle.settling.proofs.rule_step.Lts as lts
-use Rattle.moves.proofs.lowest_all.Reads as lowest-all-reads
-use Rattle.settling.proofs.moved_by.Reads as moved-by-reads
 
--- src/lib.rt:22:9
 lowest-all-requires : tie.Need-lowest-all-requires
 lowest-all-requires c κs = search needs
 
 moved-by-requires : tie.Need-moved-by-requires
 moved-by-requires c κs = search needs
 
--- src/lib.rt:18:1
 returns-2 : tie.Need-returns-2
 unfolding saysOutcome
 returns-2 c =
@@ -38,7 +29,8 @@ returns-2 c =
     let t = now (s0 .args .t) in
     let x = s0 .args .x in
     let r = s0 .pre in
-    let e = ap (taken (partsOf x)) (lowest-nowhere (modelOf t) (r .conforming) (r .joinable) (partsOf x) (r .standing .within) _ (c .before .lowest-all .ensures) (omega (arith, c .if1 .left))) in
+    let e = ap (taken (partsOf x)) (lowest-nowhere (modelOf t) (r .conforming) (r .joinable) (partsOf x) (r .standing .within) _
+    (c .before .lowest-all .ensures) (omega (arith, c .if1 .left))) in
     let len : length (x .parts) ≡ maxComponents = search needs in
     record {
       outcome = ap (λ v. some (answered (v .step))) (sym e);
@@ -51,8 +43,12 @@ returns c =
     let x = s0 .args .x in
     let r = s0 .pre in
     let m = modelOf (now (s0 .args .t)) in
-    let e = ap (taken (partsOf x)) (lowest-here m (r .conforming) (r .joinable) (partsOf x) (r .standing .within) _ (c .before .before .lowest-all .ensures) (c .before .if1 .taken)) in
-    record { outcome = c .moved-by .ensures .outcome ∙ ap (λ v. some (answered (v .step))) (sym e); state = c .moved-by .ensures .state ∙ ap (λ v. withParts x (v .state)) (sym e) }
+    let e = ap (taken (partsOf x)) (lowest-here m (r .conforming) (r .joinable) (partsOf x) (r .standing .within) _
+    (c .before .before .lowest-all .ensures) (c .before .if1 .taken)) in
+    record {
+      outcome = c .moved-by .ensures .outcome ∙ ap (λ v. some (answered (v .step))) (sym e);
+      state = c .moved-by .ensures .state ∙ ap (λ v. withParts x (v .state)) (sym e);
+    }
 
 pub rule-step-spec : {M : Type 1} → statement M
 rule-step-spec = tie.close (tie.spec lowest-all-requires moved-by-requires returns returns-2)

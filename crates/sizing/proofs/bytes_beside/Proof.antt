@@ -2,7 +2,6 @@
 use native.Mathlib.Omega.{arith}
 use Rattle.layout.proofs.ImageIsSane.{count-below, image-is-sane}
 use Rattle.sizing.proofs.MergedSums.{sum-low, sum-high, bytes-summed}
-use borrow.Author.Needs.{needs}
 use Rattle.sizing.proofs.bytes_beside.Statement.{statement}
 use Rattle.sizing.proofs.bytes_beside.Tie as tie
 
@@ -25,16 +24,37 @@ head-width-requires : tie.Need-head-width-requires
 head-width-requires c κs = let s = c .before .before .before .before in (s .pre .0, omega (arith, s .pre .1), s .pre .1)
 
 add-result : tie.Need-add-result
-add-result c = let s = c .before .before .before .before .before in omega (arith, sum-low _ (s .pre .0) (s .args .i) (s .pre .1) _ _ _ _ (c .before .before .before .text-length .ensures) (c .head-width .ensures) (c .before .before .comp-width .ensures) (c .before .comp-width2 .ensures))
+add-result c =
+    let s = c .before .before .before .before .before in
+    omega (
+      arith,
+      sum-low _ (s .pre .0) (s .args .i) (s .pre .1) _ _ _ _ (c .before .before .before .text-length .ensures) (c .head-width .ensures)
+          (c .before .before .comp-width .ensures) (c .before .comp-width2 .ensures),
+    )
 
 sub-result : tie.Need-sub-result
-sub-result c = let s = c .before .before .before .before .before in omega (arith, sum-high _ (s .pre .0) (s .args .i) (s .pre .1) _ _ _ _ (c .before .before .before .text-length .ensures) (c .head-width .ensures) (c .before .before .comp-width .ensures) (c .before .comp-width2 .ensures))
+sub-result c =
+    let s = c .before .before .before .before .before in
+    omega (
+      arith,
+      sum-high _ (s .pre .0) (s .args .i) (s .pre .1) _ _ _ _ (c .before .before .before .text-length .ensures) (c .head-width .ensures)
+          (c .before .before .comp-width .ensures) (c .before .comp-width2 .ensures),
+    )
 
 sub-result-2 : tie.Need-sub-result-2
-sub-result-2 c = let s = c .before .before .before .before .before in omega (arith, sum-high _ (s .pre .0) (s .args .i) (s .pre .1) _ _ _ _ (c .before .before .before .text-length .ensures) (c .head-width .ensures) (c .before .before .comp-width .ensures) (c .before .comp-width2 .ensures))
+sub-result-2 c =
+    let s = c .before .before .before .before .before in
+    omega (
+      arith,
+      sum-high _ (s .pre .0) (s .args .i) (s .pre .1) _ _ _ _ (c .before .before .before .text-length .ensures) (c .head-width .ensures)
+          (c .before .before .comp-width .ensures) (c .before .comp-width2 .ensures),
+    )
 
 returns : tie.Need-returns
-returns c = let s = c .before .before .before .before .before in bytes-summed _ (s .pre .0) (s .args .i) (s .pre .1) _ _ _ _ (c .before .before .before .text-length .ensures) (c .head-width .ensures) (c .before .before .comp-width .ensures) (c .before .comp-width2 .ensures)
+returns c =
+    let s = c .before .before .before .before .before in
+    bytes-summed _ (s .pre .0) (s .args .i) (s .pre .1) _ _ _ _ (c .before .before .before .text-length .ensures) (c .head-width .ensures)
+    (c .before .before .comp-width .ensures) (c .before .comp-width2 .ensures)
 
 pub bytes-beside-spec : {M : Type 1} → statement M
 bytes-beside-spec =

@@ -1,5 +1,5 @@
 -- `sizing::head_width`: the product's numbers and sets.
-use mathlib.Core.Path.{_≡_, _∙_, ap}
+use mathlib.Core.Path.{_∙_, ap}
 use lib.ListN.{length}
 use Rattle.model.specs.Text.{compText}
 use Rattle.measure.specs.Measure.{bare}

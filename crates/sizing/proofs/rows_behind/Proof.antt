@@ -19,10 +19,14 @@ end-of-requires-2 : tie.Need-end-of-requires-2
 end-of-requires-2 c κs = search needs
 
 sub-result : tie.Need-sub-result
-sub-result c = omega (arith, behind-rows _ (c .before .before .before .before .args .j) _ _ _ (c .before .before .before .before .pre .1) (c .before .before .count-of .ensures) (c .before .end-of .ensures) (c .end-of2 .ensures))
+sub-result c =
+    let s = c .before .before .before .before in
+    omega (arith, behind-rows _ (s .args .j) _ _ _ (s .pre .1) (c .before .before .count-of .ensures) (c .before .end-of .ensures) (c .end-of2 .ensures))
 
 returns : tie.Need-returns
-returns c = omega (arith, behind-rows _ (c .before .before .before .before .args .j) _ _ _ (c .before .before .before .before .pre .1) (c .before .before .count-of .ensures) (c .before .end-of .ensures) (c .end-of2 .ensures))
+returns c =
+    let s = c .before .before .before .before in
+    omega (arith, behind-rows _ (s .args .j) _ _ _ (s .pre .1) (c .before .before .count-of .ensures) (c .before .end-of .ensures) (c .end-of2 .ensures))
 
 pub rows-behind-spec : {M : Type 1} → statement M
 rows-behind-spec =

@@ -18,10 +18,11 @@ same-length c = search needs
 
 returns : tie.Need-returns
 returns c =
-    let s0 = c .before .before .before .before .before .before .before in
+    let d = c .before .before .before .before in
+    let s0 = d .before .before .before in
     let m = modelOf (now (s0 .args .t)) in
     let s = partsOf (s0 .args .x) in
-    put-as (sym (answer-22 m s (s0 .args .budget) (s0 .pre .1) (s0 .pre .2) (c .before .before .before .before .if1 .taken)))
+    put-as (sym (answer-22 m s (s0 .args .budget) (s0 .pre .1) (s0 .pre .2) (d .if1 .taken)))
     (c .before .before .put-whole .ensures)
 
 put-run-requires : tie.Need-put-run-requires
@@ -34,10 +35,11 @@ same-length-2 c = search needs
 
 returns-2 : tie.Need-returns-2
 returns-2 c =
-    let s0 = c .before .before .before .before .before .before .before in
+    let d = c .before .before .before .before in
+    let s0 = d .before .before .before in
     let m = modelOf (now (s0 .args .t)) in
     let s = partsOf (s0 .args .x) in
-    put-as (sym (answer-run m s (s0 .args .budget) (s0 .pre .1) (s0 .pre .2) (c .before .before .before .before .if1 .left)))
+    put-as (sym (answer-run m s (s0 .args .budget) (s0 .pre .1) (s0 .pre .2) (d .if1 .left)))
     (c .before .before .put-run .ensures)
 
 pub put-settled-spec : {M : Type 1} → statement M

@@ -15,7 +15,8 @@ use Rattle.lines.specs.declared.Line.{Line}
 use Rattle.lines.proofs.LineLaws.{valued-stops}
 use Rattle.columns.specs.Columns.{valueColumn}
 use Rattle.survey.specs.Places.{columnIn}
-use Rattle.survey.proofs.Turns.{Stands, stands-first, Read, read-line, read-on, no-line, at-end, line-fault, line-column, line-taken, says-line, says-shape, says-none, says-fine}
+use Rattle.survey.proofs.Turns.{Stands, stands-first, Read, read-line, read-on, no-line, at-end, line-fault, line-column, line-taken}
+use Rattle.survey.proofs.Turns.{says-line, says-shape, says-none, says-fine}
 use Rattle.survey.proofs.check_lines.Statement.{statement}
 use Rattle.survey.proofs.check_lines.Tie as tie
 
@@ -102,8 +103,7 @@ add-n c =
       arith,
       l .loop .inv .1 .count,
       k .before .before .before .before .loop-test .taken,
-      length-drop (l .loop .at)
-          (textAt k),
+      length-drop (l .loop .at) (textAt k),
       l .before .before .before .good,
     )
 
@@ -137,15 +137,19 @@ returns-2 c =
 
 returns-3 : tie.Need-returns-3 Inv-loop μ-loop
 returns-3 c =
-    let t = now (c .before .before .before .before .before .before .args .text) in
+    let s = c .before .before .before .before .before .before in
+    let t = now (s .args .text) in
     let l = c .before .before .before .loop in
-    says-none (linesFrom (length t) 1 atStart t) (l .inv .0 .comps) (at-end (l .inv .1) (c .before .before .loop-test .left)) (sym (ap (λ p. p .components) (l .inv .1 .kept)) ∙ c .if1 .taken)
+    says-none (linesFrom (length t) 1 atStart t) (l .inv .0 .comps) (at-end (l .inv .1) (c .before .before .loop-test .left))
+    (sym (ap (λ p. p .components) (l .inv .1 .kept)) ∙ c .if1 .taken)
 
 returns-4 : tie.Need-returns-4 Inv-loop μ-loop
 returns-4 c =
-    let t = now (c .before .before .before .before .before .before .args .text) in
+    let s = c .before .before .before .before .before .before in
+    let t = now (s .args .text) in
     let l = c .before .before .before .loop in
-    says-fine (linesFrom (length t) 1 atStart t) (l .inv .0 .comps) (at-end (l .inv .1) (c .before .before .loop-test .left)) (λ z. c .if1 .left (ap (λ p. p .components) (l .inv .1 .kept) ∙ z))
+    says-fine (linesFrom (length t) 1 atStart t) (l .inv .0 .comps) (at-end (l .inv .1) (c .before .before .loop-test .left))
+    (λ z. c .if1 .left (ap (λ p. p .components) (l .inv .1 .kept) ∙ z))
 
 pub check-lines-spec : {M : Type 1} → statement M
 check-lines-spec =

@@ -49,26 +49,34 @@ states-climb-requires c κs = search needs
 returns : tie.Need-returns
 unfolding compRowsRight
 returns c =
-    let args = c .before .before .before .before .before .before .before .before .before .args in
-    let block-word = c .before .before .before .before .before .before .before .block-word in
-    let block-word2 = c .before .before .before .before .before .before .block-word2 in
-    let acts-of = c .before .before .before .before .before .acts-of in
-    let first-of = c .before .before .before .before .first-of in
+    let d = c .before .before .before .before in
+    let s = d .before .before .before .before .before in
+    let args = s .args in
+    let block-word = d .before .before .before .block-word in
+    let block-word2 = d .before .before .block-word2 in
+    let acts-of = d .before .acts-of in
+    let first-of = d .first-of in
     let first-of2 = c .before .before .before .first-of2 in
     let range-right = c .before .before .range-right in
     c .states-climb .ensures
-    ∙ sym (both-go _ _ (sym (rows-are (args .t .now) (args .i) (acts-of .result) (block-word2 .result) (block-word .result) (first-of .result) (first-of2 .result) (acts-of .ensures) (block-word2 .ensures) (block-word .ensures) (first-of .ensures) (first-of2 .ensures)) ∙ sym (range-right .ensures) ∙ c .before .if1 .taken))
+    ∙ sym (both-go _ _ (sym (rows-are (args .t .now) (args .i) (acts-of .result) (block-word2 .result) (block-word .result) (first-of .result)
+    (first-of2 .result) (acts-of .ensures) (block-word2 .ensures) (block-word .ensures) (first-of .ensures) (first-of2 .ensures))
+    ∙ sym (range-right .ensures) ∙ c .before .if1 .taken))
 
 returns-2 : tie.Need-returns-2
 unfolding compRowsRight
 returns-2 c =
-    let args = c .before .before .before .before .before .before .before .before .args in
-    let block-word = c .before .before .before .before .before .before .block-word in
-    let block-word2 = c .before .before .before .before .before .block-word2 in
-    let acts-of = c .before .before .before .before .acts-of in
+    let d = c .before .before .before .before in
+    let s = d .before .before .before .before in
+    let args = s .args in
+    let block-word = d .before .before .block-word in
+    let block-word2 = d .before .block-word2 in
+    let acts-of = d .acts-of in
     let first-of = c .before .before .before .first-of in
     let first-of2 = c .before .before .first-of2 in
-    sym (both-no _ _ (sym (rows-are (args .t .now) (args .i) (acts-of .result) (block-word2 .result) (block-word .result) (first-of .result) (first-of2 .result) (acts-of .ensures) (block-word2 .ensures) (block-word .ensures) (first-of .ensures) (first-of2 .ensures)) ∙ sym (c .before .range-right .ensures) ∙ c .if1 .left))
+    sym (both-no _ _ (sym (rows-are (args .t .now) (args .i) (acts-of .result) (block-word2 .result) (block-word .result) (first-of .result)
+    (first-of2 .result) (acts-of .ensures) (block-word2 .ensures) (block-word .ensures) (first-of .ensures) (first-of2 .ensures))
+    ∙ sym (c .before .range-right .ensures) ∙ c .if1 .left))
 
 pub comp-rows-right-spec : {M : Type 1} → statement M
 comp-rows-right-spec =

@@ -31,7 +31,8 @@ returns c s =
     let args = c .before .before .before .before .before .args in
     let loop = c .before .before .before .loop in
     let row-climbs = c .before .row-climbs in
-    all-fails (climbs (args .t .now) s) (loop .r) (args .hi - 1) (loop .inv .1 s) (omega arith) (sym (row-climbs .ensures s) ∙ not-true (row-climbs .result) (c .if1 .taken))
+    all-fails (climbs (args .t .now) s) (loop .r) (args .hi - 1) (loop .inv .1 s) (omega arith) (sym (row-climbs .ensures s)
+    ∙ not-true (row-climbs .result) (c .if1 .taken))
 
 add-r : tie.Need-add-r Inv-loop μ-loop
 add-r c = omega arith
@@ -41,13 +42,19 @@ loop-less c = omega arith
 
 loop-again : tie.Need-loop-again Inv-loop μ-loop
 loop-again c =
-    let args = c .before .before .before .before .before .args in
+    let start = c .before .before .before .before .before in
+    let args = start .args in
     let loop = c .before .before .before .loop in
-    let row-climbs = c .before .row-climbs in
-    (omega arith, λ s. all-goes-on (climbs (args .t .now) s) (loop .r) (args .hi - 1) (loop .inv .1 s) (omega arith) (sym (row-climbs .ensures s) ∙ not-false (row-climbs .result) (c .if1 .left)))
+    let row-climbs = c .before .row-climbs in (
+      omega arith,
+      λ s. all-goes-on (climbs (args .t .now) s) (loop .r) (args .hi - 1) (loop .inv .1 s) (omega arith) (sym (row-climbs .ensures s)
+          ∙ not-false (row-climbs .result) (c .if1 .left)),
+    )
 
 returns-2 : tie.Need-returns-2 Inv-loop μ-loop
-returns-2 c s = all-passed (climbs (c .before .before .before .args .t .now) s) (c .before .loop .r) (c .before .before .before .args .hi - 1) (c .before .loop .inv .1 s) (omega arith)
+returns-2 c s =
+    all-passed (climbs (c .before .before .before .args .t .now) s) (c .before .loop .r) (c .before .before .before .args .hi - 1)
+    (c .before .loop .inv .1 s) (omega arith)
 
 pub range-climbs-spec : {M : Type 1} → statement M
 range-climbs-spec =

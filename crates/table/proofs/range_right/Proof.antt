@@ -24,11 +24,13 @@ row-right-requires c κs = search needs
 
 returns : tie.Need-returns Inv-loop μ-loop
 returns c =
-    let args = c .before .before .before .before .before .args in
+    let s = c .before .before .before .before .before in
+    let args = s .args in
     let loop = c .before .before .before .loop in
     let loop-test = c .before .before .loop-test in
     let row-right = c .before .row-right in
-    all-fails (rowRight (args .t .now) (args .acts) (args .clocks) (args .states)) (loop .r) (args .hi) (loop .inv) (loop-test .taken) (sym (row-right .ensures) ∙ not-true (row-right .result) (c .if1 .taken))
+    all-fails (rowRight (args .t .now) (args .acts) (args .clocks) (args .states)) (loop .r) (args .hi) (loop .inv) (loop-test .taken)
+    (sym (row-right .ensures) ∙ not-true (row-right .result) (c .if1 .taken))
 
 add-r : tie.Need-add-r Inv-loop μ-loop
 add-r c = omega arith
@@ -38,11 +40,13 @@ loop-less c = omega arith
 
 loop-again : tie.Need-loop-again Inv-loop μ-loop
 loop-again c =
-    let args = c .before .before .before .before .before .args in
+    let s = c .before .before .before .before .before in
+    let args = s .args in
     let loop = c .before .before .before .loop in
     let loop-test = c .before .before .loop-test in
     let row-right = c .before .row-right in
-    all-goes-on (rowRight (args .t .now) (args .acts) (args .clocks) (args .states)) (loop .r) (args .hi) (loop .inv) (loop-test .taken) (sym (row-right .ensures) ∙ not-false (row-right .result) (c .if1 .left))
+    all-goes-on (rowRight (args .t .now) (args .acts) (args .clocks) (args .states)) (loop .r) (args .hi) (loop .inv) (loop-test .taken)
+    (sym (row-right .ensures) ∙ not-false (row-right .result) (c .if1 .left))
 
 returns-2 : tie.Need-returns-2 Inv-loop μ-loop
 returns-2 c =

@@ -52,7 +52,8 @@ blocks-right-requires c κs = search needs
 returns-2 : tie.Need-returns-2
 returns-2 c =
     let u = c .before .before .before in
-    blocks-wrong (u .before .args .table .now) (c .before .before .if1 .left) (λ k h. u .shared-slice-known .given k .fits) (fails (c .before .blocks-right .result) (c .before .blocks-right .ensures) (c .if2 .taken))
+    blocks-wrong (u .before .args .table .now) (c .before .before .if1 .left) (λ k h. u .shared-slice-known .given k .fits)
+    (fails (c .before .blocks-right .result) (c .before .blocks-right .ensures) (c .if2 .taken))
 
 rows-right-requires : tie.Need-rows-right-requires
 rows-right-requires c κs = bounded (lent c) (long c) (blocks c)

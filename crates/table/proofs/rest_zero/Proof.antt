@@ -26,19 +26,24 @@ zero-words-requires c κs = omega (arith, c .before .before .pre .long)
 returns-2 : tie.Need-returns-2
 unfolding restZero
 returns-2 c =
-    let t = c .before .before .before .before .before .before .args .t .now in
-    let count-of = c .before .before .before .before .count-of in
+    let d = c .before .before .before .before in
+    let s = d .before .before in
+    let t = s .args .t .now in
+    let count-of = d .count-of in
     let zero-words = c .before .before .before .zero-words in
     c .zero-words2 .ensures
     ∙ ap (λ n. zeroWords t (rowsAt + rowWords * n) imageWords) (c .before .end-before .ensures ∙ ap (endBefore t) (count-of .ensures))
-    ∙ sym (passed (zero-words .result) (zero-words .ensures ∙ ap (λ n. zeroWords t (1 + blockWords * n) rowsAt) (count-of .ensures)) (c .before .before .if1 .left))
+    ∙ sym (passed (zero-words .result) (zero-words .ensures ∙ ap (λ n. zeroWords t (1 + blockWords * n) rowsAt) (count-of .ensures))
+    (c .before .before .if1 .left))
 
 returns : tie.Need-returns
 unfolding restZero
 returns c =
-    let t = c .before .before .before .before .args .t .now in
+    let s = c .before .before .before .before in
+    let t = s .args .t .now in
     let zero-words = c .before .zero-words in
-    sym (failed (zero-words .result) _ (zero-words .ensures ∙ ap (λ n. zeroWords t (1 + blockWords * n) rowsAt) (c .before .before .count-of .ensures)) (c .if1 .taken))
+    sym (failed (zero-words .result) _ (zero-words .ensures ∙ ap (λ n. zeroWords t (1 + blockWords * n) rowsAt)
+    (c .before .before .count-of .ensures)) (c .if1 .taken))
 
 end-before-requires : tie.Need-end-before-requires
 end-before-requires c κs = (c .before .before .before .before .pre, omega (arith, c .before .before .count-of .ensures))

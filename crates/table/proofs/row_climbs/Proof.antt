@@ -25,7 +25,8 @@ returns c s =
     let r = args .r in
     let t = args .t .now in
     ap₂ ltb (action-at .ensures) (action-at2 .ensures)
-    ∙ by-action (actionAt t r) (actionAt t (r + 1)) (guardAt t r) (guardAt t (r + 1)) (resetsAt t r) (resetsAt t (r + 1)) (targetAt t r) (targetAt t (r + 1)) (λ q. c .if1 .taken (action-at .ensures ∙ q ∙ sym (action-at2 .ensures)))
+    ∙ by-action (actionAt t r) (actionAt t (r + 1)) (guardAt t r) (guardAt t (r + 1)) (resetsAt t r) (resetsAt t (r + 1)) (targetAt t r)
+    (targetAt t (r + 1)) (λ q. c .if1 .taken (action-at .ensures ∙ q ∙ sym (action-at2 .ensures)))
     ∙ climbs-is t s r
 
 guard-at-requires : tie.Need-guard-at-requires
@@ -48,7 +49,9 @@ returns-2 c s =
     let r = args .r in
     let t = args .t .now in
     ap₂ ltb (guard-at .ensures) (guard-at2 .ensures)
-    ∙ by-guard (actionAt t r) (actionAt t (r + 1)) (guardAt t r) (guardAt t (r + 1)) (resetsAt t r) (resetsAt t (r + 1)) (targetAt t r) (targetAt t (r + 1)) (sym (action-at .ensures) ∙ if1 .left ∙ action-at2 .ensures) (λ q. c .if2 .taken (guard-at .ensures ∙ q ∙ sym (guard-at2 .ensures)))
+    ∙ by-guard (actionAt t r) (actionAt t (r + 1)) (guardAt t r) (guardAt t (r + 1)) (resetsAt t r) (resetsAt t (r + 1)) (targetAt t r)
+    (targetAt t (r + 1)) (sym (action-at .ensures) ∙ if1 .left ∙ action-at2 .ensures)
+    (λ q. c .if2 .taken (guard-at .ensures ∙ q ∙ sym (guard-at2 .ensures)))
     ∙ climbs-is t s r
 
 resets-at-requires : tie.Need-resets-at-requires
@@ -74,7 +77,9 @@ returns-3 c s =
     let r = args .r in
     let t = args .t .now in
     ap₂ ltb (resets-at .ensures) (resets-at2 .ensures)
-    ∙ by-resets (actionAt t r) (actionAt t (r + 1)) (guardAt t r) (guardAt t (r + 1)) (resetsAt t r) (resetsAt t (r + 1)) (targetAt t r) (targetAt t (r + 1)) (sym (action-at .ensures) ∙ if1 .left ∙ action-at2 .ensures) (sym (guard-at .ensures) ∙ if2 .left ∙ guard-at2 .ensures) (λ q. c .if3 .taken (resets-at .ensures ∙ q ∙ sym (resets-at2 .ensures)))
+    ∙ by-resets (actionAt t r) (actionAt t (r + 1)) (guardAt t r) (guardAt t (r + 1)) (resetsAt t r) (resetsAt t (r + 1)) (targetAt t r)
+    (targetAt t (r + 1)) (sym (action-at .ensures) ∙ if1 .left ∙ action-at2 .ensures) (sym (guard-at .ensures) ∙ if2 .left ∙ guard-at2 .ensures)
+    (λ q. c .if3 .taken (resets-at .ensures ∙ q ∙ sym (resets-at2 .ensures)))
     ∙ climbs-is t s r
 
 target-at-requires : tie.Need-target-at-requires
@@ -101,7 +106,9 @@ returns-4 c s =
     let r = args .r in
     let t = args .t .now in
     ap₂ ltb (c .before .target-at .ensures) (c .target-at2 .ensures)
-    ∙ by-target (actionAt t r) (actionAt t (r + 1)) (guardAt t r) (guardAt t (r + 1)) (resetsAt t r) (resetsAt t (r + 1)) (targetAt t r) (targetAt t (r + 1)) (sym (action-at .ensures) ∙ if1 .left ∙ action-at2 .ensures) (sym (guard-at .ensures) ∙ if2 .left ∙ guard-at2 .ensures) (sym (resets-at .ensures) ∙ if3 .left ∙ resets-at2 .ensures)
+    ∙ by-target (actionAt t r) (actionAt t (r + 1)) (guardAt t r) (guardAt t (r + 1)) (resetsAt t r) (resetsAt t (r + 1)) (targetAt t r)
+    (targetAt t (r + 1)) (sym (action-at .ensures) ∙ if1 .left ∙ action-at2 .ensures) (sym (guard-at .ensures) ∙ if2 .left ∙ guard-at2 .ensures)
+    (sym (resets-at .ensures) ∙ if3 .left ∙ resets-at2 .ensures)
     ∙ climbs-is t s r
 
 pub row-climbs-spec : {M : Type 1} → statement M

@@ -43,9 +43,11 @@ guard-right-requires c κs = search needs
 returns-3 : tie.Need-returns-3
 unfolding rowRight
 returns-3 c =
-    let args = c .before .before .before .before .before .before .before .before .args in
-    let action-at = c .before .before .before .before .before .before .action-at in
-    let the-has = c .before .before .before .before .has in
+    let d = c .before .before .before .before in
+    let s = d .before .before .before .before in
+    let args = s .args in
+    let action-at = d .before .before .action-at in
+    let the-has = d .has in
     let if2 = c .before .before .before .if2 in
     let guard-at = c .before .before .guard-at in
     let guard-right = c .before .guard-right in
@@ -61,12 +63,15 @@ lies-in-requires c κs = search needs
 returns-4 : tie.Need-returns-4
 unfolding rowRight
 returns-4 c =
-    let args = c .before .before .before .before .before .before .before .before .before .before .before .args in
-    let action-at = c .before .before .before .before .before .before .before .before .before .action-at in
-    let the-has = c .before .before .before .before .before .before .before .has in
-    let if2 = c .before .before .before .before .before .before .if2 in
-    let guard-at = c .before .before .before .before .before .guard-at in
-    let guard-right = c .before .before .before .before .guard-right in
+    let d₁ = c .before .before .before .before in
+    let d₂ = d₁ .before .before .before .before .before in
+    let s = d₂ .before .before in
+    let args = s .args in
+    let action-at = d₂ .action-at in
+    let the-has = d₁ .before .before .before .has in
+    let if2 = d₁ .before .before .if2 in
+    let guard-at = d₁ .before .guard-at in
+    let guard-right = d₁ .guard-right in
     let if3 = c .before .before .before .if3 in
     let resets-at = c .before .before .resets-at in
     let lies-in = c .before .lies-in in
@@ -81,13 +86,16 @@ target-at-requires c κs = search needs
 returns-5 : tie.Need-returns-5
 unfolding rowRight
 returns-5 c =
-    let args = c .before .before .before .before .before .before .before .before .before .before .before .before .args in
-    let action-at = c .before .before .before .before .before .before .before .before .before .before .action-at in
-    let the-has = c .before .before .before .before .before .before .before .before .has in
-    let if2 = c .before .before .before .before .before .before .before .if2 in
-    let guard-at = c .before .before .before .before .before .before .guard-at in
-    let guard-right = c .before .before .before .before .before .guard-right in
-    let if3 = c .before .before .before .before .if3 in
+    let d₁ = c .before .before .before .before in
+    let d₂ = d₁ .before .before .before .before in
+    let s = d₂ .before .before .before .before in
+    let args = s .args in
+    let action-at = d₂ .before .before .action-at in
+    let the-has = d₂ .has in
+    let if2 = d₁ .before .before .before .if2 in
+    let guard-at = d₁ .before .before .guard-at in
+    let guard-right = d₁ .before .guard-right in
+    let if3 = d₁ .if3 in
     let resets-at = c .before .before .before .resets-at in
     let lies-in = c .before .before .lies-in in
     let clocks = args .clocks in

@@ -28,12 +28,15 @@ comp-rows-right-requires c κs = (c .before .before .before .before .pre, omega 
 
 returns : tie.Need-returns Inv-loop μ-loop
 returns c =
-    let args = c .before .before .before .before .before .before .args in
-    let count-of = c .before .before .before .before .count-of in
+    let d = c .before .before .before .before in
+    let s = d .before .before in
+    let args = s .args in
+    let count-of = d .count-of in
     let loop = c .before .before .before .loop in
     let loop-test = c .before .before .loop-test in
     let comp-rows-right = c .before .comp-rows-right in
-    all-fails (compRowsRight (args .t .now)) (loop .i) (count-of .result) (loop .inv) (loop-test .taken) (sym (comp-rows-right .ensures) ∙ not-true (comp-rows-right .result) (c .if1 .taken))
+    all-fails (compRowsRight (args .t .now)) (loop .i) (count-of .result) (loop .inv) (loop-test .taken) (sym (comp-rows-right .ensures)
+    ∙ not-true (comp-rows-right .result) (c .if1 .taken))
 
 add-i : tie.Need-add-i Inv-loop μ-loop
 add-i c = omega arith
@@ -43,12 +46,15 @@ loop-less c = omega arith
 
 loop-again : tie.Need-loop-again Inv-loop μ-loop
 loop-again c =
-    let args = c .before .before .before .before .before .before .args in
-    let count-of = c .before .before .before .before .count-of in
+    let d = c .before .before .before .before in
+    let s = d .before .before in
+    let args = s .args in
+    let count-of = d .count-of in
     let loop = c .before .before .before .loop in
     let loop-test = c .before .before .loop-test in
     let comp-rows-right = c .before .comp-rows-right in
-    all-goes-on (compRowsRight (args .t .now)) (loop .i) (count-of .result) (loop .inv) (loop-test .taken) (sym (comp-rows-right .ensures) ∙ not-false (comp-rows-right .result) (c .if1 .left))
+    all-goes-on (compRowsRight (args .t .now)) (loop .i) (count-of .result) (loop .inv) (loop-test .taken) (sym (comp-rows-right .ensures)
+    ∙ not-false (comp-rows-right .result) (c .if1 .left))
 
 returns-2 : tie.Need-returns-2 Inv-loop μ-loop
 returns-2 c =

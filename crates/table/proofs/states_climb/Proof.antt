@@ -46,17 +46,23 @@ first-of-requires-2 c κs =
 
 range-climbs-requires : tie.Need-range-climbs-requires Inv-loop μ-loop
 range-climbs-requires c κs =
-    let the-pre = c .before .before .before .before .before .before .pre in
-    let args = c .before .before .before .before .before .before .args in
+    let start = c .before .before .before .before .before .before in
+    let the-pre = start .pre in
+    let args = start .args in
     let loop = c .before .before .before .loop in
     let i = args .i in
-    let s = loop .s in
-    (the-pre .0 .long, omega (arith, the-pre .0 .firsts i s (the-pre .1) (omega (arith, the-pre .0 .states i (the-pre .1)))), omega (arith, the-pre .0 .firsts i (s + 1) (the-pre .1) (omega (arith, the-pre .0 .states i (the-pre .1)))))
+    let s = loop .s in (
+      the-pre .0 .long,
+      omega (arith, the-pre .0 .firsts i s (the-pre .1) (omega (arith, the-pre .0 .states i (the-pre .1)))),
+      omega (arith, the-pre .0 .firsts i (s + 1) (the-pre .1) (omega (arith, the-pre .0 .states i (the-pre .1)))),
+    )
 
 -- a state is tested: what the loop knew before it, and the test
 module _ (c : tie.After-range-climbs Inv-loop μ-loop) where
   abbrev climbing : ℕ → Bool
-  climbing = stateClimbs (c .before .before .before .before .before .before .before .args .t .now) (c .before .before .before .before .before .before .before .args .i)
+  climbing =
+      stateClimbs (c .before .before .before .before .before .before .before .args .t .now)
+      (c .before .before .before .before .before .before .before .args .i)
 
   abbrev state : ℕ
   state = c .before .before .before .before .loop .s
@@ -72,7 +78,8 @@ returns : tie.Need-returns Inv-loop μ-loop
 returns c =
     let u = c .before in
     let loop = u .before .before .before .before .loop in
-    all-fails (climbing u) (state u) _ (loop .inv) (u .before .before .before .loop-test .taken) (sym (tested u) ∙ not-true (u .range-climbs .result) (c .if1 .taken))
+    all-fails (climbing u) (state u) _ (loop .inv) (u .before .before .before .loop-test .taken)
+    (sym (tested u) ∙ not-true (u .range-climbs .result) (c .if1 .taken))
 
 add-s : tie.Need-add-s Inv-loop μ-loop
 add-s c = omega arith
@@ -84,7 +91,8 @@ loop-again : tie.Need-loop-again Inv-loop μ-loop
 loop-again c =
     let u = c .before in
     let loop = u .before .before .before .before .loop in
-    all-goes-on (climbing u) (state u) _ (loop .inv) (u .before .before .before .loop-test .taken) (sym (tested u) ∙ not-false (u .range-climbs .result) (c .if1 .left))
+    all-goes-on (climbing u) (state u) _ (loop .inv) (u .before .before .before .loop-test .taken)
+    (sym (tested u) ∙ not-false (u .range-climbs .result) (c .if1 .left))
 
 returns-2 : tie.Need-returns-2 Inv-loop μ-loop
 returns-2 c =

@@ -19,67 +19,89 @@ enum-told : tie.Need-enum-told
 enum-told c = search needs
 
 put-one-requires : tie.Need-put-one-requires
-put-one-requires c κs = room-as (now (c .before .before .before .before .args .out)) (c .before .before .before .before .args .at) (ap placed (c .before .enum-told .given .1)) (c .before .before .before .before .pre)
+put-one-requires c κs =
+    let s = c .before .before .before .before in
+    room-as (now (s .args .out)) (s .args .at) (ap placed (c .before .enum-told .given .1)) (s .pre)
 
 enum-known-p : tie.Need-enum-known-p
 enum-known-p c = search needs
 
 put-one-requires-2 : tie.Need-put-one-requires-2
-put-one-requires-2 c κs = room-as (now (c .before .before .before .before .before .args .out)) (c .before .before .before .before .before .args .at) (ap placed (c .before .before .p .given .1)) (c .before .before .before .before .before .pre)
+put-one-requires-2 c κs =
+    let s = c .before .before .before .before .before in
+    room-as (now (s .args .out)) (s .args .at) (ap placed (c .before .before .p .given .1)) (s .pre)
 
 enum-known-p-2 : tie.Need-enum-known-p-2
 enum-known-p-2 c = search needs
 
 put-one-requires-3 : tie.Need-put-one-requires-3
-put-one-requires-3 c κs = room-as (now (c .before .before .before .before .before .args .out)) (c .before .before .before .before .before .args .at) (ap placed (c .before .before .p2 .given .1)) (c .before .before .before .before .before .pre)
+put-one-requires-3 c κs =
+    let s = c .before .before .before .before .before in
+    room-as (now (s .args .out)) (s .args .at) (ap placed (c .before .before .p2 .given .1)) (s .pre)
 
 enum-known-p-3 : tie.Need-enum-known-p-3
 enum-known-p-3 c = search needs
 
 put-one-requires-4 : tie.Need-put-one-requires-4
-put-one-requires-4 c κs = room-as (now (c .before .before .before .before .before .args .out)) (c .before .before .before .before .before .args .at) (ap placed (c .before .before .p3 .given .1)) (c .before .before .before .before .before .pre)
+put-one-requires-4 c κs =
+    let s = c .before .before .before .before .before in
+    room-as (now (s .args .out)) (s .args .at) (ap placed (c .before .before .p3 .given .1)) (s .pre)
 
 enum-known-p-4 : tie.Need-enum-known-p-4
 enum-known-p-4 c = search needs
 
 put-one-requires-5 : tie.Need-put-one-requires-5
-put-one-requires-5 c κs = room-as (now (c .before .before .before .before .before .args .out)) (c .before .before .before .before .before .args .at) (ap placed (c .before .before .p4 .given .1)) (c .before .before .before .before .before .pre)
+put-one-requires-5 c κs =
+    let s = c .before .before .before .before .before in
+    room-as (now (s .args .out)) (s .args .at) (ap placed (c .before .before .p4 .given .1)) (s .pre)
 
 enum-known-p-5 : tie.Need-enum-known-p-5
 enum-known-p-5 c = search needs
 
 put-one-requires-6 : tie.Need-put-one-requires-6
-put-one-requires-6 c κs = room-as (now (c .before .before .before .before .before .args .out)) (c .before .before .before .before .before .args .at) (ap placed (c .before .before .p5 .given .1)) (c .before .before .before .before .before .pre)
+put-one-requires-6 c κs =
+    let s = c .before .before .before .before .before in
+    room-as (now (s .args .out)) (s .args .at) (ap placed (c .before .before .p5 .given .1)) (s .pre)
 
 enum-known-p-6 : tie.Need-enum-known-p-6
 enum-known-p-6 c = search needs
 
 put-one-requires-7 : tie.Need-put-one-requires-7
-put-one-requires-7 c κs = room-as (now (c .before .before .before .before .before .args .out)) (c .before .before .before .before .before .args .at) (ap placed (c .before .before .p6 .given .1)) (c .before .before .before .before .before .pre)
+put-one-requires-7 c κs =
+    let s = c .before .before .before .before .before in
+    room-as (now (s .args .out)) (s .args .at) (ap placed (c .before .before .p6 .given .1)) (s .pre)
 
 enum-known-p-7 : tie.Need-enum-known-p-7
 enum-known-p-7 c = search needs
 
 put-three-requires : tie.Need-put-three-requires
-put-three-requires c κs = room-as (now (c .before .before .before .before .before .args .out)) (c .before .before .before .before .before .args .at) (ap placed (c .before .before .p7 .given .1)) (c .before .before .before .before .before .pre)
+put-three-requires c κs =
+    let s = c .before .before .before .before .before in
+    room-as (now (s .args .out)) (s .args .at) (ap placed (c .before .before .p7 .given .1)) (s .pre)
 
 enum-known-p-8 : tie.Need-enum-known-p-8
 enum-known-p-8 c = search needs
 
 put-four-requires : tie.Need-put-four-requires
-put-four-requires c κs = room-as (now (c .before .before .before .before .before .args .out)) (c .before .before .before .before .before .args .at) (ap placed (c .before .before .p8 .given .1)) (c .before .before .before .before .before .pre)
+put-four-requires c κs =
+    let s = c .before .before .before .before .before in
+    room-as (now (s .args .out)) (s .args .at) (ap placed (c .before .before .p8 .given .1)) (s .pre)
 
 enum-known-p-9 : tie.Need-enum-known-p-9
 enum-known-p-9 c = search needs
 
 put-three-requires-2 : tie.Need-put-three-requires-2
-put-three-requires-2 c κs = room-as (now (c .before .before .before .before .before .args .out)) (c .before .before .before .before .before .args .at) (ap placed (c .before .before .p9 .given .1)) (c .before .before .before .before .before .pre)
+put-three-requires-2 c κs =
+    let s = c .before .before .before .before .before in
+    room-as (now (s .args .out)) (s .args .at) (ap placed (c .before .before .p9 .given .1)) (s .pre)
 
 enum-known-p-10 : tie.Need-enum-known-p-10
 enum-known-p-10 c = search needs
 
 put-three-requires-3 : tie.Need-put-three-requires-3
-put-three-requires-3 c κs = room-as (now (c .before .before .before .before .before .args .out)) (c .before .before .before .before .before .args .at) (ap placed (c .before .before .p10 .given .1)) (c .before .before .before .before .before .pre)
+put-three-requires-3 c κs =
+    let s = c .before .before .before .before .before in
+    room-as (now (s .args .out)) (s .args .at) (ap placed (c .before .before .p10 .given .1)) (s .pre)
 
 enum-known-p-11 : tie.Need-enum-known-p-11
 enum-known-p-11 c = search needs

@@ -22,20 +22,26 @@ mul-t8 c = search needs
 
 returns-3 : tie.Need-returns-3
 returns-3 c =
-    let a = c .before .before .before .before .before .before .before .before .before .before .args in
+    let d = c .before .before .before .before in
+    let s = d .before .before .before .before .before .before in
+    let a = s .args in
     let b = c .before .before .build .ensures in
-    taken-in (now (a .text)) (now (a .table)) (b .0) (b .1) _ (omega (arith, c .before .before .before .before .if1 .left)) (b .2)
+    taken-in (now (a .text)) (now (a .table)) (b .0) (b .1) _ (omega (arith, d .if1 .left)) (b .2)
 
 returns : tie.Need-returns
 returns c =
-    let a = c .before .before .before .before .before .before .args in
-    let g = good-text (now (a .text)) (now (a .table)) (sym (ap saysChecked (c .before .enum-told .given .1)) ∙ c .before .before .before .check-text .ensures) in
+    let s = c .before .before .before .before .before .before in
+    let a = s .args in
+    let g = good-text (now (a .text)) (now (a .table)) (sym (ap saysChecked (c .before .enum-told .given .1))
+    ∙ c .before .before .before .check-text .ensures) in
     no-room (now (a .text)) (now (a .table)) (g .0) (g .1) _ refl (omega (arith, c .if1 .taken))
 
 build-requires : tie.Need-build-requires
 build-requires c κs =
-    let a = c .before .before .before .before .before .before .before .args in
-    (c .before .if1 .left, good-text (now (a .text)) (now (a .table)) (sym (ap saysChecked (c .before .before .enum-told .given .1)) ∙ c .before .before .before .before .check-text .ensures))
+    let d = c .before .before .before .before in
+    let s = d .before .before .before in
+    let a = s .args in
+    (c .before .if1 .left, good-text (now (a .text)) (now (a .table)) (sym (ap saysChecked (c .before .before .enum-told .given .1)) ∙ d .check-text .ensures))
 
 returns-2 : tie.Need-returns-2
 returns-2 c =

@@ -1,6 +1,5 @@
 -- `timed::timed_step` meets its contract.
-use mathlib.Core.Path.{_≡_, sym, ap, _∙_}
-use mathlib.Core.Option.{some}
+use mathlib.Core.Path.{sym, ap, _∙_}
 use borrow.Author.Needs.{needs}
 use denote.Ref.{now}
 use Rattle.answer.specs.Told.{saysChecked}
@@ -33,14 +32,16 @@ returns : tie.Need-returns
 returns c =
     let u = c .before .before .before .before .before in
     let s0 = u .before .before in
-    let f = fine-before (now (s0 .args .table)) (s0 .args .state) (now (s0 .args .clocks)) (ap saysChecked (sym (c .before .before .before .enum-told .given .1)) ∙ u .accept .ensures) in
+    let f = fine-before (now (s0 .args .table)) (s0 .args .state) (now (s0 .args .clocks))
+    (ap saysChecked (sym (c .before .before .before .enum-told .given .1)) ∙ u .accept .ensures) in
     goes-on (now (s0 .args .table)) (s0 .args .state) (now (s0 .args .clocks)) (f .0) _ _ (c .before .accepted-step .ensures)
 
 returns-2 : tie.Need-returns-2
 returns-2 c =
     let u = c .before .before .before .before in
     let s0 = u .before .before in
-    refused-before (now (s0 .args .table)) (s0 .args .state) (now (s0 .args .clocks)) _ _ (ap saysChecked (sym (c .before .before .checked .given .1)) ∙ u .accept .ensures) (c .no-state .ensures)
+    refused-before (now (s0 .args .table)) (s0 .args .state) (now (s0 .args .clocks)) _ _ (ap saysChecked (sym (c .before .before .checked .given .1))
+    ∙ u .accept .ensures) (c .no-state .ensures)
 
 pub timed-step-spec : {M : Type 1} → statement M
 timed-step-spec =

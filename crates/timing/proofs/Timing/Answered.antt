@@ -9,7 +9,7 @@ use native.Mathlib.Omega.{arith}
 use native.Mathlib.Decide.{ℕ-discrete}
 use lib.IntN.{ℤ, pos}
 use lib.Signed.{ltZ}
-use Rattle.laws.specs.Sets.{has, _∈_, only}
+use Rattle.laws.specs.Sets.{_∈_}
 use Rattle.laws.proofs.SetLaws.{same-members, none-in}
 use Rattle.laws.proofs.TestLaws.{not-so}
 use Rattle.laws.proofs.TickLaws.{less-irreflexive, less-transitive}
@@ -39,7 +39,8 @@ unfolding timedOf
 timed-accepted m s vs τ e = go (acceptOf m) e
   where
     go : (o : Option Told)
-        → (elim (orElse o (orElse (stateFault m s) (orElse (unstableFault m s) (valuesFault m vs)))) as (λ _. Answer Timing) [ some t ↦ refused t | none ↦ timedFrom m s vs (enablingAll m s) ]) ≡ answered τ
+        → (elim (orElse o (orElse (stateFault m s) (orElse (unstableFault m s) (valuesFault m vs)))) as (λ _. Answer Timing)
+        [ some t ↦ refused t | none ↦ timedFrom m s vs (enablingAll m s) ]) ≡ answered τ
         → o ≡ none
     go none e = refl
     go (some t) e = absurd (let z : _≡_ {A = ℕ} 0 1 = cc in omega arith)
@@ -65,10 +66,12 @@ module _ (c : Comp) (cs : List Comp) (s : List ℕ) (vs : List ℤ) where
   at-least : {x v a R : ℕ} {s′ : List ℕ} → Fires c cs s vs x v a R s′ → (y : ℕ) → Waits c cs s y → ltZ (valueOf vs y) (pos v) ≡ false
   at-least {x} {v} f y h = elim (ℕ-discrete y x) [
     | yes e ↦ ap (λ n. ltZ (valueOf vs n) (pos v)) e ∙ ap (λ z. ltZ z (pos v)) (f .value) ∙ less-irreflexive (pos v)
-    | no e ↦ not-so (ltZ (valueOf vs y) (pos v)) (λ t. true≢false (sym (less-transitive (pos v) (valueOf vs y) (pos v) (f .least y e h) t) ∙ less-irreflexive (pos v)))
+    | no e ↦ not-so (ltZ (valueOf vs y) (pos v)) (λ t. true≢false (sym (less-transitive (pos v) (valueOf vs y) (pos v) (f .least y e h) t)
+        ∙ less-irreflexive (pos v)))
   ]
 
-  not-below-so : (y : ℕ) → y ∈ declared (c ∷ cs) → y < maxClocks → {τ : Timing} → TimedAnswer c cs s vs (answered τ) → Waits c cs s y → ltZ (valueOf (τ .values) y) (pos 0) ≡ false
+  not-below-so : (y : ℕ) → y ∈ declared (c ∷ cs) → y < maxClocks → {τ : Timing} → TimedAnswer c cs s vs (answered τ) → Waits c cs s y
+      → ltZ (valueOf (τ .values) y) (pos 0) ≡ false
   not-below-so y d b (is-quiet r n) h = absurd (n y h)
   not-below-so y d b (is-fired {v = v} {vs′ = us} r f g) h = falls-not-below (c ∷ cs) vs v us y (omega (arith, r .ticks .count)) d (at-least f y h) g
 
@@ -88,7 +91,8 @@ module _ (c : Comp) (cs : List Comp) (well : WellFormed (c ∷ cs)) (s : List �
   -- quiet exactly when no guarded row leaves the product's state
   pub quiet-exactly-unguarded : (τ .shot ≡ quiet) ↔ ((C a R : ℕ) (y : product c cs .State) → product c cs .Row (stateOf c cs s) C a R y → C ≡ 0)
   quiet-exactly-unguarded = (
-    λ q C a R y r. same-members C 0 (λ x h. absurd (quiet-exactly .0 q x (record { guard = C; action = a; resets = R; target = y; guards = h; row = r }))) (λ x h. absurd (none-in x h)),
+    λ q C a R y r. same-members C 0 (λ x h. absurd
+        (quiet-exactly .0 q x (record { guard = C; action = a; resets = R; target = y; guards = h; row = r }))) (λ x h. absurd (none-in x h)),
     λ n. quiet-exactly .1 (λ x k. none-in x (rw (n (k .guard) (k .action) (k .resets) (k .target) (k .row)) at (k .guards))),
   )
 

@@ -4,14 +4,13 @@ use mathlib.Core.Logic.{_↔_, _≢_, _⊎_, inl, inr}
 use mathlib.Core.Option.{Option, none, some}
 use mathlib.Core.Bool.{true, false, not, true≢false}
 use mathlib.Core.List.{List, [], _∷_}
-use Prim.Native.Nat.{ℕ, zero}
+use Prim.Native.Nat.{ℕ}
 use native.Mathlib.Omega.{arith}
 use native.Mathlib.Decide.{ℕ-discrete}
 use lib.IntN.{ℤ, pos}
 use lib.Signed.{ltZ}
 use borrow.Author.Tests.{le-ltb}
-use Rattle.laws.specs.Sets.{has, only}
-use Rattle.laws.specs.Search.{when, orElse, least}
+use Rattle.laws.specs.Search.{orElse, least}
 use Rattle.laws.proofs.SetLaws.{in-one}
 use Rattle.laws.proofs.SearchLaws.{when-fine, when-faulty}
 use Rattle.laws.proofs.TestLaws.{not-so, decided, not-exactly}
@@ -24,15 +23,18 @@ use Rattle.iosa.specs.Automaton.{Stable, Conforming, Joinable}
 use Rattle.iosa.specs.Product.{product, stateOf, Within}
 use Rattle.iosa.specs.Checks.{acceptOf}
 use Rattle.iosa.specs.Step.{isStable, inRange, stateFault}
-use Rattle.timing.specs.Timed.{enablingAll, unstableFault, valuesFault, belowZero, check29, isLeast, shares, check30, agedFrom, fire, timedFrom, timedOf, quietly}
-use Rattle.iosa.specs.TimedExactly.{Waits, InTicks, LeastOf, BelowZero, Shares, Fires, Falls, Ready, TimedAnswer, is21, is27, is28, is29, is30, is-quiet, is-fired, valueOf, Timing}
+use Rattle.timing.specs.Timed.{enablingAll, unstableFault, valuesFault, belowZero, check29, isLeast, shares, check30, agedFrom, fire, timedFrom}
+use Rattle.timing.specs.Timed.{timedOf, quietly}
+use Rattle.iosa.specs.TimedExactly.{Waits, InTicks, LeastOf, BelowZero, Shares, Fires, Falls, Ready, TimedAnswer, is21, is27, is28, is29, is30}
+use Rattle.iosa.specs.TimedExactly.{is-quiet, is-fired, valueOf, Timing}
 use Rattle.iosa.proofs.Acceptance.Accepted.{accepted-exactly}
 use Rattle.iosa.proofs.Settling.Parts.{within-length}
 use Rattle.iosa.proofs.Settling.ProductOfMany.{system-is-an-automaton}
 use Rattle.iosa.proofs.Settling.Range.{range-exactly}
 use Rattle.iosa.proofs.Settling.Steps.{stable-exactly, state-is-one-list}
 use Rattle.timing.proofs.Timing.Values.{aged-falls, falls-once}
-use Rattle.timing.proofs.Timing.Least.{Clocks, lowest-found, found-lowest, none-found, found-none, negatives, leasts, sharers, none-least-none-waits, none-waits-none-least, alone-is-less, less-is-alone}
+use Rattle.timing.proofs.Timing.Least.{Clocks, lowest-found, found-lowest, none-found, found-none, negatives, leasts, sharers}
+use Rattle.timing.proofs.Timing.Least.{none-least-none-waits, none-waits-none-least, alone-is-less, less-is-alone}
 use Rattle.timing.proofs.Timing.Ticks.{badValues, values-exactly}
 use Rattle.timing.proofs.Timing.Shots.{each-well, waiting, fire-is-a-row}
 
@@ -128,7 +130,8 @@ module _ (c : Comp) (cs : List Comp) (well : WellFormed (c ∷ cs)) (conf : Conf
         k : Clocks W e
         k = waiting c cs well conf join s (r .within)
 
-        fires : (x : ℕ) → check29 e vs ≡ none → check30 e vs ≡ none → least (isLeast e vs) maxClocks ≡ some x → TimedAnswer c cs s vs (timedFrom (c ∷ cs) s vs e)
+        fires : (x : ℕ) → check29 e vs ≡ none → check30 e vs ≡ none → least (isLeast e vs) maxClocks ≡ some x
+            → TimedAnswer c cs s vs (timedFrom (c ∷ cs) s vs e)
         fires x h i l =
             let lo = lowest-found (LeastOf W vs) (isLeast e vs) maxClocks (leasts W e vs k) x l .here in
             let no = none-found (BelowZero W vs) (belowZero e vs) maxClocks (negatives W e vs k) h in
@@ -143,7 +146,8 @@ module _ (c : Comp) (cs : List Comp) (well : WellFormed (c ∷ cs)) (conf : Conf
               within = f .within;
             }) (aged-falls (c ∷ cs) vs (v .0)))
 
-        last : check29 e vs ≡ none → check30 e vs ≡ none → (o : Option ℕ) → least (isLeast e vs) maxClocks ≡ o → TimedAnswer c cs s vs (timedFrom (c ∷ cs) s vs e)
+        last : check29 e vs ≡ none → check30 e vs ≡ none → (o : Option ℕ) → least (isLeast e vs) maxClocks ≡ o
+            → TimedAnswer c cs s vs (timedFrom (c ∷ cs) s vs e)
         last h i none l = rw (at-quiet (c ∷ cs) s vs e h i l) (is-quiet r (none-least-none-waits W e vs k l))
         last h i (some x) l = fires x h i l
 
@@ -151,7 +155,8 @@ module _ (c : Comp) (cs : List Comp) (well : WellFormed (c ∷ cs)) (conf : Conf
         next h none i = last h i (least (isLeast e vs) maxClocks) refl
         next h (some x) i =
             rw (at30 (c ∷ cs) s vs e x h i)
-            (is30 r (none-found (BelowZero W vs) (belowZero e vs) maxClocks (negatives W e vs k) h) (lowest-found (Shares W vs) (shares e vs) maxClocks (sharers W e vs k) x i))
+            (is30 r (none-found (BelowZero W vs) (belowZero e vs) maxClocks (negatives W e vs k) h)
+            (lowest-found (Shares W vs) (shares e vs) maxClocks (sharers W e vs k) x i))
 
         go : (o : Option ℕ) → check29 e vs ≡ o → TimedAnswer c cs s vs (timedFrom (c ∷ cs) s vs e)
         go none h = next h (check30 e vs) refl
@@ -160,11 +165,13 @@ module _ (c : Comp) (cs : List Comp) (well : WellFormed (c ∷ cs)) (conf : Conf
     answers-so : TimedAnswer c cs s vs (timedOf (c ∷ cs) s vs)
     answers-so = go (decided (Within (c ∷ cs) s) (not (inRange (c ∷ cs) s)) range-decided)
       where
-        ticks : Within (c ∷ cs) s → Stable (product c cs) (stateOf c cs s) → InTicks (c ∷ cs) vs ⊎ (InTicks (c ∷ cs) vs → ⊥) → TimedAnswer c cs s vs (timedOf (c ∷ cs) s vs)
+        ticks : Within (c ∷ cs) s → Stable (product c cs) (stateOf c cs s) → InTicks (c ∷ cs) vs ⊎ (InTicks (c ∷ cs) vs → ⊥)
+            → TimedAnswer c cs s vs (timedOf (c ∷ cs) s vs)
         ticks ok st (inl t) = let r : Ready c cs s vs = record { within = ok; stable = st; ticks = t } in rw (when-ready r) (from-ready r)
         ticks ok st (inr n) = rw (at28 (c ∷ cs) s vs acc (tell 28 (0 ∷ [])) (state-fine ok) (stable-fine ok st) (values-faulty n)) (is28 ok st n)
 
-        stable : Within (c ∷ cs) s → Stable (product c cs) (stateOf c cs s) ⊎ (Stable (product c cs) (stateOf c cs s) → ⊥) → TimedAnswer c cs s vs (timedOf (c ∷ cs) s vs)
+        stable : Within (c ∷ cs) s → Stable (product c cs) (stateOf c cs s) ⊎ (Stable (product c cs) (stateOf c cs s) → ⊥)
+            → TimedAnswer c cs s vs (timedOf (c ∷ cs) s vs)
         stable ok (inl st) = ticks ok st (decided (InTicks (c ∷ cs) vs) (badValues (c ∷ cs) vs) values-decided)
         stable ok (inr n) = rw (at27 (c ∷ cs) s vs acc (tell 27 (0 ∷ [])) (state-fine ok) (stable-faulty ok n)) (is27 ok n)
 
@@ -208,10 +215,12 @@ module _ (c : Comp) (cs : List Comp) (well : WellFormed (c ∷ cs)) (conf : Conf
           at-fire (c ∷ cs) s vs e x
           (found-none (BelowZero W vs) (belowZero e vs) maxClocks (negatives W e vs k) not-negative)
           (found-none (Shares W vs) (shares e vs) maxClocks (sharers W e vs k) not-shared)
-          (found-lowest (LeastOf W vs) (isLeast e vs) maxClocks (leasts W e vs k) x (record { here = is-least; before = λ y l h. omega (arith, only-least y h) }))
+          (found-lowest (LeastOf W vs) (isLeast e vs) maxClocks (leasts W e vs k) x
+          (record { here = is-least; before = λ y l h. omega (arith, only-least y h) }))
 
       -- (c): the product has one row with that clock
-      fire-answers : (us : List ℤ) → Falls (c ∷ cs) vs v us → answered (fire (c ∷ cs) s vs x) ≡ answered (record { shot = fired v a R; state = s′; values = us })
+      fire-answers : (us : List ℤ) → Falls (c ∷ cs) vs v us → answered (fire (c ∷ cs) s vs x)
+          ≡ answered (record { shot = fired v a R; state = s′; values = us })
       fire-answers us g =
           let p = fire-is-a-row c cs well conf join s (r .within) vs x v (f .waits) (f .value) in
           let q = system-is-an-automaton c cs well conf join .condC .same x (in-one x) (in-one x) (p .row) (f .row) in
@@ -227,13 +236,15 @@ module _ (c : Comp) (cs : List Comp) (well : WellFormed (c ∷ cs)) (conf : Conf
     so-answers (is29 {x} r l) =
         let W = Waits c cs s in
         let e = enablingAll (c ∷ cs) s in
-        when-ready r ∙ at29 (c ∷ cs) s vs e x (found-lowest (BelowZero W vs) (belowZero e vs) maxClocks (negatives W e vs (waiting c cs well conf join s (r .within))) x l)
+        when-ready r ∙ at29 (c ∷ cs) s vs e x (found-lowest (BelowZero W vs) (belowZero e vs) maxClocks
+        (negatives W e vs (waiting c cs well conf join s (r .within))) x l)
     so-answers (is30 {x} r n l) =
         let W = Waits c cs s in
         let e = enablingAll (c ∷ cs) s in
         let k = waiting c cs well conf join s (r .within) in
         when-ready r
-        ∙ at30 (c ∷ cs) s vs e x (found-none (BelowZero W vs) (belowZero e vs) maxClocks (negatives W e vs k) n) (found-lowest (Shares W vs) (shares e vs) maxClocks (sharers W e vs k) x l)
+        ∙ at30 (c ∷ cs) s vs e x (found-none (BelowZero W vs) (belowZero e vs) maxClocks (negatives W e vs k) n)
+        (found-lowest (Shares W vs) (shares e vs) maxClocks (sharers W e vs k) x l)
     so-answers (is-quiet r n) =
         let W = Waits c cs s in
         let e = enablingAll (c ∷ cs) s in

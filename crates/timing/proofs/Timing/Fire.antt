@@ -18,7 +18,7 @@ use Rattle.laws.proofs.TestLaws.{and-true, not-so}
 use Rattle.model.specs.Model.{Row, Comp, Model, rowAt, guardSet, inputs, outputs, urgents, acts}
 use Rattle.model.specs.WellFormed.{WellComp}
 use Rattle.iosa.specs.Automaton.{Leads, autoOf, Enabling, Conditions}
-use Rattle.iosa.specs.Product.{product, Within}
+use Rattle.iosa.specs.Product.{Within}
 use Rattle.iosa.specs.Step.{goneBy, together}
 use Rattle.iosa.specs.Stepped.{Gone}
 use Rattle.timing.specs.Timed.{clockRow, clockRowOf, fireOne, fireAll}
@@ -141,7 +141,8 @@ others-follow (c ∷ cs) (s ∷ ss) x a o n w =
 fits-others : (c : Comp) (cs : List Comp) (x a : ℕ) → Fits (autoOf c) cs → a ∈ outputs c → x ∈ c .clocks → Others cs x a
 fits-others c cs x a f p k = all-map cs (λ d j. (λ q. j .outputs a p q, λ l. j .clocks x k l)) f
 
-not-both : (c : Comp) (cs : List Comp) (x a : ℕ) → Fits (autoOf c) cs → Any (λ d. (a ∈ outputs d) × (x ∈ d .clocks)) cs → (a ∈ outputs c → ⊥) × (x ∈ c .clocks → ⊥)
+not-both : (c : Comp) (cs : List Comp) (x a : ℕ) → Fits (autoOf c) cs → Any (λ d. (a ∈ outputs d) × (x ∈ d .clocks)) cs
+    → (a ∈ outputs c → ⊥) × (x ∈ c .clocks → ⊥)
 not-both c (d ∷ ds) x a f (inl h) = (λ p. f .0 .outputs a p (h .0), λ k. f .0 .clocks x k (h .1))
 not-both c (d ∷ ds) x a f (inr h) = not-both c ds x a (f .1) h
 

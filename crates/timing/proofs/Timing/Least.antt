@@ -33,7 +33,12 @@ module _ (P : ℕ → Type 0) (f : ℕ → Bool) (n : ℕ) (d : Decides P f n) w
   lowest-found x e = let l = least-some f n x e in record { here = d .to x (l .here); before = λ y h p. true≢false (sym (d .from y p) ∙ l .before y h) }
 
   pub found-lowest : (x : ℕ) → Lowest P x → least f n ≡ some x
-  found-lowest x l = some-least f n x (record { below = d .below x (l .here); here = d .from x (l .here); before = λ y h. not-so (f y) (λ t. l .before y h (d .to y t)) })
+  found-lowest x l =
+      some-least f n x (record {
+        below = d .below x (l .here);
+        here = d .from x (l .here);
+        before = λ y h. not-so (f y) (λ t. l .before y h (d .to y t));
+      })
 
   pub none-found : least f n ≡ none → (x : ℕ) → P x → ⊥
   none-found e x p = true≢false (sym (d .from x p) ∙ least-none f n e x (d .below x p))
@@ -91,7 +96,8 @@ module _ (W : ℕ → Type 0) (e : ℕ) (vs : List ℤ) (w : Clocks W e) where
   unfolding shares another
   shares-test x s =
       ap₂ _&&_ (least-test x (s .here))
-      (true-any (another x) maxClocks (s .other) (w .below (s .other) (s .there .waits)) (ap₂ _&&_ (ap not (ne-eqb (s .other) x (s .differs))) (least-test (s .other) (s .there))))
+      (true-any (another x) maxClocks (s .other) (w .below (s .other) (s .there .waits))
+      (ap₂ _&&_ (ap not (ne-eqb (s .other) x (s .differs))) (least-test (s .other) (s .there))))
 
   -- ---- what the three tests decide
   pub negatives : Decides (BelowZero W vs) (belowZero e vs) maxClocks
@@ -106,7 +112,8 @@ module _ (W : ℕ → Type 0) (e : ℕ) (vs : List ℤ) (w : Clocks W e) where
   -- ---- there is a least value where there is a clock
   pub has-least : (x : ℕ) → W x → (y : ℕ) × LeastOf W vs y
   has-least x h =
-      let m = has-minimal (has e) (λ y z. ltZ (valueOf vs y) (valueOf vs z)) (λ y. less-irreflexive (valueOf vs y)) (λ y z u. less-transitive (valueOf vs y) (valueOf vs z) (valueOf vs u)) maxClocks x (w .below x h) (w .from x h) in
+      let m = has-minimal (has e) (λ y z. ltZ (valueOf vs y) (valueOf vs z)) (λ y. less-irreflexive (valueOf vs y))
+      (λ y z u. less-transitive (valueOf vs y) (valueOf vs z) (valueOf vs u)) maxClocks x (w .below x h) (w .from x h) in
       (m .0, record { waits = w .to (m .0) (m .1 .here); least = λ y k. m .1 .least y (w .below y k) (w .from y k) })
 
   pub none-least-none-waits : least (isLeast e vs) maxClocks ≡ none → (x : ℕ) → W x → ⊥

@@ -30,7 +30,8 @@ module _ (m : Model) (w : All WellComp m) (vs : List ℤ) where
   ends n x h =
       and-true (leZ floor (valueOf vs x)) (leZ (valueOf vs x) (pos maxTicks))
       (not-false (leZ floor (valueOf vs x) && leZ (valueOf vs x) (pos maxTicks))
-      (and-false (has (declared m) x) (not (leZ floor (valueOf vs x) && leZ (valueOf vs x) (pos maxTicks))) (any-false (outOfTicks m vs) maxClocks n x (declared-below m w x h)) h))
+      (and-false (has (declared m) x) (not (leZ floor (valueOf vs x) && leZ (valueOf vs x) (pos maxTicks)))
+      (any-false (outOfTicks m vs) maxClocks n x (declared-below m w x h)) h))
 
   good-values : badValues m vs ≡ false → InTicks m vs
   good-values e =

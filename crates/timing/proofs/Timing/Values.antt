@@ -23,7 +23,8 @@ unfolding agedFrom
 aged-length d v k [] = refl
 aged-length d v k (z ∷ zs) = ap suc (aged-length d v (suc k) zs)
 
-aged-at : (d : ℕ) (v : ℤ) (k : ℕ) (zs : List ℤ) (j : ℕ) → j < length zs → valueOf (agedFrom d v k zs) j ≡ cond (has d (k + j)) (fallen v (valueOf zs j)) (valueOf zs j)
+aged-at : (d : ℕ) (v : ℤ) (k : ℕ) (zs : List ℤ) (j : ℕ) → j < length zs → valueOf (agedFrom d v k zs) j
+    ≡ cond (has d (k + j)) (fallen v (valueOf zs j)) (valueOf zs j)
 unfolding agedFrom
 aged-at d v k [] j h = absurd (omega arith)
 aged-at d v k (z ∷ zs) zero h = let e : k ≡ k + 0 = omega arith in ap (λ n. cond (has d n) (fallen v z) z) e
@@ -39,13 +40,16 @@ unfolding fallen
 aged-falls m vs v = record {
   count = aged-length (declared m) (pos v) 0 vs;
   falls = λ x h e. aged-at (declared m) (pos v) 0 vs x h ∙ at x e;
-  stays = λ x e. by-cases (decLt x (length vs)) (λ h. aged-at (declared m) (pos v) 0 vs x h ∙ kept x e) (λ h. aged-beyond (declared m) (pos v) vs x (omega arith));
+  stays =
+      λ x e. by-cases (decLt x (length vs)) (λ h. aged-at (declared m) (pos v) 0 vs x h ∙ kept x e)
+      (λ h. aged-beyond (declared m) (pos v) vs x (omega arith));
 }
   where
     here : (x : ℕ) → 0 + x ≡ x
     here x = omega arith
 
-    at : (x : ℕ) → has (declared m) x ≡ true → cond (has (declared m) (0 + x)) (fallen (pos v) (valueOf vs x)) (valueOf vs x) ≡ greater (valueOf vs x -ℤ pos v) floor
+    at : (x : ℕ) → has (declared m) x ≡ true → cond (has (declared m) (0 + x)) (fallen (pos v) (valueOf vs x)) (valueOf vs x)
+        ≡ greater (valueOf vs x -ℤ pos v) floor
     at x e = rw (here x, e)
 
     kept : (x : ℕ) → has (declared m) x ≡ false → cond (has (declared m) (0 + x)) (fallen (pos v) (valueOf vs x)) (valueOf vs x) ≡ valueOf vs x
@@ -75,17 +79,20 @@ greater-below a b c h k = go (ltZ a b)
     go false = h
 
 -- ---- a declared clock stays within the range of 28
-pub falls-in-ticks : (m : Model) (vs : List ℤ) (v : ℕ) (us : List ℤ) → ((x : ℕ) → x ∈ declared m → x < maxClocks) → InTicks m vs → Falls m vs v us → InTicks m us
+pub falls-in-ticks : (m : Model) (vs : List ℤ) (v : ℕ) (us : List ℤ) → ((x : ℕ) → x ∈ declared m → x < maxClocks) → InTicks m vs → Falls m vs v us
+    → InTicks m us
 falls-in-ticks m vs v us below t f = record {
   count = f .count ∙ t .count;
   low = λ x h. rw (f .falls x (omega (arith, t .count, below x h)) h) (greater-above (valueOf vs x -ℤ pos v) floor);
   high = λ x h.
       rw (f .falls x (omega (arith, t .count, below x h)) h)
-      (greater-below (valueOf vs x -ℤ pos v) floor (pos maxTicks) (at-most-transitive (valueOf vs x -ℤ pos v) (valueOf vs x) (pos maxTicks) (less-count-at-most (valueOf vs x) v) (t .high x h)) refl);
+      (greater-below (valueOf vs x -ℤ pos v) floor (pos maxTicks) (at-most-transitive (valueOf vs x -ℤ pos v) (valueOf vs x) (pos maxTicks)
+      (less-count-at-most (valueOf vs x) v) (t .high x h)) refl);
 }
 
 -- ---- a clock with a value of v or more does not end below zero
-pub falls-not-below : (m : Model) (vs : List ℤ) (v : ℕ) (us : List ℤ) (x : ℕ) → x < length vs → x ∈ declared m → ltZ (valueOf vs x) (pos v) ≡ false → Falls m vs v us
+pub falls-not-below : (m : Model) (vs : List ℤ) (v : ℕ) (us : List ℤ) (x : ℕ) → x < length vs → x ∈ declared m → ltZ (valueOf vs x) (pos v) ≡ false
+    → Falls m vs v us
     → ltZ (valueOf us x) (pos 0) ≡ false
 falls-not-below m vs v us x l h e f =
     let n = less-count-not-below (valueOf vs x) v e in
@@ -95,6 +102,7 @@ falls-not-below m vs v us x l h e f =
     above-floor (pos z) h k = true≢false (sym k)
     above-floor (negsuc z) h k = true≢false h
 
-    go : (t : Bool) → ltZ (valueOf vs x -ℤ pos v) floor ≡ t → ltZ (valueOf vs x -ℤ pos v) (pos 0) ≡ false → ltZ (cond t floor (valueOf vs x -ℤ pos v)) (pos 0) ≡ false
+    go : (t : Bool) → ltZ (valueOf vs x -ℤ pos v) floor ≡ t → ltZ (valueOf vs x -ℤ pos v) (pos 0) ≡ false
+        → ltZ (cond t floor (valueOf vs x -ℤ pos v)) (pos 0) ≡ false
     go true e n = absurd (above-floor (valueOf vs x -ℤ pos v) n e)
     go false e n = n

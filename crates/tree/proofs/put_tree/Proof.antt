@@ -1,5 +1,4 @@
 -- `tree::put_tree`: the refusal of the tree, or the text of its table.
-use mathlib.Core.Path.{sym}
 use Prim.Native.Nat.{ℕ}
 use native.Mathlib.Omega.{arith}
 use lib.ListN.{length-replicate}

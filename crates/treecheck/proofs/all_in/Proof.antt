@@ -2,7 +2,6 @@
 use mathlib.Core.Path.{sym, _∙_}
 use mathlib.Core.Bool.{true, false}
 use Prim.Native.Nat.{_-_}
-use native.Mathlib.Omega.{arith}
 use borrow.Author.Tests.{not-true, not-false}
 use borrow.Author.Needs.{needs}
 use Rattle.treecheck.proofs.NumberLaws.{Asked, asked-begins, asked-done, asked-out, asked-on, own-out, own-in}
@@ -53,7 +52,8 @@ loop-again c =
 returns-3 : tie.Need-returns-3 Inv-loop μ-loop
 returns-3 c =
     let o = c .before .before .before .before in
-    own-in _ _ false (sym (o .is-in .ensures) ∙ not-false (o .is-in .result) (c .before .before .before .if1 .left)) (asked-done _ _ _ _ (c .before .loop .inv) (c .loop-test .left))
+    own-in _ _ false (sym (o .is-in .ensures) ∙ not-false (o .is-in .result) (c .before .before .before .if1 .left))
+    (asked-done _ _ _ _ (c .before .loop .inv) (c .loop-test .left))
 
 pub all-in-spec : {M : Type 1} → statement M
 all-in-spec =

@@ -1,6 +1,5 @@
 -- `treecheck::check_lines` meets its contract. The loop's invariant: what the lines from here on answer is what all answer.
-use mathlib.Core.Path.{_≡_, sym, _∙_, ap}
-use mathlib.Core.Bool.{true, false}
+use mathlib.Core.Path.{sym, _∙_, ap}
 use mathlib.Core.List.{List, [], _∷_}
 use Prim.Native.Nat.{ℕ}
 use native.Mathlib.Omega.{arith}
@@ -13,7 +12,8 @@ use Rattle.lines.proofs.LineLaws.{valued-stops}
 use Rattle.trees.specs.TreeText.{element}
 use Rattle.treelines.specs.Elements.{elementIs, gotElement}
 use Rattle.treelines.specs.declared.Element.{Element}
-use Rattle.treecheck.proofs.Turns.{whole, Stands, stands-first, Read, read-line, read-on, few, number-below, line-out, line-low, line-taken, no-line, at-end, says-2, says-4, says-6, says-fine}
+use Rattle.treecheck.proofs.Turns.{whole, Stands, stands-first, Read, read-line, read-on, few, number-below, line-out, line-low, line-taken}
+use Rattle.treecheck.proofs.Turns.{no-line, at-end, says-2, says-4, says-6, says-fine}
 use Rattle.treecheck.proofs.check_lines.Statement.{statement}
 use Rattle.treecheck.proofs.check_lines.Tie as tie
 

@@ -21,7 +21,8 @@ no-inputs-requires c κs = search needs
 loop-holds : tie.Need-loop-holds Inv-loop μ-loop
 loop-holds c =
     let a = c .before .before .args in
-    subst (λ s. Needed (now (a .text)) (a .least) (a .more) noInputs (a .c .at) s (a .c .at) 0) (sym (c .no-inputs .ensures)) (needed-begins _ _ _ noInputs _ refl)
+    subst (λ s. Needed (now (a .text)) (a .least) (a .more) noInputs (a .c .at) s (a .c .at) 0) (sym (c .no-inputs .ensures))
+    (needed-begins _ _ _ noInputs _ refl)
 
 number-field-requires : tie.Need-number-field-requires Inv-loop μ-loop
 number-field-requires c κs = search needs
@@ -49,7 +50,8 @@ loop-less c = search needs
 loop-again : tie.Need-loop-again Inv-loop μ-loop
 loop-again c =
     let n = c .before .before .before .before in
-    needed-more _ _ _ _ _ _ _ _ (n .before .before .loop .inv) (n .before .loop-test .taken) _ (n .number-field .ensures) _ _ (c .before .before .next .given .1) _ (c .placed .ensures)
+    needed-more _ _ _ _ _ _ _ _ (n .before .before .loop .inv) (n .before .loop-test .taken) _ (n .number-field .ensures) _ _
+    (c .before .before .next .given .1) _ (c .placed .ensures)
 
 further-inputs-requires : tie.Need-further-inputs-requires Inv-loop μ-loop
 further-inputs-requires c κs =

@@ -29,7 +29,11 @@ at-most-more-requires : tie.Need-at-most-more-requires
 at-most-more-requires c κs = search needs
 
 all-inputs-requires : tie.Need-all-inputs-requires
-all-inputs-requires c κs = let m = at-most-five (c .before .before .before .before .before .before .before .args .sort) in omega (arith, m)
+all-inputs-requires c κs =
+    let n = c .before .before .before .before .before .before in
+    let s = n .before in
+    let m = at-most-five (s .args .sort) in
+    omega (arith, m)
 
 enum-known-inputs : tie.Need-enum-known-inputs
 enum-known-inputs c = search needs
@@ -91,7 +95,8 @@ returns-2 : tie.Need-returns-2
 returns-2 c =
     let i = c .before .before .before .before in
     let n = one (two i) in
-    line-no-end (sort n) (bytes n) (the-number n) (the-inputs i) (sym (c .before .before .before .byte .ensures) ∙ ap (past (text n)) (c .before .no-end .given .1))
+    line-no-end (sort n) (bytes n) (the-number n) (the-inputs i) (sym (c .before .before .before .byte .ensures)
+    ∙ ap (past (text n)) (c .before .no-end .given .1))
 
 returns-3 : tie.Need-returns-3
 returns-3 c =

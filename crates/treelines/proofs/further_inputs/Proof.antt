@@ -41,7 +41,8 @@ returns : tie.Need-returns Inv-loop μ-loop
 returns c =
     let n = c .before .before .before in
     let b = n .before .before .before .before in
-    further-no-number _ _ _ _ _ _ _ (b .before .before .loop .inv) (b .before .loop-test .taken) _ _ (b .byte .ensures) (n .before .before .d .given .1) _ (n .number .ensures) _ _
+    further-no-number _ _ _ _ _ _ _ (b .before .before .loop .inv) (b .before .loop-test .taken) _ _ (b .byte .ensures)
+    (n .before .before .d .given .1) _ (n .number .ensures) _ _
     (c .before .e .given .1)
 
 enum-known-e-2 : tie.Need-enum-known-e-2 Inv-loop μ-loop
@@ -62,7 +63,8 @@ loop-again : tie.Need-loop-again Inv-loop μ-loop
 loop-again c =
     let n = c .before .before .before .before in
     let b = n .before .before .before .before in
-    further-more _ _ _ _ _ _ _ (b .before .before .loop .inv) (b .before .loop-test .taken) _ _ (b .byte .ensures) (n .before .before .d .given .1) _ (n .number .ensures) _ _
+    further-more _ _ _ _ _ _ _ (b .before .before .loop .inv) (b .before .loop-test .taken) _ _ (b .byte .ensures) (n .before .before .d .given .1) _
+    (n .number .ensures) _ _
     (c .before .before .next .given .1) _ (c .placed .ensures)
 
 returns-3 : tie.Need-returns-3 Inv-loop μ-loop

@@ -150,7 +150,8 @@ returns-5 c =
     let o = four n in
     let p = three o in
     let q = two p in
-    sym (sort-rbox (bytes q) (no-be q) (no-and p) (no-or o) (no-pand n) (sym (c .before .before .before .word5 .ensures) ∙ ap (past (text q)) (c .before .d5 .given .1)))
+    sym (sort-rbox (bytes q) (no-be q) (no-and p) (no-or o) (no-pand n) (sym (c .before .before .before .word5 .ensures)
+    ∙ ap (past (text q)) (c .before .d5 .given .1)))
 
 returns-6 : tie.Need-returns-6
 returns-6 c =

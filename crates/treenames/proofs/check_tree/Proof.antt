@@ -25,7 +25,8 @@ check-names-requires c κs = search needs
 
 returns : tie.Need-returns
 returns c =
-    lines-refused (now (c .before .before .before .before .before .args .text)) _ (ap saysChecked (sym (c .before .f .given .1)) ∙ c .before .before .before .check-lines .ensures)
+    let s = c .before .before .before .before .before in
+    lines-refused (now (s .args .text)) _ (ap saysChecked (sym (c .before .f .given .1)) ∙ c .before .before .before .check-lines .ensures)
 
 returns-2 : tie.Need-returns-2
 returns-2 c = search needs

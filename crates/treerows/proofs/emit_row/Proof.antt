@@ -18,7 +18,10 @@ line-width-requires : tie.Need-line-width-requires
 line-width-requires c κs = search needs
 
 add-t17 : tie.Need-add-t17
-add-t17 c = let x = c .before .before .before .before .before .before .before .before .before .before in omega (arith, x .pre .4 .bytes, line-few _ _ (c .before .line-width .ensures))
+add-t17 c =
+    let m = c .before .before .before .before .before .before in
+    let x = m .before .before .before .before in
+    omega (arith, x .pre .4 .bytes, line-few _ _ (c .before .line-width .ensures))
 
 same-length : tie.Need-same-length
 same-length c = search needs
@@ -29,7 +32,8 @@ returns c =
     let i = p .before .before in
     let v = i .before in
     let a = v .before .before .args in
-    emitted (v .move-of .result) _ (v .move-of .ensures) (a .s) (a .a) (a .limit) (a .n) _ (i .if1 .taken) _ _ (p .put-row .ensures) (c .before .line-width .ensures)
+    emitted (v .move-of .result) _ (v .move-of .ensures) (a .s) (a .a) (a .limit) (a .n) _ (i .if1 .taken) _ _ (p .put-row .ensures)
+    (c .before .line-width .ensures)
 
 returns-2 : tie.Need-returns-2
 returns-2 c =

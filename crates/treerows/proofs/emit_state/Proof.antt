@@ -1,6 +1,6 @@
 -- `treerows::emit_state` meets its contract: what is listed and what is left make the whole.
 use mathlib.Core.Path.{_≡_, refl, sym, _∙_, ap, subst}
-use Prim.Native.Nat.{ℕ, _+_, _-_, _≤_, _<_}
+use Prim.Native.Nat.{_+_, _-_}
 use native.Mathlib.Omega.{arith}
 use lib.ListN.{length}
 use borrow.Author.Needs.{needs}
@@ -16,7 +16,8 @@ use Rattle.treerows.proofs.emit_state.Tie as tie
 abbrev Inv-loop : tie.InvT-loop
 Inv-loop words count into₀ limit e k s m₀ a₀ into m a =
     (length into ≡ length into₀)
-    × (listed limit (spread (wordRows words (elementOf e) k s) a (count - a)) (outOf m into) ≡ listed limit (stateRows words count (elementOf e) k s) (outOf m₀ into₀))
+    × (listed limit (spread (wordRows words (elementOf e) k s) a (count - a)) (outOf m into) ≡ listed limit (stateRows words count (elementOf e) k s)
+    (outOf m₀ into₀))
     × Room limit (count - a) (outOf m into)
 
 abbrev μ-loop : tie.MeasureT-loop
@@ -27,8 +28,11 @@ unfolding stateRows
 loop-holds c =
     let x = c .before in
     let a = x .args in
-    let z : a .count - 0 ≡ a .count = omega arith in
-    (refl, ap (λ n. listed (a .limit) (spread (wordRows (a .words .now) (elementOf (a .e)) (a .k) (a .s)) 0 n) (outOf (a .n) (a .into .now))) z, room-less (a .limit) (a .count) (a .count - 0) _ (omega (arith, z)) (x .pre .6))
+    let z : a .count - 0 ≡ a .count = omega arith in (
+      refl,
+      ap (λ n. listed (a .limit) (spread (wordRows (a .words .now) (elementOf (a .e)) (a .k) (a .s)) 0 n) (outOf (a .n) (a .into .now))) z,
+      room-less (a .limit) (a .count) (a .count - 0) _ (omega (arith, z)) (x .pre .6),
+    )
 
 mul-emit-row : tie.Need-mul-emit-row Inv-loop μ-loop
 mul-emit-row c = search needs
@@ -64,7 +68,8 @@ loop-again c =
     let room = room-less (a .limit) (a .count - l .a) (1 + (a .count - (l .a + 1))) o (omega (arith, h)) (l .inv .2) in (
       r .emit-row .kept .0 ∙ l .inv .0,
       walk-on (a .limit) (wordRows (a .words .now) (elementOf (a .e)) (a .k) (a .s)) (l .a) (a .count) o _ _ h (l .inv .1) f,
-      subst (Room (a .limit) (a .count - (l .a + 1))) (sym f) (room-after (a .limit) 1 (a .count - (l .a + 1)) _ o (word-few (a .words .now) (elementOf (a .e)) (a .k) (a .s) (l .a)) room),
+      subst (Room (a .limit) (a .count - (l .a + 1))) (sym f)
+          (room-after (a .limit) 1 (a .count - (l .a + 1)) _ o (word-few (a .words .now) (elementOf (a .e)) (a .k) (a .s) (l .a)) room),
     )
 
 same-length : tie.Need-same-length Inv-loop μ-loop
@@ -74,7 +79,8 @@ returns : tie.Need-returns Inv-loop μ-loop
 returns c =
     let l = c .before .loop in
     let a = c .before .before .before .args in
-    walk-end (a .limit) (wordRows (a .words .now) (elementOf (a .e)) (a .k) (a .s)) (l .a) (a .count) (outOf (l .m) (l .into)) _ (c .loop-test .left) (l .inv .1)
+    walk-end (a .limit) (wordRows (a .words .now) (elementOf (a .e)) (a .k) (a .s)) (l .a) (a .count) (outOf (l .m) (l .into)) _ (c .loop-test .left)
+    (l .inv .1)
 
 pub emit-state-spec : {M : Type 1} → statement M
 emit-state-spec =

@@ -1,6 +1,6 @@
 -- `treerows::emit_states` meets its contract: what is listed and what is left make the whole.
 use mathlib.Core.Path.{_≡_, refl, sym, _∙_, ap, subst}
-use Prim.Native.Nat.{ℕ, _+_, _*_, _-_, _≤_, _<_}
+use Prim.Native.Nat.{_+_, _*_, _-_, _<_}
 use native.Mathlib.Omega.{arith}
 use lib.ListN.{length}
 use borrow.Author.Needs.{needs}
@@ -17,7 +17,8 @@ use Rattle.treerows.proofs.emit_states.Tie as tie
 abbrev Inv-loop : tie.InvT-loop
 Inv-loop words count into₀ limit e k states m₀ s₀ into m s =
     (length into ≡ length into₀)
-    × (listed limit (spread (stateRows words count (elementOf e) k) s (states - s)) (outOf m into) ≡ listed limit (elementRows words count (elementOf e) k) (outOf m₀ into₀))
+    × (listed limit (spread (stateRows words count (elementOf e) k) s (states - s)) (outOf m into)
+    ≡ listed limit (elementRows words count (elementOf e) k) (outOf m₀ into₀))
     × Room limit (maxActions * (maxElements - s)) (outOf m into)
 
 abbrev μ-loop : tie.MeasureT-loop
@@ -33,7 +34,8 @@ loop-holds c =
     let a = x .args in
     let z : c .states-of .result - 0 ≡ c .states-of .result = omega arith in (
       refl,
-      ap (λ n. listed (a .limit) (spread (stateRows (a .words .now) (a .count) (elementOf (a .e)) (a .k)) 0 n) (outOf (a .n) (a .into .now))) (z ∙ c .states-of .ensures),
+      ap (λ n. listed (a .limit) (spread (stateRows (a .words .now) (a .count) (elementOf (a .e)) (a .k)) 0 n) (outOf (a .n) (a .into .now)))
+          (z ∙ c .states-of .ensures),
       room-less (a .limit) (maxElements * maxActions) (maxActions * (maxElements - 0)) _ (omega arith) (x .pre .5),
     )
 
@@ -71,7 +73,8 @@ loop-again c =
     let room = room-less (a .limit) (maxActions * (maxElements - l .s)) (a .count + left) o (omega (arith, x .pre .1, below)) (l .inv .2) in (
       r .emit-state .kept .1 .1 .0 ∙ l .inv .0,
       walk-on (a .limit) (stateRows (a .words .now) (a .count) (elementOf (a .e)) (a .k)) (l .s) (st .states-of .result) o _ _ h (l .inv .1) f,
-      subst (Room (a .limit) left) (sym f) (room-after (a .limit) (a .count) left _ o (state-few (a .words .now) (a .count) (elementOf (a .e)) (a .k) (l .s)) room),
+      subst (Room (a .limit) left) (sym f) (room-after (a .limit) (a .count) left _ o (state-few (a .words .now) (a .count) (elementOf (a .e)) (a .k)
+          (l .s)) room),
     )
 
 same-length : tie.Need-same-length Inv-loop μ-loop
@@ -79,10 +82,11 @@ same-length c = c .before .loop .inv .0
 
 returns : tie.Need-returns Inv-loop μ-loop
 returns c =
-    let l = c .before .loop in
     let st = c .before .before in
+    let l = c .before .loop in
     let a = st .before .before .args in
-    walk-end (a .limit) (stateRows (a .words .now) (a .count) (elementOf (a .e)) (a .k)) (l .s) (st .states-of .result) (outOf (l .m) (l .into)) _ (c .loop-test .left) (l .inv .1)
+    walk-end (a .limit) (stateRows (a .words .now) (a .count) (elementOf (a .e)) (a .k)) (l .s) (st .states-of .result) (outOf (l .m) (l .into)) _
+    (c .loop-test .left) (l .inv .1)
 
 pub emit-states-spec : {M : Type 1} → statement M
 emit-states-spec =

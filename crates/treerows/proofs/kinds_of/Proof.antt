@@ -1,6 +1,6 @@
 -- `treerows::kinds_of` meets its contract: the actions so far.
 use mathlib.Core.Path.{_≡_, _∙_, ap}
-use Prim.Native.Nat.{ℕ, _+_, _-_, _≤_, _<_}
+use Prim.Native.Nat.{_-_, _≤_}
 use native.Mathlib.Omega.{arith}
 use borrow.Author.Needs.{needs}
 use Rattle.roles.specs.Roles.{kindIs}
@@ -43,8 +43,11 @@ loop-again c =
     let v = c .before in
     let t = v .before .before in
     let l = t .before .loop in
-    let a = t .before .before .args in
-    (omega (arith, t .loop-test .taken), kinds-on (wordKind (a .words .now) (elementOf (a .e))) (l .a) (l .h) _ (kindIs (v .kind-of .result)) (l .inv .1) (v .kind-of .ensures) (c .with-kind .ensures))
+    let a = t .before .before .args in (
+      omega (arith, t .loop-test .taken),
+      kinds-on (wordKind (a .words .now) (elementOf (a .e))) (l .a) (l .h) _ (kindIs (v .kind-of .result)) (l .inv .1) (v .kind-of .ensures)
+          (c .with-kind .ensures),
+    )
 
 returns : tie.Need-returns Inv-loop μ-loop
 returns c =

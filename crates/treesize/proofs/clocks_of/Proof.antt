@@ -39,7 +39,9 @@ enum-told-5 : tie.Need-enum-told-5
 enum-told-5 c = search needs
 
 returns : tie.Need-returns
-returns c = let u = c .before .before in rw (c .enum-told .given .1) (u .union .ensures ∙ ap₂ (λ x y. x ∪ y) (u .before .before .single .ensures) (u .before .single2 .ensures))
+returns c =
+    let u = c .before .before in
+    rw (c .enum-told .given .1) (u .union .ensures ∙ ap₂ (λ x y. x ∪ y) (u .before .before .single .ensures) (u .before .single2 .ensures))
 
 returns-2 : tie.Need-returns-2
 returns-2 c = search needs

@@ -16,7 +16,10 @@ returns : tie.Need-returns
 returns c = let v = c .before .before .name-actions .ensures in (many-components _ _ (v .components) (c .if1 .taken), refl)
 
 returns-2 : tie.Need-returns-2
-returns-2 c = let i = c .before .before in let v = i .before .before .name-actions .ensures in (many-actions _ _ _ (v .components) (i .if1 .left) (v .actions) (c .if2 .taken), refl)
+returns-2 c =
+    let i = c .before .before in
+    let v = i .before .before .name-actions .ensures in
+    (many-actions _ _ _ (v .components) (i .if1 .left) (v .actions) (c .if2 .taken), refl)
 
 size-requires : tie.Need-size-requires
 size-requires c κs =

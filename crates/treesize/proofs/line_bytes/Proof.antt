@@ -23,7 +23,8 @@ returns c =
     let s = c .before .before in
     let h = s .before in
     let a = h .before .args in
-    c .head-width .ensures ∙ bytes-by (a .words .now) (a .count) (elementOf (a .e)) (a .k) (h .kinds-of .result) _ _ (h .kinds-of .ensures) (s .states-of .ensures) (c .before .clocks-of .ensures)
+    c .head-width .ensures ∙ bytes-by (a .words .now) (a .count) (elementOf (a .e)) (a .k) (h .kinds-of .result) _ _ (h .kinds-of .ensures)
+    (s .states-of .ensures) (c .before .clocks-of .ensures)
 
 pub line-bytes-spec : {M : Type 1} → statement M
 line-bytes-spec =

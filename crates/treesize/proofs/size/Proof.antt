@@ -41,8 +41,13 @@ line-size-requires c κs =
     let l = k .before .before in
     let x = l .before .before .before in
     let inv = l .loop .inv .0 in
-    let low = k-low _ _ _ (l .loop .n) (l .loop .k) (l .loop .at) inv in
-    (x .pre .2, count-low _ _ _ (l .loop .n) (l .loop .k) (l .loop .at) inv, fit _ _ _ _ (here k), omega (arith, low), roomy _ _ _ (l .loop .n) (l .loop .k) (l .loop .at) inv)
+    let low = k-low _ _ _ (l .loop .n) (l .loop .k) (l .loop .at) inv in (
+      x .pre .2,
+      count-low _ _ _ (l .loop .n) (l .loop .k) (l .loop .at) inv,
+      fit _ _ _ _ (here k),
+      omega (arith, low),
+      roomy _ _ _ (l .loop .n) (l .loop .k) (l .loop .at) inv,
+    )
 
 next-be-requires : tie.Need-next-be-requires Inv-loop μ-loop
 next-be-requires c κs =
@@ -62,8 +67,11 @@ loop-again c =
     let w = c .before .before .before in
     let k = w .before .before .before in
     let l = k .before .before .loop in
-    let f = fit _ _ _ _ (here k) in
-    (sizing-on (textAt k) _ _ (l .n) (l .k) (l .at) (l .inv .0) _ _ (here k) f (w .line-size .result) _ (w .line-size .ensures .0) (c .next-be .ensures), w .line-size .ensures .1 ∙ l .inv .1)
+    let f = fit _ _ _ _ (here k) in (
+      sizing-on (textAt k) _ _ (l .n) (l .k) (l .at) (l .inv .0) _ _ (here k) f (w .line-size .result) _ (w .line-size .ensures .0)
+          (c .next-be .ensures),
+      w .line-size .ensures .1 ∙ l .inv .1,
+    )
 
 same-length : tie.Need-same-length Inv-loop μ-loop
 same-length c = ap length (c .before .loop .inv .1)

@@ -52,7 +52,11 @@ sub-left : tie.Need-sub-left Inv-loop μ-loop
 sub-left c = search needs
 
 add-i : tie.Need-add-i Inv-loop μ-loop
-add-i c = let n = c .before .before .before .before .before .before .before .loop .inv .count in search needs
+add-i c =
+    let m = c .before .before .before .before .before .before in
+    let d = m .before in
+    let n = d .loop .inv .count in
+    search needs
 
 loop-less : tie.Need-loop-less Inv-loop μ-loop
 loop-less c = omega arith

@@ -63,29 +63,41 @@ loop-less c = omega arith
 
 loop-again : tie.Need-loop-again Inv-loop μ-loop
 loop-again c =
+    let s = c .before .before .before .before in
     let at = c .before .before .loop in
-    let old = c .before .before .before .before .args .bytes .now in
-    let ps = c .before .before .before .before .args .x .parts in
-    let here : at .i < length old = omega (arith, as-many old ps (at .bytes) (at .i) (at .inv .3) (at .inv .1) (omega (arith, at .inv .2)), ltb-true (at .i) (length (at .bytes)) (c .if1 .taken)) in
+    let old = s .args .bytes .now in
+    let ps = s .args .x .parts in
+    let here : at .i < length old = omega (
+      arith,
+      as-many old ps (at .bytes) (at .i) (at .inv .3) (at .inv .1) (omega (arith, at .inv .2)),
+      ltb-true (at .i) (length (at .bytes)) (c .if1 .taken),
+    ) in
     (omega arith, omega (arith, here), at .inv .2, one-more old ps (at .bytes) (at .i) (at .inv .3) here (omega (arith, at .inv .2)))
 
 same-length : tie.Need-same-length Inv-loop μ-loop
 same-length c =
+    let s = c .before .before .before .before in
     let at = c .before .before .loop in
-    as-many (c .before .before .before .before .args .bytes .now) (c .before .before .before .before .args .x .parts) (at .bytes) (at .i) (at .inv .3) (at .inv .1) (omega (arith, at .inv .2))
+    as-many (s .args .bytes .now) (s .args .x .parts) (at .bytes) (at .i) (at .inv .3) (at .inv .1) (omega (arith, at .inv .2))
 
 returns : tie.Need-returns Inv-loop μ-loop
 returns c =
+    let s = c .before .before .before .before in
     let at = c .before .before .loop in
-    let old = c .before .before .before .before .args .bytes .now in
-    let ps = c .before .before .before .before .args .x .parts in
-    let e : at .i ≡ length old = omega (arith, as-many old ps (at .bytes) (at .i) (at .inv .3) (at .inv .1) (omega (arith, at .inv .2)), ltb-false (at .i) (length (at .bytes)) (c .if1 .left)) in
+    let old = s .args .bytes .now in
+    let ps = s .args .x .parts in
+    let e : at .i ≡ length old = omega (
+      arith,
+      as-many old ps (at .bytes) (at .i) (at .inv .3) (at .inv .1) (omega (arith, at .inv .2)),
+      ltb-false (at .i) (length (at .bytes)) (c .if1 .left),
+    ) in
     at .inv .3 ∙ all-bytes old ps (at .i) (omega (arith, at .inv .2)) e
 
 same-length-2 : tie.Need-same-length-2 Inv-loop μ-loop
 same-length-2 c =
+    let s = c .before .before .before in
     let at = c .before .loop in
-    as-many (c .before .before .before .args .bytes .now) (c .before .before .before .args .x .parts) (at .bytes) (at .i) (at .inv .3) (at .inv .1) (omega (arith, at .inv .2))
+    as-many (s .args .bytes .now) (s .args .x .parts) (at .bytes) (at .i) (at .inv .3) (at .inv .1) (omega (arith, at .inv .2))
 
 returns-2 : tie.Need-returns-2 Inv-loop μ-loop
 returns-2 c =

@@ -1,6 +1,6 @@
 -- `words::written_words` meets its contract: each arm lays out what its own case says.
 use borrow.Author.Needs.{needs}
-use mathlib.Core.Path.{_≡_, sym, _∙_, ap}
+use mathlib.Core.Path.{sym, _∙_, ap}
 use Rattle.answer.specs.Told.{saysWritten}
 use Rattle.words.specs.Words.{writtenWords, givenWords}
 use Rattle.words.proofs.Tells.{refused-says, value-says}

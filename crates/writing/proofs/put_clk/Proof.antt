@@ -1,64 +1,106 @@
 -- `writing::put_clk` meets its contract: field by field.
-use mathlib.Core.Path.{_≡_, refl, sym, _∙_, ap}
-use mathlib.Core.Bool.{true, cond}
+use mathlib.Core.Path.{sym, _∙_, ap}
+use mathlib.Core.Bool.{cond}
 use mathlib.Core.List.{List, [], _∷_, _++_}
 use Prim.Native.Nat.{ℕ}
 use native.Mathlib.Omega.{arith}
 use borrow.Author.Tests.{not-true, not-false}
 use denote.Ref.{now}
 use Rattle.laws.specs.Sets.{has}
-use Rattle.print.specs.Put.{Room, Put}
-use Rattle.print.proofs.LaidLaws.{Left, Next, left-all, left-as, left-room, left-next, left-last, last-room, put-as, nothing-put}
+use Rattle.print.proofs.LaidLaws.{Left, left-parts, part-room, part-put, left-last, last-room, put-as, nothing-put, put-length}
 use Rattle.model.specs.Model.{Comp}
 use Rattle.model.specs.Text.{tab as tabByte, lf, clkWord, decimal, clkPart}
 use Rattle.layout.specs.Image.{compOf}
-use Rattle.writing.proofs.Parts.{has-word, no-clk, clk-parts, put-length}
+use Rattle.writing.proofs.Parts.{has-word, no-clk, clk-parts}
 use borrow.Author.Needs.{needs}
 use Rattle.writing.proofs.put_clk.Statement.{statement}
 use Rattle.writing.proofs.put_clk.Tie as tie
 
-module _ (o : List ℕ) (at : ℕ) (k : Comp) (x n : ℕ) (e : has (k .clocks) x ≡ true) (f : n ≡ cond (has (k .started) x) 1 0) (h : Room o at (clkPart k x)) where
-  l0 : Next o at (clkPart k x) o at (clkWord) (tabByte ∷ decimal x ++ (tabByte ∷ decimal n ++ lf ∷ []))
-  l0 = left-as (left-all o at (clkPart k x) h) _ _ (clk-parts k x n e f)
+abbrev comp : tie.Start → Comp
+comp s = compOf (now (s .args .t)) (s .args .i)
 
-  module _ {o1 : List ℕ} {p1 : ℕ} (q1 : Put o at (clkWord) o1 p1) where
-    l1 : Next o at (clkPart k x) o1 p1 (tabByte ∷ decimal x) (tabByte ∷ decimal n ++ lf ∷ [])
-    l1 = left-as (left-next l0 q1) _ _ refl
+-- the component has the clock, its flag is known, and nothing is put yet
+abbrev Read : Type 0
+Read = tie.After-flag
 
-    module _ {o2 : List ℕ} {p2 : ℕ} (q2 : Put o1 p1 (tabByte ∷ decimal x) o2 p2) where
-      l2 : Next o at (clkPart k x) o2 p2 (tabByte ∷ decimal n) (lf ∷ [])
-      l2 = left-as (left-next l1 q2) _ _ refl
+abbrev has-it : Read → tie.Else1
+has-it b = b .before .before .before
 
-      l3 : {o3 : List ℕ} {p3 : ℕ} → Put o2 p2 (tabByte ∷ decimal n) o3 p3 → Left o at (clkPart k x) o3 p3 (lf ∷ [])
-      l3 q3 = left-next l2 q3
+abbrev start : Read → tie.Start
+start b = has-it b .before .before .before .before .before
+
+abbrev number : Read → List ℕ
+number b = tabByte ∷ decimal (start b .args .x)
+
+abbrev set : Read → List ℕ
+set b = tabByte ∷ decimal (b .flag .result)
+
+-- what is left of the line behind each field
+abbrev r3 : List ℕ
+r3 = lf ∷ []
+
+abbrev r2 : Read → List ℕ
+r2 b = set b ++ r3
+
+abbrev r1 : Read → List ℕ
+r1 b = number b ++ r2 b
+
+abbrev Rest : Read → List ℕ → ℕ → List ℕ → Type 0
+Rest b out at rest = Left (now (start b .args .out)) (start b .args .at) (clkPart (comp (start b)) (start b .args .x)) out at rest
+
+l0 : (b : Read) → Rest b (now (start b .args .out)) (start b .args .at) (clkWord ++ r1 b)
+unfolding compOf
+l0 b =
+    let d = has-it b in
+    let x = start b .args .x in
+    let e = has-word _ _ _ _ _ (d .before .before .block-word .ensures) (d .before .has .ensures) (not-false _ (d .if1 .left)) in
+    let f = b .flag .ensures ∙ ap (λ v. cond v 1 0) (b .before .has2 .ensures ∙ ap (λ w. has w x) (b .before .before .block-word2 .ensures)) in
+    left-parts _ _ _ (clk-parts (comp (start b)) x (b .flag .result) e f) (start b .pre .3)
+
+abbrev b1 : tie.After-put-word → Read
+b1 c = c .before .before .before
+
+l1 : (c : tie.After-put-word) → Rest (b1 c) (c .put-word .last .0) (c .put-word .result) (r1 (b1 c))
+l1 c = part-put clkWord _ (l0 (b1 c)) (c .put-word .ensures)
+
+abbrev b2 : tie.After-put-behind → Read
+b2 c = b1 (c .before .before .before .before)
+
+l2 : (c : tie.After-put-behind) → Rest (b2 c) (c .put-behind .last .0) (c .put-behind .result) (r2 (b2 c))
+l2 c = part-put (number (b2 c)) _ (l1 (c .before .before .before .before)) (c .put-behind .ensures)
+
+abbrev b3 : tie.After-put-behind2 → Read
+b3 c = b2 (c .before .before .before .before)
+
+l3 : (c : tie.After-put-behind2) → Rest (b3 c) (c .put-behind2 .last .0) (c .put-behind2 .result) r3
+l3 c = part-put (set (b3 c)) _ (l2 (c .before .before .before .before)) (c .put-behind2 .ensures)
 
 returns : tie.Need-returns
 unfolding compOf
-returns c = put-as (nothing-put _ _) _ (sym (no-clk (compOf (now (c .before .before .before .before .before .args .t)) (c .before .before .before .before .before .args .i)) (c .before .before .before .before .before .args .x) (has-word _ _ _ _ _ (c .before .before .block-word .ensures) (c .before .has .ensures) (not-true _ (c .if1 .taken)))))
+returns c =
+    let s = c .before .before .before .before .before in
+    let e = has-word _ _ _ _ _ (c .before .before .block-word .ensures) (c .before .has .ensures) (not-true _ (c .if1 .taken)) in
+    put-as (nothing-put _ _) _ (sym (no-clk (comp s) (s .args .x) e))
 
 put-word-requires : tie.Need-put-word-requires
-unfolding compOf
-put-word-requires c κs = left-room (l0 (now (c .before .before .before .before .before .before .before .before .before .before .args .out)) (c .before .before .before .before .before .before .before .before .before .before .args .at) (compOf (now (c .before .before .before .before .before .before .before .before .before .before .args .t)) (c .before .before .before .before .before .before .before .before .before .before .args .i)) (c .before .before .before .before .before .before .before .before .before .before .args .x) (c .before .before .flag .result) (has-word _ _ _ _ _ (c .before .before .before .before .before .before .before .block-word .ensures) (c .before .before .before .before .before .before .has .ensures) (not-false _ (c .before .before .before .before .before .if1 .left))) (c .before .before .flag .ensures ∙ ap (λ b. cond b 1 0) (c .before .before .before .has2 .ensures ∙ ap (λ w. has w (c .before .before .before .before .before .before .before .before .before .before .args .x)) (c .before .before .before .before .block-word2 .ensures))) (c .before .before .before .before .before .before .before .before .before .before .pre .3))
+put-word-requires c κs = part-room clkWord _ (l0 (c .before .before))
 
 put-behind-requires : tie.Need-put-behind-requires
-unfolding compOf
-put-behind-requires c κs = left-room (l1 (now (c .before .before .before .before .before .before .before .before .before .before .before .before .before .before .args .out)) (c .before .before .before .before .before .before .before .before .before .before .before .before .before .before .args .at) (compOf (now (c .before .before .before .before .before .before .before .before .before .before .before .before .before .before .args .t)) (c .before .before .before .before .before .before .before .before .before .before .before .before .before .before .args .i)) (c .before .before .before .before .before .before .before .before .before .before .before .before .before .before .args .x) (c .before .before .before .before .before .before .flag .result) (has-word _ _ _ _ _ (c .before .before .before .before .before .before .before .before .before .before .before .block-word .ensures) (c .before .before .before .before .before .before .before .before .before .before .has .ensures) (not-false _ (c .before .before .before .before .before .before .before .before .before .if1 .left))) (c .before .before .before .before .before .before .flag .ensures ∙ ap (λ b. cond b 1 0) (c .before .before .before .before .before .before .before .has2 .ensures ∙ ap (λ w. has w (c .before .before .before .before .before .before .before .before .before .before .before .before .before .before .args .x)) (c .before .before .before .before .before .before .before .before .block-word2 .ensures))) (c .before .before .before .before .before .before .before .before .before .before .before .before .before .before .pre .3) (c .before .before .before .put-word .ensures))
+put-behind-requires c κs = let d = c .before .before .before in part-room (number (b1 d)) _ (l1 d)
 
 put-behind-requires-2 : tie.Need-put-behind-requires-2
-unfolding compOf
-put-behind-requires-2 c κs = left-room (l2 (now (c .before .before .before .before .before .before .before .before .before .before .before .before .before .before .before .before .before .before .args .out)) (c .before .before .before .before .before .before .before .before .before .before .before .before .before .before .before .before .before .before .args .at) (compOf (now (c .before .before .before .before .before .before .before .before .before .before .before .before .before .before .before .before .before .before .args .t)) (c .before .before .before .before .before .before .before .before .before .before .before .before .before .before .before .before .before .before .args .i)) (c .before .before .before .before .before .before .before .before .before .before .before .before .before .before .before .before .before .before .args .x) (c .before .before .before .before .before .before .before .before .before .before .flag .result) (has-word _ _ _ _ _ (c .before .before .before .before .before .before .before .before .before .before .before .before .before .before .before .block-word .ensures) (c .before .before .before .before .before .before .before .before .before .before .before .before .before .before .has .ensures) (not-false _ (c .before .before .before .before .before .before .before .before .before .before .before .before .before .if1 .left))) (c .before .before .before .before .before .before .before .before .before .before .flag .ensures ∙ ap (λ b. cond b 1 0) (c .before .before .before .before .before .before .before .before .before .before .before .has2 .ensures ∙ ap (λ w. has w (c .before .before .before .before .before .before .before .before .before .before .before .before .before .before .before .before .before .before .args .x)) (c .before .before .before .before .before .before .before .before .before .before .before .before .block-word2 .ensures))) (c .before .before .before .before .before .before .before .before .before .before .before .before .before .before .before .before .before .before .pre .3) (c .before .before .before .before .before .before .before .put-word .ensures) (c .before .before .before .put-behind .ensures))
+put-behind-requires-2 c κs = let d = c .before .before .before in part-room (set (b2 d)) _ (l2 d)
 
 put-byte-requires : tie.Need-put-byte-requires
-unfolding compOf
-put-byte-requires c κs = omega (arith, last-room (l3 (now (c .before .before .before .before .before .before .before .before .before .before .before .before .before .before .before .before .before .before .before .before .before .before .args .out)) (c .before .before .before .before .before .before .before .before .before .before .before .before .before .before .before .before .before .before .before .before .before .before .args .at) (compOf (now (c .before .before .before .before .before .before .before .before .before .before .before .before .before .before .before .before .before .before .before .before .before .before .args .t)) (c .before .before .before .before .before .before .before .before .before .before .before .before .before .before .before .before .before .before .before .before .before .before .args .i)) (c .before .before .before .before .before .before .before .before .before .before .before .before .before .before .before .before .before .before .before .before .before .before .args .x) (c .before .before .before .before .before .before .before .before .before .before .before .before .before .before .flag .result) (has-word _ _ _ _ _ (c .before .before .before .before .before .before .before .before .before .before .before .before .before .before .before .before .before .before .before .block-word .ensures) (c .before .before .before .before .before .before .before .before .before .before .before .before .before .before .before .before .before .before .has .ensures) (not-false _ (c .before .before .before .before .before .before .before .before .before .before .before .before .before .before .before .before .before .if1 .left))) (c .before .before .before .before .before .before .before .before .before .before .before .before .before .before .flag .ensures ∙ ap (λ b. cond b 1 0) (c .before .before .before .before .before .before .before .before .before .before .before .before .before .before .before .has2 .ensures ∙ ap (λ w. has w (c .before .before .before .before .before .before .before .before .before .before .before .before .before .before .before .before .before .before .before .before .before .before .args .x)) (c .before .before .before .before .before .before .before .before .before .before .before .before .before .before .before .before .block-word2 .ensures))) (c .before .before .before .before .before .before .before .before .before .before .before .before .before .before .before .before .before .before .before .before .before .before .pre .3) (c .before .before .before .before .before .before .before .before .before .before .before .put-word .ensures) (c .before .before .before .before .before .before .before .put-behind .ensures) (c .before .before .before .put-behind2 .ensures)))
-
-same-length : tie.Need-same-length
-unfolding compOf
-same-length c = put-length (left-last (l3 (now (c .before .before .before .before .before .before .before .before .before .before .before .before .before .before .before .before .before .before .before .before .before .before .before .before .before .args .out)) (c .before .before .before .before .before .before .before .before .before .before .before .before .before .before .before .before .before .before .before .before .before .before .before .before .before .args .at) (compOf (now (c .before .before .before .before .before .before .before .before .before .before .before .before .before .before .before .before .before .before .before .before .before .before .before .before .before .args .t)) (c .before .before .before .before .before .before .before .before .before .before .before .before .before .before .before .before .before .before .before .before .before .before .before .before .before .args .i)) (c .before .before .before .before .before .before .before .before .before .before .before .before .before .before .before .before .before .before .before .before .before .before .before .before .before .args .x) (c .before .before .before .before .before .before .before .before .before .before .before .before .before .before .before .before .before .flag .result) (has-word _ _ _ _ _ (c .before .before .before .before .before .before .before .before .before .before .before .before .before .before .before .before .before .before .before .before .before .before .block-word .ensures) (c .before .before .before .before .before .before .before .before .before .before .before .before .before .before .before .before .before .before .before .before .before .has .ensures) (not-false _ (c .before .before .before .before .before .before .before .before .before .before .before .before .before .before .before .before .before .before .before .before .if1 .left))) (c .before .before .before .before .before .before .before .before .before .before .before .before .before .before .before .before .before .flag .ensures ∙ ap (λ b. cond b 1 0) (c .before .before .before .before .before .before .before .before .before .before .before .before .before .before .before .before .before .before .has2 .ensures ∙ ap (λ w. has w (c .before .before .before .before .before .before .before .before .before .before .before .before .before .before .before .before .before .before .before .before .before .before .before .before .before .args .x)) (c .before .before .before .before .before .before .before .before .before .before .before .before .before .before .before .before .before .before .before .block-word2 .ensures))) (c .before .before .before .before .before .before .before .before .before .before .before .before .before .before .before .before .before .before .before .before .before .before .before .before .before .pre .3) (c .before .before .before .before .before .before .before .before .before .before .before .before .before .before .put-word .ensures) (c .before .before .before .before .before .before .before .before .before .before .put-behind .ensures) (c .before .before .before .before .before .before .put-behind2 .ensures)) (c .before .before .put-byte .ensures)) (c .before .before .before .before .before .before .before .before .before .before .before .before .before .before .before .before .before .before .before .before .before .before .before .before .before .pre .3)
+put-byte-requires c κs = omega (arith, last-room (l3 (c .before .before .before)))
 
 returns-2 : tie.Need-returns-2
-unfolding compOf
-returns-2 c = left-last (l3 (now (c .before .before .before .before .before .before .before .before .before .before .before .before .before .before .before .before .before .before .before .before .before .before .before .before .before .args .out)) (c .before .before .before .before .before .before .before .before .before .before .before .before .before .before .before .before .before .before .before .before .before .before .before .before .before .args .at) (compOf (now (c .before .before .before .before .before .before .before .before .before .before .before .before .before .before .before .before .before .before .before .before .before .before .before .before .before .args .t)) (c .before .before .before .before .before .before .before .before .before .before .before .before .before .before .before .before .before .before .before .before .before .before .before .before .before .args .i)) (c .before .before .before .before .before .before .before .before .before .before .before .before .before .before .before .before .before .before .before .before .before .before .before .before .before .args .x) (c .before .before .before .before .before .before .before .before .before .before .before .before .before .before .before .before .before .flag .result) (has-word _ _ _ _ _ (c .before .before .before .before .before .before .before .before .before .before .before .before .before .before .before .before .before .before .before .before .before .before .block-word .ensures) (c .before .before .before .before .before .before .before .before .before .before .before .before .before .before .before .before .before .before .before .before .before .has .ensures) (not-false _ (c .before .before .before .before .before .before .before .before .before .before .before .before .before .before .before .before .before .before .before .before .if1 .left))) (c .before .before .before .before .before .before .before .before .before .before .before .before .before .before .before .before .before .flag .ensures ∙ ap (λ b. cond b 1 0) (c .before .before .before .before .before .before .before .before .before .before .before .before .before .before .before .before .before .before .has2 .ensures ∙ ap (λ w. has w (c .before .before .before .before .before .before .before .before .before .before .before .before .before .before .before .before .before .before .before .before .before .before .before .before .before .args .x)) (c .before .before .before .before .before .before .before .before .before .before .before .before .before .before .before .before .before .before .before .block-word2 .ensures))) (c .before .before .before .before .before .before .before .before .before .before .before .before .before .before .before .before .before .before .before .before .before .before .before .before .before .pre .3) (c .before .before .before .before .before .before .before .before .before .before .before .before .before .before .put-word .ensures) (c .before .before .before .before .before .before .before .before .before .before .put-behind .ensures) (c .before .before .before .before .before .before .put-behind2 .ensures)) (c .before .before .put-byte .ensures)
+returns-2 c = left-last (l3 (c .before .before .before .before .before .before)) (c .before .before .put-byte .ensures)
+
+same-length : tie.Need-same-length
+same-length c =
+    let l = l3 (c .before .before .before .before .before .before) in
+    put-length (left-last l (c .before .before .put-byte .ensures)) (l .room)
 
 block-word-requires : tie.Need-block-word-requires
 block-word-requires c κs = search needs
