@@ -86,6 +86,21 @@ std::string text_for(Random& random, unsigned number) {
   return random.chance(30) ? drawing::misfit_text(random, text) : second::damaged_text(random, text);
 }
 
+// A text of the second form; for 26 one that is short enough by names of one letter, of which the old text is not.
+std::string named_for(Random& random, unsigned number) {
+  const Drawn drawn(drawing::model(random));
+  const std::string text = second::generate_named(random, drawn.model);
+  switch (number) {
+    case 1: return too_long(random, text);
+    case 8: return random.chance(50) ? "" : "form\t2\n";
+    case 7: return drawing::crowded_names(random);
+    case 26: return drawing::lengthy_names(random);
+    default: break;
+  }
+  if (!within(number, 2, 6) && !within(number, 43, 44)) return text;
+  return random.chance(50) ? second::generate_odd_named(random, drawn.model) : second::damaged_named(random, text);
+}
+
 std::string tree_for(Random& random, const Aim& aim) {
   const unsigned number = number_of(aim);
   const auto size = number == 48 ? second::Size::large : drawing::size(random);
@@ -161,6 +176,12 @@ Loan loan_for(Random& random, const Aim& aim, const Drawn& drawn) {
   if (aim.call == &calls::report) {
     loan.bytes = input_for(random, aim, drawn);
     loan.out = Bytes(number == 24 ? FLOODNEEDLE_REPORT - 1 - random.below(9) : FLOODNEEDLE_REPORT + random.below(9), 0x77);
+    return loan;
+  }
+  if (aim.call == &calls::to_numbers) {
+    const std::string text = named_for(random, number);
+    loan.bytes = drawing::bytes_of(text);
+    loan.out = drawing::noise_bytes(random, number == 24 ? random.below(9) : 40000 + random.below(9));
     return loan;
   }
   if (explains(aim.call)) {

@@ -189,6 +189,12 @@ Pair explain_table(const Subject& s) {
             second::explain(lent(text));
           }};
 }
+// The subject's text is of the second form.
+Pair to_numbers(const Subject& s) {
+  static Bytes out(second::max_text);
+  return {"to_numbers", [&] { floodneedle_to_numbers(s.text.data(), s.text.size(), out.data(), out.size(), &lent_out.answer); },
+          [&] { second::to_numbers(lent(s.text), {out.data(), out.size()}); }};
+}
 Pair explain(const Subject& s) {
   static Bytes out(FLOODNEEDLE_EXPLANATION);
   return {"explain", [&] { floodneedle_explain(s.text.data(), s.text.size(), out.data(), out.size(), &lent_out.answer); }, [&] { second::explain(lent(s.text)); }};
@@ -370,6 +376,10 @@ int main(int count, char** arguments) {
   lines(texts, read);
   lines(texts, write);
   lines(texts, recognise);
+
+  const std::vector<Subject> named_texts = {named(long_rows(2)), named(long_rows(16)), named(long_rows(62))};
+  head("Texts of the second form of 1 KB, 8 KB and 31 KB, made texts of the old one");
+  lines(named_texts, to_numbers);
 
   const std::vector<Subject> trees = {chained_tree(1, 0, 0, 0), chained_tree(2, 1, 1, 0),  chained_tree(4, 3, 3, 0), chained_tree(7, 3, 15, 0),
                                       chained_tree(5, 5, 4, 0), chained_tree(11, 0, 10, 0), chained_tree(2, 0, 0, 5)};

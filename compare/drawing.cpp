@@ -168,6 +168,32 @@ std::string misdrawn_tree(Random& random, unsigned condition) {
   return text_of(tree);
 }
 
+std::string crowded_names(Random& random) {
+  std::string text = "form\t2\nname\t5\tx\n";
+  if (random.chance(50)) {
+    for (unsigned c = 0; c <= second::max_components; ++c) text += "comp\t1\t0\n";
+    return text;
+  }
+  text += "comp\t128\t0\nact\tx\tin\nclk\t3\t0\nclk\t4\t0\nclk\t5\t0\n";
+  for (unsigned row = 0; row <= 1024; ++row)
+    text += "row\t" + std::to_string(row / 9) + "\t-\tx\t" + std::vector<std::string>{"-", "-", "3", "4", "3,4", "5", "3,5", "4,5", "3,4,5"}[row % 9] + "\t" +
+            (row % 9 == 1 ? "1\n" : "0\n");
+  return text;
+}
+
+std::string lengthy_names(Random& random) {
+  std::string text = "form\t2\n";
+  for (unsigned a = 0; a < 8; ++a) text += "name\t" + std::to_string(56 + a) + "\t" + static_cast<char>('a' + a) + "\n";
+  text += "comp\t128\t0\n";
+  for (unsigned a = 0; a < 8; ++a) text += std::string("act\t") + static_cast<char>('a' + a) + "\tin\n";
+  for (unsigned x = 10; x < 20; ++x) text += "clk\t" + std::to_string(x) + "\t0\n";
+  const unsigned target = 10 + random.below(90);
+  for (unsigned row = 0; row < 1024; ++row)
+    text += "row\t" + std::to_string(row / 8) + "\t-\t" + static_cast<char>('a' + row % 8) + "\t" + (row % 4 == 0 ? "10,11,12,13,14" : "10,11,12,13,14,15") + "\t" +
+            std::to_string(target) + "\n";
+  return text;
+}
+
 std::string misfit_text(Random& random, std::string text) {
   static const std::vector<std::string> numbers = {"0", "1", "2", "3", "5", "12", "31", "62", "63", "64", "65", "127", "128", "129", "99999"};
   static const std::vector<std::string> misshapen = {"", "-", "00", "007", "100000", "1x", "+1", "--", "0-"};

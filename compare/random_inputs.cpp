@@ -96,6 +96,21 @@ void try_explanations(Random& random, const Table& table, const Drawn& drawn) {
   hold("explained alike, as text and as table", read.engine == held.engine && read.left.out.content() == held.left.out.content(), where);
 }
 
+// A text of the second form, whole, damaged and once more: at times the buffer is a byte too short, or much too short.
+void try_names(Random& random, const Drawn& drawn) {
+  const std::string whole = second::generate_named(random, drawn.model);
+  std::string text = random.chance(60) ? whole : second::generate_odd_named(random, drawn.model);
+  for (unsigned turn = 0; turn < 3; ++turn) {
+    Loan loan;
+    loan.bytes = drawing::bytes_of(text);
+    const unsigned length = random.below(4);
+    const std::size_t exact = drawn.text.size();
+    loan.out = drawing::noise_bytes(random, length == 0 ? second::max_text + 2000 : length == 1 ? exact : length == 2 ? exact + random.below(40) : exact - 1 - random.below(exact));
+    try_call(calls::to_numbers, loan);
+    text = second::damaged_named(random, text);
+  }
+}
+
 // Every call that takes a table, on one that need not be the model's.
 void try_calls(Random& random, const Table& table, const Drawn& drawn) {
   Loan loan;
@@ -319,6 +334,7 @@ void try_input(std::uint64_t seed, std::uint64_t index) {
   try_calls(random, drawing::lengthened(random, damaged), drawn);
   try_sequence(random, drawn.text);
   try_explanations(random, drawing::lengthened(random, drawn.table), drawn);
+  try_names(random, drawn);
   try_repairs(random, drawn);
   try_plant(random);
   try_not_alone(random);

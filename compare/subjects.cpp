@@ -4,6 +4,7 @@
 #include "random.hpp"
 #include "samples.hpp"
 #include "table.hpp"
+#include "names.hpp"
 #include "text_writing.hpp"
 #include "texts.hpp"
 
@@ -223,6 +224,19 @@ Subject far_clash(unsigned states) {
   for (unsigned s = 0; s < states; ++s) add_row(component, s, 1, 0, (s + 1) % states);
   add_row(component, states - 1, 2, 0, 1);
   return subject(counted(states, "in a row, two actions part in the last"), {{component}});
+}
+
+Subject named(Subject of) {
+  second::Sheet sheet = second::default_sheet(of.model);
+  unsigned next = 0;
+  for (auto& name : sheet)
+    if (name) {
+      *name = std::string(1, static_cast<char>('a' + next % 24)) + (next < 24 ? "" : std::to_string(next / 24));
+      ++next;
+    }
+  const std::string text = second::named_text_of_model(of.model, sheet);
+  of.text = Bytes(text.begin(), text.end());
+  return of;
 }
 
 Subject chained_tree(unsigned basic, unsigned boxed, unsigned gates, unsigned pands) {

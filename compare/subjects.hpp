@@ -13,6 +13,9 @@ struct Subject {
   Bytes state;  // the start
 };
 
+// The same subject with its text in the second form, by names of one letter and a digit where there are two dozen or more.
+Subject named(Subject of);
+
 // Model M of paper 01, from the state 1,0.
 Subject paper_model();
 

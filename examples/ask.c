@@ -19,6 +19,7 @@
  *                                              SplitMix64 from this seed on
  *   write BYTES | text                         the text into a buffer of so many bytes; the text itself
  *   nothing                                    accept, on a table of zeros
+ *   numbers                                    of a text in the second form: the old text
  *   version                                    the version that was linked; no model is read
  * A refusal is printed as the program `settle` prints it. */
 #include <stdio.h>
@@ -138,6 +139,14 @@ static int explain(void) {
   static uint8_t out[FLOODNEEDLE_EXPLANATION];
   floodneedle_explain_table(table, FLOODNEEDLE_TABLE, out, sizeof out, &answer);
   fwrite(out, 1, (size_t)answer.count, stdout);
+  return answer.kind == FLOODNEEDLE_DONE;
+}
+
+/* The text that was read is of the second form, so no table is made of it. */
+static int to_numbers(size_t bytes) {
+  static uint8_t old[FLOODNEEDLE_TEXT];
+  floodneedle_to_numbers(text, bytes, old, sizeof old, &answer);
+  fwrite(old, 1, (size_t)answer.count, stdout);
   return answer.kind == FLOODNEEDLE_DONE;
 }
 
@@ -272,6 +281,8 @@ int main(int words, char **word) {
   }
   if (strcmp(word[1], "nothing") == 0) {
     floodneedle_accept(table, FLOODNEEDLE_TABLE, &answer);
+  } else if (strcmp(word[1], "numbers") == 0) {
+    if (to_numbers(read_text())) return 0;
   } else {
     tree = strcmp(word[1], "tree") == 0;
     (tree ? floodneedle_read_tree : floodneedle_read)(text, read_text(), table, FLOODNEEDLE_TABLE, &answer);

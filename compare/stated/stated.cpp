@@ -33,6 +33,7 @@ void try_stated() {
   stated_repairs();
   stated_requests();
   stated_explanations();
+  stated_names();
   stated_sizes();
 }
 

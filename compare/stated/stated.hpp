@@ -25,6 +25,7 @@ void stated_merges();
 void stated_repairs();
 void stated_requests();
 void stated_explanations();
+void stated_names();
 void stated_sizes();
 
 // ---- what may be stated

@@ -13,6 +13,7 @@ use Rattle.layout.specs.Lent.{tableAfter}
 use Rattle.table.specs.IsImage.{isImage}
 use Rattle.reading.specs.Read.{readOn}
 use Rattle.plant.specs.ReadTreeCall.{readTreeOn}
+use Rattle.names.specs.Names.{numbersOn, numbersLeft}
 use Rattle.text.specs.Write.{writeOn, textAfter}
 use Rattle.merge.specs.Merging.{mergeOn}
 use Rattle.repair.specs.Repairing.{repairOn, numberIn, tableWith, listWith}
@@ -71,6 +72,10 @@ module _ (t : List ℕ) (p q b d : List ℕ) where
     pub floodneedle_read_tree-determined : (p ≡ checkedWords (doneOf (readTreeOn t old))) × (b ≡ tableAfter (readTreeOn t old) old)
         → (q ≡ checkedWords (doneOf (readTreeOn t old))) × (d ≡ tableAfter (readTreeOn t old) old) → (p ≡ q) × (b ≡ d)
     floodneedle_read_tree-determined e f = (one (e .0) (f .0), one (e .1) (f .1))
+
+    pub floodneedle_to_numbers-determined : (p ≡ writtenWords (numbersOn t old)) × (b ≡ numbersLeft t old) → (q ≡ writtenWords (numbersOn t old)) × (d ≡ numbersLeft t old)
+        → (p ≡ q) × (b ≡ d)
+    floodneedle_to_numbers-determined e f = (one (e .0) (f .0), one (e .1) (f .1))
 
     pub floodneedle_write-determined : (p ≡ writtenWords (writeOn t old)) × (b ≡ textAfter (writeOn t old) t old)
         → (q ≡ writtenWords (writeOn t old)) × (d ≡ textAfter (writeOn t old) t old) → (p ≡ q) × (b ≡ d)

@@ -19,6 +19,7 @@ ghost use Rattle.merge.specs.Merging.{mergeOn};
 ghost use Rattle.repair.specs.Repairing.{repairOn, numberIn, tableWith, listWith};
 ghost use Rattle.report.specs.Reported.{lengthTold, reportIn};
 ghost use Rattle.explain.specs.Explain.{textExplained, tableExplained, lengthIn, bufferWith};
+ghost use Rattle.names.specs.Names.{numbersOn, numbersLeft};
 ghost use Rattle.model.specs.Reading.{readOf};
 ghost use Rattle.table.specs.IsImage.{isImage};
 ghost use Rattle.words.specs.Bytes.{stateOf};
@@ -437,5 +438,19 @@ pub extern "C" fn floodneedle_explain_table(
     ensures buffer { λ _. ⌜ now (out .exit) ≡ bufferWith (tableExplained (now (table .entry)) (now (out .entry))) (now (out .entry)) ⌝ }
 {
     let written = explain::explain_table(table, out);
+    *answer = words::written_words(written);
+}
+
+// New to old (paper 02, request 7): the text of the second form, its names exchanged for their numbers.
+#[no_mangle]
+pub extern "C" fn floodneedle_to_numbers(
+    text: &[u8],
+    old: &mut [u8],
+    answer: &mut [u64; Words::COUNT],
+)
+    ensures answer { λ _. ⌜ now (answer .exit) ≡ writtenWords (numbersOn (now (text .entry)) (now (old .entry))) ⌝ }
+    ensures buffer { λ _. ⌜ now (old .exit) ≡ numbersLeft (now (text .entry)) (now (old .entry)) ⌝ }
+{
+    let written = names::to_numbers(text, old);
     *answer = words::written_words(written);
 }

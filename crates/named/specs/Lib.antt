@@ -1,0 +1,3 @@
+pub mod NamedText
+pub mod ReadNamed
+pub mod Converted

@@ -1,0 +1,10 @@
+pub mod Lookup
+pub mod Taking
+pub mod Forward
+pub mod Declared
+pub mod TextRead
+pub mod Back
+pub mod Exactly
+pub mod Defaults
+pub mod RoundTrip
+pub mod Examples

@@ -1,0 +1,6 @@
+pub mod PlaceLaws
+pub mod NameTurns
+pub mod JudgeLaws
+pub mod ColumnLaws
+pub mod BodyTurns
+pub mod OldLaws

@@ -1,0 +1,3 @@
+pub mod ConvertLaws
+pub mod Determined
+pub mod Exactly
