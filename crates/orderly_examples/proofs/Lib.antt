@@ -1,4 +1,5 @@
 pub mod Passing
 pub mod Refusing
 pub mod Paths
+pub mod Every
 pub mod Witness

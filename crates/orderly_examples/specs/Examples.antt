@@ -3,7 +3,7 @@
 use mathlib.Core.Path.{_≡_}
 use mathlib.Core.Bool.{Bool, true}
 use mathlib.Core.Option.{Option, none, some}
-use mathlib.Core.List.{List, [], _∷_, map}
+use mathlib.Core.List.{List, [], _∷_, _++_, map}
 use Prim.Native.Nat.{ℕ}
 use Prim.Native.String.{String}
 use Rattle.laws.specs.Fold.{over}
@@ -247,6 +247,10 @@ settledAfter =
     ∷ Q (settles G (0 ∷ 1 ∷ 1 ∷ 0 ∷ 0 ∷ 1 ∷ []) 100) (settled true 1 1 (2 ∷ []) (0 ∷ 1 ∷ []))
     ∷ Q (settles M5 (0 ∷ 1 ∷ []) 100) (settled true 2 1 (1 ∷ 2 ∷ []) (0 ∷ 2 ∷ []))
     ∷ []
+
+-- all of them, as one table
+abbrev pub examples : List Case
+examples = confluentSystems ++ letThrough ++ letThroughToo ++ refusedByBoth ++ mustBeRefused ++ mustBeRefusedToo ++ walked ++ settledAfter
 
 -- every case asks and answers as it says
 abbrev pub Hold : List Case → Type 0

@@ -1,0 +1,78 @@
+-- `roundlines::put_done` meets its contract: field by field.
+use mathlib.Core.List.{[], _∷_, _++_}
+use Rattle.answer.specs.State.{partsOf}
+use Rattle.model.specs.Text.{tab, lf, decimal, joined}
+use Rattle.roundlines.specs.Lines.{doneWord}
+use Rattle.roundlines.proofs.RoundLaws.{done-parts}
+use native.Mathlib.Omega.{arith}
+use denote.Ref.{now}
+use Rattle.print.proofs.LaidLaws.{left-last, last-room}
+use Rattle.tell.proofs.TellLaws.{left-parts, part-room, part-put}
+use borrow.Author.Needs.{needs}
+use Rattle.roundlines.proofs.put_done.Statement.{statement}
+use Rattle.roundlines.proofs.put_done.Tie as tie
+
+slice-aggregate-put-word : tie.Need-slice-aggregate-put-word
+slice-aggregate-put-word c = search needs
+
+put-word-requires : tie.Need-put-word-requires
+put-word-requires c κs =
+    let s0 = c .before .before .before in
+    let a = s0 .args in
+    let l0 = left-parts (now (a .out)) (a .at) (doneWord ++ ((tab ∷ decimal (a .k)) ++ ((tab ∷ []) ++ ((joined (partsOf (a .x))) ++ (lf ∷ []))))) (done-parts (a .k) (partsOf (a .x))) (s0 .pre .1) in
+    part-room doneWord ((tab ∷ decimal (a .k)) ++ ((tab ∷ []) ++ ((joined (partsOf (a .x))) ++ (lf ∷ [])))) l0
+
+put-behind-requires : tie.Need-put-behind-requires
+put-behind-requires c κs =
+    let s0 = c .before .before .before .before .before .before .before in
+    let a = s0 .args in
+    let l0 = left-parts (now (a .out)) (a .at) (doneWord ++ ((tab ∷ decimal (a .k)) ++ ((tab ∷ []) ++ ((joined (partsOf (a .x))) ++ (lf ∷ []))))) (done-parts (a .k) (partsOf (a .x))) (s0 .pre .1) in
+    let l1 = part-put doneWord ((tab ∷ decimal (a .k)) ++ ((tab ∷ []) ++ ((joined (partsOf (a .x))) ++ (lf ∷ [])))) l0 (c .before .before .before .put-word .ensures) in
+    part-room (tab ∷ decimal (a .k)) ((tab ∷ []) ++ ((joined (partsOf (a .x))) ++ (lf ∷ []))) l1
+
+put-byte-requires : tie.Need-put-byte-requires
+put-byte-requires c κs =
+    let s0 = c .before .before .before .before .before .before .before .before .before .before .before in
+    let a = s0 .args in
+    let l0 = left-parts (now (a .out)) (a .at) (doneWord ++ ((tab ∷ decimal (a .k)) ++ ((tab ∷ []) ++ ((joined (partsOf (a .x))) ++ (lf ∷ []))))) (done-parts (a .k) (partsOf (a .x))) (s0 .pre .1) in
+    let l1 = part-put doneWord ((tab ∷ decimal (a .k)) ++ ((tab ∷ []) ++ ((joined (partsOf (a .x))) ++ (lf ∷ [])))) l0 (c .before .before .before .before .before .before .before .put-word .ensures) in
+    let l2 = part-put (tab ∷ decimal (a .k)) ((tab ∷ []) ++ ((joined (partsOf (a .x))) ++ (lf ∷ []))) l1 (c .before .before .before .put-behind .ensures) in
+    omega (arith, part-room (tab ∷ []) ((joined (partsOf (a .x))) ++ (lf ∷ [])) l2)
+
+put-state-requires : tie.Need-put-state-requires
+put-state-requires c κs =
+    let s0 = c .before .before .before .before .before .before .before .before .before .before .before .before .before .before .before in
+    let a = s0 .args in
+    let l0 = left-parts (now (a .out)) (a .at) (doneWord ++ ((tab ∷ decimal (a .k)) ++ ((tab ∷ []) ++ ((joined (partsOf (a .x))) ++ (lf ∷ []))))) (done-parts (a .k) (partsOf (a .x))) (s0 .pre .1) in
+    let l1 = part-put doneWord ((tab ∷ decimal (a .k)) ++ ((tab ∷ []) ++ ((joined (partsOf (a .x))) ++ (lf ∷ [])))) l0 (c .before .before .before .before .before .before .before .before .before .before .before .put-word .ensures) in
+    let l2 = part-put (tab ∷ decimal (a .k)) ((tab ∷ []) ++ ((joined (partsOf (a .x))) ++ (lf ∷ []))) l1 (c .before .before .before .before .before .before .before .put-behind .ensures) in
+    let l3 = part-put (tab ∷ []) ((joined (partsOf (a .x))) ++ (lf ∷ [])) l2 (c .before .before .before .put-byte .ensures) in
+    (s0 .pre .0, part-room (joined (partsOf (a .x))) (lf ∷ []) l3)
+
+put-byte-requires-2 : tie.Need-put-byte-requires-2
+put-byte-requires-2 c κs =
+    let s0 = c .before .before .before .before .before .before .before .before .before .before .before .before .before .before .before .before .before .before .before in
+    let a = s0 .args in
+    let l0 = left-parts (now (a .out)) (a .at) (doneWord ++ ((tab ∷ decimal (a .k)) ++ ((tab ∷ []) ++ ((joined (partsOf (a .x))) ++ (lf ∷ []))))) (done-parts (a .k) (partsOf (a .x))) (s0 .pre .1) in
+    let l1 = part-put doneWord ((tab ∷ decimal (a .k)) ++ ((tab ∷ []) ++ ((joined (partsOf (a .x))) ++ (lf ∷ [])))) l0 (c .before .before .before .before .before .before .before .before .before .before .before .before .before .before .before .put-word .ensures) in
+    let l2 = part-put (tab ∷ decimal (a .k)) ((tab ∷ []) ++ ((joined (partsOf (a .x))) ++ (lf ∷ []))) l1 (c .before .before .before .before .before .before .before .before .before .before .before .put-behind .ensures) in
+    let l3 = part-put (tab ∷ []) ((joined (partsOf (a .x))) ++ (lf ∷ [])) l2 (c .before .before .before .before .before .before .before .put-byte .ensures) in
+    let l4 = part-put (joined (partsOf (a .x))) (lf ∷ []) l3 (c .before .before .before .put-state .ensures) in
+    omega (arith, last-room l4)
+
+same-length : tie.Need-same-length
+same-length c = search needs
+
+returns : tie.Need-returns
+returns c =
+    let s0 = c .before .before .before .before .before .before .before .before .before .before .before .before .before .before .before .before .before .before .before .before .before .before in
+    let a = s0 .args in
+    let l0 = left-parts (now (a .out)) (a .at) (doneWord ++ ((tab ∷ decimal (a .k)) ++ ((tab ∷ []) ++ ((joined (partsOf (a .x))) ++ (lf ∷ []))))) (done-parts (a .k) (partsOf (a .x))) (s0 .pre .1) in
+    let l1 = part-put doneWord ((tab ∷ decimal (a .k)) ++ ((tab ∷ []) ++ ((joined (partsOf (a .x))) ++ (lf ∷ [])))) l0 (c .before .before .before .before .before .before .before .before .before .before .before .before .before .before .before .before .before .before .put-word .ensures) in
+    let l2 = part-put (tab ∷ decimal (a .k)) ((tab ∷ []) ++ ((joined (partsOf (a .x))) ++ (lf ∷ []))) l1 (c .before .before .before .before .before .before .before .before .before .before .before .before .before .before .put-behind .ensures) in
+    let l3 = part-put (tab ∷ []) ((joined (partsOf (a .x))) ++ (lf ∷ [])) l2 (c .before .before .before .before .before .before .before .before .before .before .put-byte .ensures) in
+    let l4 = part-put (joined (partsOf (a .x))) (lf ∷ []) l3 (c .before .before .before .before .before .before .put-state .ensures) in
+    left-last l4 (c .before .before .put-byte2 .ensures)
+
+pub put-done-spec : {M : Type 1} → statement M
+put-done-spec = tie.close (tie.spec slice-aggregate-put-word put-word-requires put-behind-requires put-byte-requires put-state-requires put-byte-requires-2 same-length returns)
