@@ -76,7 +76,7 @@ fn end(
 }
 
 // A round settles, 42 where it does not, and ends.
-fn close(
+pub fn close(
     t: &[u64],
     text: &[u8],
     numbers: &[u64],

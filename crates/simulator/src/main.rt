@@ -1,20 +1,24 @@
 // The program `simulate` (paper 02, 4/13): it reads a file of samples and, from standard input, a model text, simulates so many later rounds, and writes
-// how that ended, or the line of a refusal.
+// how that ended, or the line of a refusal; where it is asked to, a line for each round as the round ends.
 // No answer without samples and a model that were read to their ends: where a read fails, nothing goes to standard output.
 use answer::Checked;
 use answer::Ended;
 use answer::Model;
+use answer::State;
+use feed::Source;
 use fields::Cursor;
 use fields::NumberScan;
 use libc::EFBIG;
 use libc::STDERR_FILENO;
 use libc::STDIN_FILENO;
 use libc::STDOUT_FILENO;
+use rounds::Plan;
 use stream::Moved;
 ghost use mathlib.Core.Path.{_≡_};
 ghost use Prim.Native.Nat.{_≤_};
 ghost use lib.ListN.{length};
 ghost use Rattle.layout.specs.Image.{Image, modelOf};
+ghost use Rattle.rounds.specs.Rounds.{Runnable};
 ghost use Rattle.steplines.specs.Run.{mostBytes};
 ghost use Rattle.printout.specs.Printed.{Printed, Filled};
 ghost use Rattle.simulator.specs.Simulated.{endsText, simulatedText};
@@ -65,21 +69,75 @@ fn answer(input: &[u8], samples: &[u8], rounds: usize) {
     }
 }
 
-// ---- the arguments and the two inputs
-fn usage() {
-    stream::write(STDERR_FILENO, b"usage: ./simulate ROUNDS SAMPLES < MODEL\n");
+// ---- the lines of the rounds: false says that one was not written. Whatever is refused before round 0 has no line: it is told as the end.
+fn lines_of(t: &[u64], recorded: &[u8], rounds: usize) -> bool
+    requires { ⌜ Runnable (now t) ⌝ }
+{
+    if State::BUDGET < rounds {
+        return true;
+    }
+    let mut at = [0usize; Model::CLOCKS];
+    let checked = samples::scan(recorded, enabling::declared(t), &mut at);
+    match checked {
+        Checked::Fine => lining::lines(
+            t,
+            Plan {
+                from: Source::Lists,
+                rounds,
+            },
+            recorded,
+            &[],
+            &mut at,
+        ),
+        Checked::Refused(_) => true,
+    }
 }
 
-fn with_model(samples: &[u8], rounds: usize) {
+fn lines_on(t: &[u64], recorded: &[u8], rounds: usize) -> bool {
+    let checked = orderly::may_walk(t);
+    match checked {
+        Checked::Fine => lines_of(t, recorded, rounds),
+        Checked::Refused(_) => true,
+    }
+}
+
+fn lines(input: &[u8], recorded: &[u8], rounds: usize) -> bool {
+    let mut table = [0u64; layout::WORDS];
+    let checked = text::read(input, &mut table);
+    match checked {
+        Checked::Fine => lines_on(&table, recorded, rounds),
+        Checked::Refused(_) => true,
+    }
+}
+
+// The rounds are gone through twice: for their lines, as they come, and by the call, whose answer the last lines are.
+fn tell(input: &[u8], recorded: &[u8], rounds: usize, show: bool) {
+    if show {
+        if !lines(input, recorded, rounds) {
+            return;
+        }
+    }
+    answer(input, recorded, rounds)
+}
+
+// ---- the arguments and the two inputs
+fn usage() {
+    stream::write(
+        STDERR_FILENO,
+        b"usage: ./simulate [--lines] ROUNDS SAMPLES < MODEL\n",
+    );
+}
+
+fn with_model(samples: &[u8], rounds: usize, show: bool) {
     let mut input = printout::empty_input();
     match stream::read(STDIN_FILENO, &mut input) {
-        Moved::Bytes(n) => answer(&input[..n], samples, rounds),
+        Moved::Bytes(n) => tell(&input[..n], samples, rounds, show),
         Moved::Failed(e) => failing::say(b"simulate: standard input could not be read", e),
     }
 }
 
 // The samples are read into a space that is lent, to the end of the file.
-fn read_samples(fd: i32, rounds: usize, space: &mut [u8]) {
+fn read_samples(fd: i32, rounds: usize, show: bool, space: &mut [u8]) {
     match stream::read(fd, space) {
         Moved::Bytes(n) => {
             if n == space.len() {
@@ -89,20 +147,20 @@ fn read_samples(fd: i32, rounds: usize, space: &mut [u8]) {
                 );
                 return;
             }
-            with_model(&space[..n], rounds)
+            with_model(&space[..n], rounds, show)
         }
         Moved::Failed(e) => failing::say(b"simulate: the file of samples could not be read", e),
     }
 }
 
 // The space stands on the stack once: returned from a function it would stand there twice in a program that is compiled without optimization.
-fn with_samples(fd: i32, rounds: usize) {
+fn with_samples(fd: i32, rounds: usize, show: bool) {
     let mut space = [0u8; SAMPLES];
-    read_samples(fd, rounds, &mut space)
+    read_samples(fd, rounds, show, &mut space)
 }
 
 // The file that argument i names.
-fn with_file(i: usize, rounds: usize) {
+fn with_file(i: usize, rounds: usize, show: bool) {
     let mut path = io::buffer();
     let n = os::arg(i, &mut path);
     let fd = os::open_read(&path[..n]);
@@ -113,7 +171,7 @@ fn with_file(i: usize, rounds: usize) {
         );
         return;
     }
-    with_samples(fd, rounds)
+    with_samples(fd, rounds, show)
 }
 
 // The whole of a word is a number.
@@ -136,18 +194,22 @@ fn rounds_in(word: &[u8]) -> Asked {
 }
 
 // ROUNDS is argument i, and SAMPLES argument j.
-fn from_arguments(i: usize, j: usize) {
+fn from_arguments(i: usize, j: usize, show: bool) {
     let mut word = io::buffer();
     let n = os::arg(i, &mut word);
     match rounds_in(&word[..n]) {
-        Asked::Rounds(k) => with_file(j, k),
+        Asked::Rounds(k) => with_file(j, k, show),
         Asked::Wrong => usage(),
     }
 }
 
+// `./simulate` sees to it that the first of three arguments is `--lines`.
 fn main() {
-    if os::arg_count() == 3 {
-        from_arguments(1, 2);
+    let count = os::arg_count();
+    if count == 3 {
+        from_arguments(1, 2, false);
+    } else if count == 4 {
+        from_arguments(2, 3, true);
     } else {
         usage();
     }
