@@ -25,6 +25,7 @@ module _ {A : Type 0} where
   pub at_in : (d : A) {x : A} (xs : List A) → In x xs → (k : ℕ) × (k < length xs) × (get_or xs k d ≡ x)
   at_in d (x ∷ xs) (here e) = (0, omega arith, sym e)
   at_in d (x ∷ xs) (there m) = let r = at_in d xs m in (suc r.0, omega (arith, r.1), r.2)
+  at_in d [] x'' = elim x'' [ ]
 
   -- the lists of f from k on, of n places: a member is one of some f j
   pub in-spread : (f : ℕ → List A) {x : A} (k n j : ℕ) → k ≤ j → j < k + n → In x (f j) → In x (spread f k n)
@@ -47,6 +48,7 @@ module _ {A B : Type 0} (f : A → B) where
   pub in_map : {x : A} (xs : List A) → In x xs → In (f x) (map f xs)
   in_map (x ∷ xs) (here e) = here (ap f e)
   in_map (x ∷ xs) (there m) = there (in_map xs m)
+  in_map [] x'' = elim x'' [ ]
 
   pub map-in : {y : B} (xs : List A) → In y (map f xs) → (x : A) × In x xs × (y ≡ f x)
   map-in [] m = absurd (in-none m)
@@ -98,6 +100,7 @@ module _ {A : Type 0} (R : A → A → Type 0) where
   pairwise-two {x} {y} (z ∷ zs) p (here e) (there m) = inr (inl (rw e (p.0 y m)))
   pairwise-two {x} {y} (z ∷ zs) p (there l) (here f) = inr (inr (rw f (p.0 x l)))
   pairwise-two (z ∷ zs) p (there l) (there m) = pairwise-two zs p.1 l m
+  pairwise-two {x = x} {y = y} [] p x4 _ = elim x4 [ ]
 
 pub pairwise_map : {A B : Type 0} (R : A → A → Type 0) (S : B → B → Type 0) (f : A → B) (xs : List A) → Pairwise R xs
     → ((x y : A) → In x xs → In y xs → R x y → S (f x) (f y)) → Pairwise S (map f xs)
