@@ -61,7 +61,7 @@ struct Case {
   bool ignores_pipe = false;  // SIGPIPE ignored when the command starts
   int signal = 0;             // sent to the program once it waits for its input
   std::string system;         // SYSTEM, with the stand-in
-  bool any_err = false;       // what the emulator says of a signal is its own
+  bool any_err = false;       // what is said of a signal is the shell's own
 };
 
 struct Limits {
@@ -216,8 +216,8 @@ bool sleeps(pid_t pid) {
 void end_program(pid_t command, bool script, int signal, const std::string& program, const std::atomic<bool>& over) {
   for (int calm = 0; !over;) {
     const pid_t pid = program_of(command, script);
-    const std::string words = pid > 0 ? words_of(pid) : "";
-    const bool runs = words.find("ld-linux") != std::string::npos && words.find(program) != std::string::npos;
+    const std::string words = pid > 0 ? words_of(pid) : "", first = words.substr(0, words.find('\0'));
+    const bool runs = first.size() >= program.size() && first.compare(first.size() - program.size(), program.size(), program) == 0;
     calm = runs && sleeps(pid) ? calm + 1 : 0;
     if (calm == 3) {
       kill(pid, signal);
@@ -279,7 +279,7 @@ void put_at(int fd, int at) {
   }
 }
 
-[[noreturn]] void become(const Words& command, const Case& c, int in, int out, int err) {
+[[noreturn]] void become(const Words& command, const Case& c, const std::string& system, int in, int out, int err) {
   setpgid(0, 0);
   signal(SIGPIPE, c.ignores_pipe ? SIG_IGN : SIG_DFL);
   const rlimit none = {0, 0};
@@ -289,7 +289,10 @@ void put_at(int fd, int at) {
     const rlimit most = {c.out.most, c.out.most};
     setrlimit(RLIMIT_FSIZE, &most);
   }
-  if (!c.system.empty()) setenv("SYSTEM", c.system.c_str(), 1);
+  if (!c.system.empty()) {
+    setenv("SYSTEM", c.system.c_str(), 1);
+    setenv("LD_PRELOAD", system.c_str(), 1);
+  }
   put_at(in, 0);
   put_at(out, 1);
   put_at(err, 2);
@@ -311,13 +314,13 @@ std::string differs(const char* what, const std::string& got, const std::string&
 }
 
 // What is wrong, or nothing.
-std::string run(const Case& c, const Words& command, bool script) {
+std::string run(const Case& c, const Words& command, bool script, const std::string& system) {
   const Ends in = input_ends(c.in), out = output_ends(c.out);
   Output err_out;
   err_out.kind = c.err;
   const Ends err = output_ends(err_out);
   const pid_t pid = must(fork(), "fork");
-  if (pid == 0) become(command, c, in.child, out.child, err.child);
+  if (pid == 0) become(command, c, system, in.child, out.child, err.child);
 
   if (in.child >= 0) close(in.child);
   if (out.child >= 0 && c.out.kind != Output::file) close(out.child);
@@ -331,7 +334,7 @@ std::string run(const Case& c, const Words& command, bool script) {
   err_reader.fd = err.mine;
   std::vector<std::thread> threads;
   if (c.signal > 0) {
-    threads.emplace_back([&] { end_program(pid, script, c.signal, "bin/settle", over); });
+    threads.emplace_back([&] { end_program(pid, script, c.signal, "out/settle", over); });
   } else if (in.mine >= 0) {
     threads.emplace_back([&] { sender(c.in); });
   }
@@ -567,11 +570,9 @@ std::vector<Case> writing(const Limits& limits) {
   c.out.leave = 1000;
   c.ignores_pipe = true;
   all.push_back(c);
-  c = plain("a reader that leaves", longest.input, longest.report.substr(0, 1000));
-  c.out.take = 1000;
-  c.out.leave = 1000;
-  c.status = -SIGPIPE;
-  c.script = 128 + SIGPIPE;
+  // The kit's runtime ignores the signal by itself.
+  c.name = "a reader that leaves";
+  c.ignores_pipe = false;
   all.push_back(c);
   return all;
 }
@@ -676,9 +677,7 @@ int main(int count, char** words) {
   }
   for (const Case& c : all) {
     if (!only.empty() && !among(only, c.name)) continue;
-    Words words_of_case = command;
-    if (!c.system.empty()) words_of_case.insert(words_of_case.begin() + 1, {"--preload", system});
-    tell(c.name, run(c, words_of_case, script));
+    tell(c.name, run(c, command, script, system));
   }
   std::printf("%u passed, %u failed\n", passed, failed);
   return failed == 0 && passed > 0 ? 0 : 1;

@@ -1,4 +1,6 @@
 // Condition (f): the greatest sets that the start, stability and the rows allow.
+#![tactic(auto)]
+
 ghost use Rattle.std.specs.Prelude.{◌≡◌, ◌≤◌, ◌<◌, length, get_or};
 ghost use Rattle.answer.specs.Limits.{max_states, max_clocks};
 ghost use Rattle.model.specs.Model.{guard_set};

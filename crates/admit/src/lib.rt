@@ -1,4 +1,6 @@
 // The checks of a table: 20; 10 to 14 of one component, or of each in turn; 15 to 17; and 18 where confluence is asked for.
+#![tactic(auto)]
+
 ghost use Rattle.std.specs.Prelude.{◌≡◌};
 ghost use Rattle.std.proofs.Math.Option.{none};
 ghost use Rattle.answer.specs.declared.Checked.TheVariants as Checked;

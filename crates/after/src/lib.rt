@@ -1,4 +1,6 @@
 // Settling after a listed path from the start, on any table: "Such systems are settled only after a listed path .. or in a simulation" (02, 8/13).
+#![tactic(auto)]
+
 ghost use Rattle.std.specs.Prelude.{◌≡◌, ℕ, ◌≤◌, ◌<◌};
 ghost use Rattle.std.proofs.Math.Option.{none};
 ghost use Rattle.iosa.specs.Checks.{accept_of};

@@ -1,4 +1,6 @@
 // What the engine answers: limits, composed states, refusals with their places, and an answer for each kind of call.
+#![tactic(auto)]
+
 ghost use Rattle.std.specs.Prelude.{◌≡◌};
 ghost use Rattle.answer.specs.Limits.{limits_of, no_state};
 
@@ -23,7 +25,7 @@ impl Model {
 }
 
 // A composed state: one number for each component. Places at and past `count` are no part of it.
-#[derive(Drop)]
+#[derive(Clone, Copy)]
 pub struct State {
     pub count: usize,
     pub parts: [u8; State::PARTS],
@@ -52,7 +54,7 @@ pub struct Limits {
 }
 
 // Where a refusal points: a case for each shape of place in paper 01's table, line and column, bytes from 1, since request 2, an action since request 8, a condition's number since request 9.
-#[derive(Drop)]
+#[derive(Clone, Copy)]
 pub enum Place {
     Whole,
     Line(usize),
@@ -90,7 +92,7 @@ pub enum Place {
     Action(u64),
 }
 
-#[derive(Drop)]
+#[derive(Clone, Copy)]
 pub struct Refusal {
     pub number: u8,
     pub place: Place,
@@ -111,7 +113,7 @@ pub enum Written {
 }
 
 // One step's outcome.
-#[derive(Drop)]
+#[derive(Clone, Copy)]
 pub enum Outcome {
     Moved { action: u64, resets: u64 },
     Stable,
@@ -160,7 +162,7 @@ pub struct Timed {
 }
 
 // How a simulation ended: later rounds done, or the refusal.
-#[derive(Drop)]
+#[derive(Clone, Copy)]
 pub enum Ended {
     Rounds(usize),
     Refused(Refusal),

@@ -1,4 +1,6 @@
 // Numbers by the bits of their binary64.
+#![tactic(auto)]
+
 ghost use Rattle.std.specs.Prelude.{◌≡◌};
 ghost use Rattle.bits.specs.Bits.{real_of};
 

@@ -1,4 +1,6 @@
 // Whether the blocks of a table are those of an image (docs/TABLE.md). Each function reads the words it names once, and all but `zero_words` stop at the first that is wrong.
+#![tactic(auto)]
+
 ghost use Rattle.std.specs.Prelude.{◌≡◌, ℕ, ◌≤◌, ◌<◌, length};
 ghost use Rattle.laws.specs.Fold.{all};
 ghost use Rattle.answer.specs.Limits.{max_components, max_states};

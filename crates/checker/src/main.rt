@@ -1,6 +1,8 @@
 // The program `check` (paper 01, conditions and confluence; paper 02, 8/13): it reads a model text from standard input and writes the test that the model passes,
 // `confluent` or else `orderly`, or the line of a refusal.
 // No answer without an input that was read to its end: where a read fails, nothing goes to standard output.
+#![tactic(auto)]
+
 ghost use Rattle.std.specs.Prelude.{◌≡◌, ◌≤◌, length};
 ghost use Rattle.layout.specs.Image.{Image, model_of};
 ghost use Rattle.steplines.specs.Run.{most_bytes};
@@ -8,7 +10,6 @@ ghost use Rattle.printout.specs.Printed.{Printed, Filled};
 ghost use Rattle.checker.specs.Tested.{else_text, tested_text, checked_text};
 
 use answer::Checked;
-use libc::{STDIN_FILENO, STDOUT_FILENO};
 use stream::Moved;
 
 // The second test, of a model that is not confluent alone.
@@ -54,18 +55,18 @@ fn filled(input: &[u8], out: &mut [u8]) -> usize
 }
 
 // Writes the answer to an input, or says that it could not.
-fn answer(input: &[u8]) {
+fn answer(rt: &HostRuntime, input: &[u8]) {
     let mut out = printout::empty_out();
     let k = filled(input, &mut out);
-    if let Moved::Failed(e) = stream::write(STDOUT_FILENO, &out[..k]) {
-        failing::say(b"check: the answer could not be written whole", e);
+    if let Moved::Failed(e) = stream::write(rt, &mut rt.stdout(), &out[..k]) {
+        failing::say(rt, b"check: the answer could not be written whole", e);
     }
 }
 
-fn main() {
+fn main(rt: HostRuntime) {
     let mut input = printout::empty_input();
-    match stream::read(STDIN_FILENO, &mut input) {
-        Moved::Bytes(n) => answer(&input[..n]),
-        Moved::Failed(e) => failing::say(b"check: standard input could not be read", e),
+    match stream::read(&rt, &mut rt.stdin(), &mut input) {
+        Moved::Bytes(n) => answer(&rt, &input[..n]),
+        Moved::Failed(e) => failing::say(&rt, b"check: standard input could not be read", e),
     }
 }

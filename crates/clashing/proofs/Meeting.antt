@@ -5,9 +5,6 @@ use mathlib.Core.List.{List, [], ◌∷◌, ◌++◌}
 use Prim.Native.Nat.{ℕ, ◌<◌}
 use native.Mathlib.Omega.{arith}
 use lib.ListN.{length}
-use types.Run.{OneOf, miss}
-use denote.Enum.Declared.{tag_of}
-use Rattle.answer.specs.contracts.Place.{the_type}
 use Rattle.answer.specs.Limits.{max_actions}
 use Rattle.answer.specs.Told.{Told, tell, told, Answer, answered, refused, says_checked, values_at}
 use Rattle.answer.specs.declared.Refusal.{Refusal}
@@ -100,13 +97,6 @@ module _ (t : List ℕ) (im : Image t) (ok : accept_of (model_of t) ≡ none) wh
       shown q f.rank p.0 f.here p.1 c
 
 -- ---- such a place
--- the tags of all other places
-abbrev others : List ℕ
-others = 0 ∷ 1 ∷ 2 ∷ 3 ∷ 4 ∷ 5 ∷ 6 ∷ 7 ∷ 9 ∷ 10 ∷ 11 ∷ 12 ∷ 13 ∷ []
-
-pub no_other : {P : Type 0} (t : List ℕ) (p : Place) → ClashPlace t p → OneOf others (tag_of the_type p) → P
-no_other t p k h = absurd (miss others 8 tt (subst (λ q. OneOf others (tag_of the_type q)) k.here h))
-
 pub there : (t : List ℕ) (p : Place) → ClashPlace t p → (i s a b : ℕ) → p ≡ ClashAt i s a b
     → (i < count_of t) × (s < block_word t i 0) × (a < max_actions) × (b < max_actions)
 there t p k i s a b e =

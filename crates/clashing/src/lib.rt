@@ -1,4 +1,6 @@
 // What is printed of an accepted model (02, 5/13): `confluent`, or the clash that 18 names with the path to it and both orders.
+#![tactic(auto)]
+
 ghost use Rattle.std.specs.Prelude.{◌≡◌, ◌≤◌, length};
 ghost use Rattle.std.proofs.Math.Option.{none};
 ghost use Rattle.answer.specs.Told.{values_at};

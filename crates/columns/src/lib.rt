@@ -1,4 +1,6 @@
 // The column that 2, 4 and 5 carry (paper 02, request 2). It is worked out where a text is refused, and nowhere else: a line that is taken in pays nothing for it.
+#![tactic(auto)]
+
 ghost use Rattle.std.specs.Prelude.{◌≡◌, ◌≤◌, length, drop};
 ghost use Rattle.model.specs.Reading.{stop_column};
 ghost use Rattle.columns.specs.Columns.{member_of, guard_out, wide_guard, numbers_out, resets_out, row_column, value_column};

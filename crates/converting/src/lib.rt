@@ -1,4 +1,6 @@
 // What the programs `numbers` and `names` have in common: what a call that converts a text answered, printed.
+#![tactic(auto)]
+
 ghost use Rattle.std.specs.Prelude.{◌≡◌, List, ℕ, length};
 ghost use Rattle.answer.specs.Told.{Answer};
 ghost use Rattle.steplines.specs.Run.{most_bytes};

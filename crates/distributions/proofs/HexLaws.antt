@@ -11,7 +11,7 @@ use lib.Dec.{leb, ltb}
 use lib.ListN.{length, get_or, drop, drop_of_length-le}
 use Rattle.laws.proofs.TestLaws.{and-true}
 use Rattle.model.specs.Text.{byte0}
-use Rattle.model.specs.Reading.{Scan, stops, got, then, is_digit}
+use Rattle.model.specs.Reading.{stops, got, is_digit}
 use Rattle.fields.proofs.ScanLaws.{front, is_digit_lem, then_is, then-stops}
 use Rattle.drawing.specs.File.{byte_a, hex_digits, is_letter, hex_next, hex_at}
 use Rattle.drawing.proofs.Hex.{hex-below}

@@ -1,5 +1,5 @@
 -- A line, by the clock's number in front of it.
-use mathlib.Core.Path.{◌≡◌, refl, sym, ◌∙◌, ap}
+use mathlib.Core.Path.{◌≡◌, sym, ◌∙◌, ap}
 use mathlib.Core.Bool.{cond}
 use mathlib.Core.Option.{none, some}
 use mathlib.Core.List.{List, []}
@@ -8,7 +8,7 @@ use borrow.Author.Tests.{eq-eqb, ne_eqb}
 use lib.ListN.{length, drop, drop_of_length-le}
 use lib.Dec.{eqb}
 use Rattle.model.specs.Text.{tab}
-use Rattle.model.specs.Reading.{Got, stops, got, number}
+use Rattle.model.specs.Reading.{stops, got, number}
 use Rattle.fields.proofs.ScanLaws.{exactly-end, then_is, then-stops}
 use Rattle.draw.specs.declared.Law.{Law}
 use Rattle.draw.specs.Draw.{lawful}

@@ -1,7 +1,7 @@
 -- The whole file, clock by clock: the distributions found so far, before those of the clocks to come, are all.
-use mathlib.Core.Path.{◌≡◌, refl, sym, ◌∙◌, ap, ap₂, subst}
+use mathlib.Core.Path.{◌≡◌, refl, sym, ◌∙◌, ap, subst}
 use mathlib.Core.Logic.{by_cases}
-use mathlib.Core.Bool.{true, false}
+use mathlib.Core.Bool.{true}
 use mathlib.Core.Option.{Option, none, some, some_inj}
 use mathlib.Core.List.{List, [], ◌∷◌, ◌++◌, append-nil}
 use Prim.Native.Nat.{ℕ, suc, ◌+◌, ◌-◌, ◌≤◌, ◌<◌}
@@ -23,7 +23,7 @@ use Rattle.draw.specs.declared.Law.{Law}
 use Rattle.drawing.specs.File.{line_at, laws_from, laws_of}
 use Rattle.drawing.proofs.ReadExactly.{not-declared, good-line, bad-line}
 use Rattle.distributions.specs.declared.Spot.{Spot}
-use Rattle.distributions.specs.Found.{found, law_in, LineIs}
+use Rattle.distributions.specs.Found.{found, law_in}
 use Rattle.distributions.specs.Text.{Begun, in-line, no_line, bad_line, Scans}
 
 -- a scan by what is found

@@ -1,4 +1,6 @@
 // The file of distributions: a number by its digits, the line of a clock, the whole file with the place of 49 and where each clock's distribution stands.
+#![tactic(auto)]
+
 ghost use Rattle.std.specs.Prelude.{◌≡◌, ℕ, ◌≤◌, ◌<◌, length, drop};
 ghost use Rattle.answer.specs.Limits.{max_clocks};
 ghost use Rattle.model.specs.Reading.{field};
@@ -214,7 +216,7 @@ fn line_of(text: &[u8], x: u64, c: Cursor) -> Line
 }
 
 // A place in the text, and the number of the line there.
-#[derive(Drop)]
+#[derive(Clone, Copy)]
 pub struct Spot {
     pub at: usize,
     pub line: usize,

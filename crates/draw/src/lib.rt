@@ -1,9 +1,11 @@
 // Clocks drawn from distributions: the rule of a draw, and the tests of the numbers that a distribution is given by.
+#![tactic(auto)]
+
 ghost use Rattle.std.specs.Prelude.{◌≡◌, T};
 ghost use Rattle.draw.specs.Draw.{unit, held, ticks, drawn, end_of, within, ranged, weighed, lawful, Between};
 
 // A distribution: a range by its lower and its upper end; or a weight and two ranges.
-#[derive(Drop)]
+#[derive(Clone, Copy)]
 pub enum Law {
     Uniform(f64, f64),
     Mixture(f64, f64, f64, f64, f64),

@@ -1,4 +1,6 @@
 // Whether settling may begin on a table in a composed state: 20, 10 to 18, then 21, then 19.
+#![tactic(auto)]
+
 ghost use Rattle.std.specs.Prelude.{◌≡◌};
 ghost use Rattle.std.proofs.Math.Option.{some};
 ghost use Rattle.answer.specs.State.{parts_of};

@@ -1,4 +1,6 @@
 // Why a model is not confluent (02, 5/13): what the program `why` prints for a text, and the same of the model in a lent table.
+#![tactic(auto)]
+
 ghost use Rattle.std.specs.Prelude.{◌≡◌, ◌≤◌, length};
 ghost use Rattle.std.proofs.Math.Option.{none};
 ghost use Rattle.answer.specs.declared.Place.TheVariants as Place;

@@ -1,4 +1,6 @@
 // The line that a program writes to standard error where the system fails it.
+#![tactic(auto)]
+
 ghost use Rattle.std.specs.Prelude.{◌≡◌, ◌+◌, ◌≤◌, length};
 ghost use Rattle.print.specs.Put.{Put};
 ghost use Rattle.failing.specs.Line.{error_number, failure_line, longest_what};
@@ -22,10 +24,10 @@ fn put_failure(line: &mut [u8], what: &[u8], error: i32) -> usize
 }
 
 // Says on standard error what could not be done, and the number of the error.
-pub fn say(what: &[u8], error: i32)
+pub fn say(rt: &HostRuntime, what: &[u8], error: i32)
     requires { length what.now ≤ longest_what }
 {
     let mut line = [0u8; LINE];
     let end = put_failure(&mut line, what, error);
-    stream::write(libc::STDERR_FILENO, &line[..end]);
+    stream::write(rt, &mut rt.stderr(), &line[..end]);
 }

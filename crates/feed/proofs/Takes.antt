@@ -1,8 +1,8 @@
 -- The next sample of a list: what is read at a cursor is the first of what is left, and the rest stands behind it.
 use mathlib.Core.Path.{◌≡◌, refl, sym, ◌∙◌, ap, subst}
-use mathlib.Core.Option.{Option, none, some}
+use mathlib.Core.Option.{Option}
 use mathlib.Core.List.{List, [], ◌∷◌}
-use Prim.Native.Nat.{ℕ, zero, suc, ◌+◌, ◌^◌, ◌≤◌, ◌<◌}
+use Prim.Native.Nat.{ℕ, suc, ◌+◌, ◌^◌, ◌≤◌, ◌<◌}
 use native.Mathlib.Omega.{arith}
 use lib.ListN.{drop}
 use Rattle.answer.specs.Limits.{max_ticks}
@@ -14,7 +14,7 @@ use Rattle.feed.specs.declared.Source.{Source}
 use Rattle.feed.specs.declared.Source.TheVariants.{Lists}
 use Rattle.feed.specs.declared.Taking.{Taking}
 use Rattle.feed.specs.declared.Taking.TheVariants.{Takes, Lacks}
-use Rattle.feed.specs.Supply.{lent, InList, ListTakes, TakesNext, Gives, Small, TakeCall}
+use Rattle.feed.specs.Supply.{lent, InList, ListTakes, Gives, Small, TakeCall}
 
 abbrev rest_or : Scan ℕ → List ℕ
 rest_or (is g) = g.rest

@@ -1,4 +1,6 @@
 // A round's end: every clock of a set takes its next sample, from wherever the samples come.
+#![tactic(auto)]
+
 ghost use Rattle.std.specs.Prelude.{◌≡◌, ℕ, ◌<◌, length};
 ghost use Rattle.answer.specs.Limits.{max_clocks};
 ghost use Rattle.feed.specs.Supply.{lent, ListTakes, DrawTakes, TakeCall, ran_out_of};
@@ -9,7 +11,7 @@ use fields::{Cursor, NumberScan};
 use sampling::Draw;
 
 // Where samples come from: the lists of a text, or draws from the distributions of a file by lent numbers.
-#[derive(Drop)]
+#[derive(Clone, Copy)]
 pub enum Source {
     Lists,
     Draws,

@@ -1,4 +1,6 @@
 // Fields of a text: each scan takes bytes off at a cursor and answers a value with the cursor behind it, or where it stopped: at the first byte that could not stand there.
+#![tactic(auto)]
+
 ghost use Rattle.std.specs.Prelude.{◌≡◌, List, ℕ, ◌-◌, ◌≤◌, ◌<◌, length, drop};
 ghost use Rattle.model.specs.Reading.{is, shorter, exactly, the_byte, is_digit, more_digits, number as number_of, guard_or_dash, kind as kind_scan, more_numbers, numbers_or_dash, field};
 ghost use Rattle.fields.specs.Fields.{past, got_number, got_guard, got_kind};
@@ -6,7 +8,7 @@ ghost use Rattle.fields.specs.Resets.{got_resets, valued, first, with, with_all,
 
 use answer::Model;
 
-#[derive(Drop)]
+#[derive(Clone, Copy)]
 pub struct Cursor {
     pub at: usize,
 }
@@ -46,7 +48,7 @@ pub enum NumberScan {
 }
 
 // "guard (a clock or `-`)".
-#[derive(Drop)]
+#[derive(Clone, Copy)]
 pub enum Guard {
     Dash,
     Clock(u64),
@@ -59,7 +61,7 @@ pub enum GuardScan {
 }
 
 // "`in`, `out`, `uin` or `uout`".
-#[derive(Drop)]
+#[derive(Clone, Copy)]
 pub enum Kind {
     In,
     Out,
@@ -74,7 +76,7 @@ pub enum KindScan {
 }
 
 // What reading needs of the numbers of a resets field: that all of them are clocks, that they ascend, the last one, and the set.
-#[derive(Drop)]
+#[derive(Clone, Copy)]
 pub struct Resets {
     pub clocks: bool,
     pub ascend: bool,

@@ -55,8 +55,7 @@ module _ (e : ℕ) (vs : List ℤ) (low : ℕ) (el : low ≡ or_none (check29 e 
     unfolding choice_of
     choice-quiet h =
         let l = limit-none (is_least e vs) x ex (λ q. omega arith) in
-        sym (ap (λ o. negative_or o (shared_or (check30 e vs) (fires_or (least (is_least e vs) max_clocks)))) none_below
-        ∙ ap₂ (λ o p. shared_or o (fires_or p)) (none-shared e vs l) l)
+        sym (ap (λ o. negative_or o (shared_or (check30 e vs) (fires_or (least (is_least e vs) max_clocks)))) none_below ∙ ap₂ (λ o p. shared_or o (fires_or p)) (none-shared e vs l) l)
 
     pub chosen-low : (x ≡ max_clocks → ⊥) → x < max_clocks
     chosen-low h = limit-low (is_least e vs) x ex h
@@ -71,14 +70,12 @@ module _ (e : ℕ) (vs : List ℤ) (low : ℕ) (el : low ≡ or_none (check29 e 
       pub choice-shared : r ≡ true → Shared x ≡ choice_of e vs
       unfolding choice_of
       choice-shared t =
-          sym (ap (λ o. negative_or o (shared_or (check30 e vs) (fires_or (least (is_least e vs) max_clocks)))) none_below
-          ∙ ap (λ o. shared_or o (fires_or (least (is_least e vs) max_clocks))) (shares-is ∙ ap (λ b. when b x) t))
+          sym (ap (λ o. negative_or o (shared_or (check30 e vs) (fires_or (least (is_least e vs) max_clocks)))) none_below ∙ ap (λ o. shared_or o (fires_or (least (is_least e vs) max_clocks))) (shares-is ∙ ap (λ b. when b x) t))
 
       pub choice-fires : r ≡ false → Fires x ≡ choice_of e vs
       unfolding choice_of
       choice-fires t =
-          sym (ap (λ o. negative_or o (shared_or (check30 e vs) (fires_or (least (is_least e vs) max_clocks)))) none_below
-          ∙ ap₂ (λ o p. shared_or o (fires_or p)) (shares-is ∙ ap (λ b. when b x) t) one)
+          sym (ap (λ o. negative_or o (shared_or (check30 e vs) (fires_or (least (is_least e vs) max_clocks)))) none_below ∙ ap₂ (λ o p. shared_or o (fires_or p)) (shares-is ∙ ap (λ b. when b x) t) one)
 
 -- ---- the definition by its choice
 pub timed-by-choice : (m : Model) (s : List ℕ) (vs : List ℤ) (e : ℕ) → timed_from m s vs e ≡ answer_of m s vs (choice_of e vs)
@@ -113,15 +110,9 @@ fires-chosen e vs x h = go (check29 e vs) refl (check30 e vs) (least (is_least e
         let l = least-some (is_least e vs) max_clocks y q in
         let own = (and-true (has e y) _ l.here).0 in
         let same : y ≡ x = cc in
-        rw (← same) (record {
-          below = l.below;
-          own = own;
-          from_zero = and-false (has e y) (lt_z (value_of vs y) (pos 0))
-              (least-none (below_zero e vs) max_clocks n y l.below) own;
-        })
+        rw (← same) (record { below = l.below; own = own; from_zero = and-false (has e y) (lt_z (value_of vs y) (pos 0)) (least-none (below_zero e vs) max_clocks n y l.below) own })
 
-    go : (o : Option ℕ) → check29 e vs ≡ o → (p q : Option ℕ) → least (is_least e vs) max_clocks ≡ q → negative_or o (shared_or p (fires_or q)) ≡ Fires x
-        → Chosen e vs x
+    go : (o : Option ℕ) → check29 e vs ≡ o → (p q : Option ℕ) → least (is_least e vs) max_clocks ≡ q → negative_or o (shared_or p (fires_or q)) ≡ Fires x → Chosen e vs x
     go (some y) n p q r h = absurd (let z : ◌≡◌ {A = ℕ} 0 1 = cc in omega arith)
     go none n (some y) q r h = absurd (let z : ◌≡◌ {A = ℕ} 0 1 = cc in omega arith)
     go none n none none r h = absurd (let z : ◌≡◌ {A = ℕ} 0 1 = cc in omega arith)

@@ -22,15 +22,12 @@ high-none none p low n = refl
 high-none (some r) p low n = absurd (n (low r refl))
 
 module _ (m : Model) (ss : List ℕ) (x i : ℕ) (p : i < length m) (q : i < length ss) where
-  pub action-here : action_or (clock_row (comp_at m i) (get_or ss i 0) x) < max_actions
-      → action_or (clock_row_of (drop i m) (drop i ss) x) ≡ action_or (clock_row (comp_at m i) (get_or ss i 0) x)
+  pub action-here : action_or (clock_row (comp_at m i) (get_or ss i 0) x) < max_actions → action_or (clock_row_of (drop i m) (drop i ss) x) ≡ action_or (clock_row (comp_at m i) (get_or ss i 0) x)
   unfolding clock_row_of
   action-here h =
-      ap action_or (heads m ss i p q (λ m ss. clock_row_of m ss x)) ∙ low-some (clock_row (comp_at m i) (get_or ss i 0) x)
-      (clock_row_of (drop (i + 1) m) (drop (i + 1) ss) x) h
+      ap action_or (heads m ss i p q (λ m ss. clock_row_of m ss x)) ∙ low-some (clock_row (comp_at m i) (get_or ss i 0) x) (clock_row_of (drop (i + 1) m) (drop (i + 1) ss) x) h
 
-  pub action-next : ((r : Row) → clock_row (comp_at m i) (get_or ss i 0) x ≡ some r → r.action < max_actions)
-      → (action_or (clock_row (comp_at m i) (get_or ss i 0) x) < max_actions → ⊥)
+  pub action-next : ((r : Row) → clock_row (comp_at m i) (get_or ss i 0) x ≡ some r → r.action < max_actions) → (action_or (clock_row (comp_at m i) (get_or ss i 0) x) < max_actions → ⊥)
       → clock_row_of (drop i m) (drop i ss) x ≡ clock_row_of (drop (i + 1) m) (drop (i + 1) ss) x
   unfolding clock_row_of
   action-next low n =

@@ -3,21 +3,23 @@ use mathlib.Core.Path.{◌≡◌, refl, sym, ◌∙◌, ap, ap₂}
 use mathlib.Core.Option.{Option, none, some}
 use mathlib.Core.Bool.{Bool, true, false, ◌||◌, not}
 use mathlib.Core.List.{List, [], ◌∷◌}
-use Prim.Native.Nat.{ℕ}
+use Prim.Native.Nat.{ℕ, ◌≤◌}
 use lib.ListN.{length}
 use lib.Dec.{eqb}
 use lib.IntN.{ℤ}
 use Rattle.laws.specs.Search.{when, or_else, is_some, any}
 use Rattle.answer.specs.Limits.{max_clocks, no_state}
-use Rattle.answer.specs.Told.{Told, tell, told, Answer, refused, Shot, as_refused, says_firing}
+use Rattle.answer.specs.Told.{Told, tell, told, Answer, answered, refused, Shot, as_refused, says_firing}
+use Rattle.answer.specs.State.{parts_of}
 use Rattle.answer.specs.declared.State.{State}
 use Rattle.answer.specs.declared.Refusal.{Refusal}
-use Rattle.answer.specs.declared.Firing.TheVariants.{Refused}
+use Rattle.answer.specs.declared.Firing.TheVariants.{Quiet, Refused}
+use Rattle.answer.proofs.StateLaws.{with-own-parts}
 use Rattle.model.specs.Model.{Model, declared}
 use Rattle.model.specs.WellFormed.{WellFormed}
 use Rattle.iosa.specs.Checks.{accept_of}
 use Rattle.iosa.specs.Step.{Went, is_stable, in_range, state_fault, lowest, urgent_step}
-use Rattle.timing.specs.Timed.{enabling_all, unstable_fault, out_of_ticks, values_fault, timed_from, timed_of}
+use Rattle.timing.specs.Timed.{enabling_all, unstable_fault, out_of_ticks, values_fault, timed_from, timed_of, quietly}
 use Rattle.iosa.specs.TimedExactly.{Timing}
 use Rattle.iosa.proofs.Settling.ProductOfMany.{wells}
 use Rattle.timing.proofs.Timing.Ticks.{bad_values, values-exactly}
@@ -27,14 +29,17 @@ use Rattle.firing.specs.Choices.{choice_of, answer_of}
 use Rattle.firing.specs.Shots.{TimingAnswers}
 use Rattle.firing.proofs.Choosing.{timed-by-choice}
 
--- ---- a refusal, and what the clocks decide
+-- ---- a refusal, and quiet
 pub refuses : (a : Answer Timing) (f : Told) → a ≡ refused f → (q : Refusal) → told q ≡ some f → (x st : State) → st ≡ no_state → (vs : List ℤ)
     → TimingAnswers a x vs (record { firing = Refused q; state = st }) vs
 unfolding says_firing
 refuses a f e q t x st es vs = rw e (record { firing = ap (as_refused {A = Shot}) t; state = es; values = refl })
 
-pub chosen-answer : (m : Model) (s : List ℕ) (vs : List ℤ) (e : ℕ) (d k : Choice) → e ≡ enabling_all m s → d ≡ choice_of e vs → d ≡ k
-    → timed_from m s vs (enabling_all m s) ≡ answer_of m s vs k
+pub stays-quiet : (a : Answer Timing) (x : State) (vs : List ℤ) → a ≡ answered (quietly (parts_of x) vs) → x.count ≤ length x.parts → TimingAnswers a x vs (record { firing = Quiet; state = x }) vs
+unfolding says_firing
+stays-quiet a x vs e h = rw e (record { firing = refl; state = sym (with-own-parts x h); values = refl })
+
+pub chosen-answer : (m : Model) (s : List ℕ) (vs : List ℤ) (e : ℕ) (d k : Choice) → e ≡ enabling_all m s → d ≡ choice_of e vs → d ≡ k → timed_from m s vs (enabling_all m s) ≡ answer_of m s vs k
 chosen-answer m s vs e d k ee ed ek = timed-by-choice m s vs (enabling_all m s) ∙ ap (answer_of m s vs) (ap (λ n. choice_of n vs) (sym ee) ∙ sym ed ∙ ek)
 
 -- ---- the refusals in their order
@@ -42,8 +47,7 @@ abbrev RefusedOr : Option Told → Answer Timing → Answer Timing
 RefusedOr o x = elim o as (λ _. Answer Timing) [ some t ↦ refused t | none ↦ x ]
 
 module _ (m : Model) (s : List ℕ) (vs : List ℤ) (acc : accept_of m ≡ none) where
-  by-faults : (o : Option Told) → or_else (state_fault m s) (or_else (unstable_fault m s) (values_fault m vs)) ≡ o
-      → timed_of m s vs ≡ RefusedOr o (timed_from m s vs (enabling_all m s))
+  by-faults : (o : Option Told) → or_else (state_fault m s) (or_else (unstable_fault m s) (values_fault m vs)) ≡ o → timed_of m s vs ≡ RefusedOr o (timed_from m s vs (enabling_all m s))
   unfolding timed_of
   by-faults o e = ap₂ (λ p q. RefusedOr (or_else p q) (timed_from m s vs (enabling_all m s))) acc e
 
@@ -97,6 +101,4 @@ module _ (m : Model) (vs : List ℤ) where
   bad-by-test h b e = ap (λ c. not c || any (out_of_ticks m vs) max_clocks) h ∙ tests_agree ∙ sym e
 
   pub ticking-so : WellFormed m → bad_values m vs ≡ false → Ticking (declared m) vs
-  ticking-so well h =
-      let t = (values-exactly m (wells m well) vs).0 h in
-      record { count = t.count; each = λ x i. record { low = t.low x i; high = t.high x i } }
+  ticking-so well h = let t = (values-exactly m (wells m well) vs).0 h in record { count = t.count; each = λ x i. record { low = t.low x i; high = t.high x i } }

@@ -4,4 +4,3 @@ pub mod Choosing
 pub mod Shoots
 pub mod Gives
 pub mod Judging
-pub mod InPlace

@@ -42,8 +42,7 @@ module _ (m : Model) (well : WellFormed m) (good : Conforming m) (fit : Joinable
   pub fires-so : (vs : List ℤ) → fire m ss vs x ≡ fired_by m vs x (action_or (clock_row_of m ss x)) (fired_all m ss x (action_or (clock_row_of m ss x)))
   unfolding fire
   fires-so vs =
-      let p = enabling-shoots m (wells m well) (each_all (λ d. Conditions (auto_of d)) m good.each) (joinable-pairwise m fit) ss w x
-      (enabling-enables m ss x h) in
+      let p = enabling-shoots m (wells m well) (each_all (λ d. Conditions (auto_of d)) m good.each) (joinable-pairwise m fit) ss w x (enabling-enables m ss x h) in
       let a : action_or (clock_row_of m ss x) ≡ p.0.action = ap action_or p.1.row in
       let g = fires-as-all m ss x p.0.action p.1.all.gone p.1.all.fires in
       rw (p.1.row, fire) (rw p.1.all.fires (ap (fired_by m vs x p.0.action) g))

@@ -1,9 +1,7 @@
 -- What each component does when a clock fires: what the loops over components compute in a model that is accepted.
-use Rattle.std.specs.Prelude.{◌≡◌, List, ℕ, suc}
 use Rattle.std.proofs.Math.Option.{Option, none, some}
+use Rattle.std.specs.Prelude.{List, ℕ, suc}
 use Rattle.answer.specs.Limits.{max_actions}
-use Rattle.answer.specs.State.{parts_of, with_parts}
-use Rattle.answer.specs.declared.State.{State}
 use Rattle.model.specs.Model.{Row, Comp, Model}
 use Rattle.iosa.specs.Step.{gone_by}
 use Rattle.iosa.specs.Stepped.{Gone}
@@ -32,8 +30,3 @@ fired_one x a c s = or_stays s (fire_one c s x a)
 -- every component
 abbrev pub fired_all : Model → List ℕ → ℕ → ℕ → Gone (List ℕ)
 fired_all m ss x a = record { resets = reset_by (fired_one x a) m ss; after = after_by (fired_one x a) m ss }
-
--- the clocks reset, and the state that x is then
-pub record FiredTo (m : Model) (c a : ℕ) (x : State) (r : ℕ) (y : State) : Type 0 where
-  pub resets : r ≡ reset_by (fired_one c a) m (parts_of x)
-  pub state : y ≡ with_parts x (after_by (fired_one c a) m (parts_of x))

@@ -4,16 +4,15 @@ use Rattle.std.proofs.Math.Option.{some}
 use Rattle.std.specs.Int.Signed.{lt_z}
 use Rattle.answer.specs.Limits.{no_state, max_clocks}
 use Rattle.answer.specs.Told.{Told, Answer, answered, refused, says_firing}
-use Rattle.answer.specs.State.{parts_of, with_parts}
+use Rattle.answer.specs.State.{with_parts}
 use Rattle.answer.specs.declared.State.{State}
 use Rattle.answer.specs.declared.Timed.{Timed}
 use Rattle.answer.specs.declared.Place.TheVariants.{Whole}
-use Rattle.answer.specs.declared.Firing.{Firing}
-use Rattle.answer.specs.declared.Firing.TheVariants.{Quiet, Refused}
+use Rattle.answer.specs.declared.Firing.TheVariants.{Refused}
 use Rattle.laws.specs.Sets.{◌∈◌}
 use Rattle.iosa.specs.Automaton.{Conforming, Joinable}
 use Rattle.model.specs.Model.{Model, declared}
-use Rattle.timing.specs.Timed.{timed_from, enabling_all}
+use Rattle.timing.specs.Timed.{enabling_all}
 use Rattle.iosa.specs.TimedExactly.{Timing, value_of}
 use Rattle.layout.specs.Image.{model_of}
 use Rattle.moves.specs.Standing.{Standing}
@@ -34,30 +33,6 @@ pub record TimingRefused (f : Told) (was : List ℤ) (r : Timed) (vs : List ℤ)
 abbrev pub TimingAnswers : Answer Timing → State → List ℤ → Timed → List ℤ → Type 0
 TimingAnswers (answered d) x was r vs = TimingGives d x r vs
 TimingAnswers (refused f) x was r vs = TimingRefused f was r vs
-
--- the answer that has this firing, with the state beside it
-abbrev pub shot_to : Firing → State → Timed
-shot_to f y = record { firing = f; state = y }
-
--- the same in place: x and was are the state and the values before, y and vs those after
-pub record ShotRefused (f : Told) (x : State) (was : List ℤ) (r : Firing) (y : State) (vs : List ℤ) : Type 0 where
-  pub firing : says_firing r ≡ some (refused f)
-  pub state : y ≡ x
-  pub values : vs ≡ was
-
-abbrev pub ShotAnswers : Answer Timing → State → List ℤ → Firing → State → List ℤ → Type 0
-ShotAnswers (answered d) x was r y vs = TimingGives d x (shot_to r y) vs
-ShotAnswers (refused f) x was r y vs = ShotRefused f x was r y vs
-
--- of `fire`
-pub record FireCall (d : Timing) (x : State) (r : Firing) (y : State) (vs : List ℤ) : Type 0 where
-  pub gives : TimingGives d x (shot_to r y) vs
-  pub fires : r ≡ Quiet → ⊥
-
--- of `shoot_in`
-pub record ShotCall (m : Model) (x : State) (was : List ℤ) (r : Firing) (y : State) (vs : List ℤ) : Type 0 where
-  pub answers : ShotAnswers (timed_from m (parts_of x) was (enabling_all m (parts_of x))) x was r y vs
-  pub rests : r ≡ Quiet → y ≡ x
 
 -- an image of an accepted model, a composed state of it, and 64 values, the declared ones in range
 pub record Armed (t : List ℕ) (x : State) (vs : List ℤ) : Type 0 where

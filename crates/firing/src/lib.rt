@@ -1,6 +1,8 @@
 // The timed step in a model that is accepted, from a state of it: the clock that fires, and what each component does.
+#![tactic(auto)]
+
 ghost use Rattle.std.specs.Prelude.{◌≡◌, ℕ, ◌≤◌, ◌<◌, length};
-ghost use Rattle.answer.specs.Limits.{max_clocks, max_components};
+ghost use Rattle.answer.specs.Limits.{max_clocks};
 ghost use Rattle.answer.specs.State.{parts_of, with_parts};
 ghost use Rattle.layout.specs.Layout.{count_of, block_word};
 ghost use Rattle.layout.specs.Image.{Image, comp_of, model_of};
@@ -9,10 +11,10 @@ ghost use Rattle.iosa.specs.Checks.{accept_of};
 ghost use Rattle.rows.specs.Ranges.{found_of};
 ghost use Rattle.timing.specs.Timed.{clock_row, clock_row_of, fire, timed_from, timed_of, enabling_all};
 ghost use Rattle.moves.specs.Moves.{GoneTo, reset_by, after_by};
-ghost use Rattle.moves.specs.Standing.{Standing, StandingAt, holding};
-ghost use Rattle.firing.specs.Fired.{by_clock, action_or, guarded_one, fired_one, FiredTo};
+ghost use Rattle.moves.specs.Standing.{Standing};
+ghost use Rattle.firing.specs.Fired.{by_clock, action_or, guarded_one, fired_one};
 ghost use Rattle.firing.specs.Choices.{choice_of};
-ghost use Rattle.firing.specs.Shots.{TimingAnswers, Armed, Fireable, FireCall, ShotCall, refused_with};
+ghost use Rattle.firing.specs.Shots.{TimingGives, TimingAnswers, Armed, Fireable, refused_with};
 
 use answer::{Firing, Model, Place, Refusal, State, Timed};
 use moves::{Move, Moved};
@@ -41,26 +43,19 @@ pub fn action_in(t: &[u64], i: usize, s: u8, c: u64) -> u64
     }
 }
 
-// The action of the row that a clock guards in a composed state, by its numbers, or the limit.
-pub fn action_at(t: &[u64], parts: &[u8], n: usize, c: u64) -> u64
-    requires { StandingAt t.now parts.now n × (c < max_clocks) }
-    ensures { result ≡ action_or (clock_row_of (model_of t.now) (parts_of (holding n parts.now)) c) }
+// The action of the row that a clock guards in a composed state, or the limit.
+pub fn action_of(t: &[u64], x: State, c: u64) -> u64
+    requires { Standing t.now x × (c < max_clocks) }
+    ensures { result ≡ action_or (clock_row_of (model_of t.now) (parts_of x) c) }
 {
+    let n = x.count;
     for i in 0..n {
-        let a = action_in(t, i, parts[i], c);
+        let a = action_in(t, i, x.parts[i], c);
         if a < Model::ACTIONS as u64 {
             return a;
         }
     }
     Model::ACTIONS as u64
-}
-
-// The same of a state.
-pub fn action_of(t: &[u64], x: State, c: u64) -> u64
-    requires { Standing t.now x × (c < max_clocks) }
-    ensures { result ≡ action_or (clock_row_of (model_of t.now) (parts_of x) c) }
-{
-    action_at(t, &x.parts, x.count, c)
 }
 
 // One component by the row that its clock guards.
@@ -84,33 +79,22 @@ pub fn fire_one(t: &[u64], i: usize, s: u8, c: u64, a: u64) -> Move
     }
 }
 
-// Every component when a clock fires, in place: the clocks reset.
-pub fn fire_in(t: &[u64], parts: &mut [u8], n: usize, c: u64, a: u64) -> u64
-    requires { StandingAt t.now parts.old n × (c < max_clocks) }
-    ensures { FiredTo (model_of t.now) c a (holding n parts.old) result (holding n parts.new) }
-{
-    let mut resets = 0u64;
-    for i in 0..n {
-        let m = fire_one(t, i, parts[i], c, a);
-        parts[i] = m.target;
-        resets = sets::union(resets, m.resets);
-    }
-    resets
-}
-
 // Every component when a clock fires.
 pub fn fire_all(t: &[u64], x: State, c: u64, a: u64) -> Moved
     requires { Standing t.now x × (c < max_clocks) }
     ensures { (result.resets ≡ reset_by (fired_one c a) (model_of t.now) (parts_of x)) × (result.state ≡ with_parts x (after_by (fired_one c a) (model_of t.now) (parts_of x))) }
 {
-    let mut parts = x.parts;
-    let resets = fire_in(t, &mut parts, x.count, c, a);
+    let n = x.count;
+    let mut next = x;
+    let mut resets = 0u64;
+    for i in 0..n {
+        let m = fire_one(t, i, x.parts[i], c, a);
+        next.parts[i] = m.target;
+        resets = sets::union(resets, m.resets);
+    }
     Moved {
         resets,
-        state: State {
-            count: x.count,
-            parts,
-        },
+        state: next,
     }
 }
 
@@ -141,70 +125,53 @@ pub fn choose(values: &[i64], e: u64) -> Choice
     Choice::Fires(c)
 }
 
-// A clock fires: every component moves in place, and every declared clock falls by its value.
-pub fn fire(t: &[u64], parts: &mut [u8], n: usize, values: &mut [i64], c: u64) -> Firing
-    requires { Armed t.now (holding n parts.old) values.old × Fireable (model_of t.now) (parts_of (holding n parts.old)) values.old c
-        × (length parts.old ≡ max_components) }
-    ensures { FireCall (fire (model_of t.now) (parts_of (holding n parts.old)) values.old c) (holding n parts.old) result
-        (holding n parts.new) values.new }
+// A clock fires: every component moves, and every declared clock falls by its value.
+pub fn fire(t: &[u64], x: State, values: &mut [i64], c: u64) -> Timed
+    requires { Armed t.now x values.old × Fireable (model_of t.now) (parts_of x) values.old c }
+    ensures { TimingGives (fire (model_of t.now) (parts_of x) values.old c) x result values.new }
 {
     let v = values[c as usize];
-    let a = action_at(t, parts, n, c);
-    let resets = fire_in(t, parts, n, c, a);
+    let a = action_of(t, x, c);
+    let m = fire_all(t, x, c, a);
+    let next = m.state;
     ticks::age(values, enabling::declared(t), v);
-    Firing::Fired {
-        ticks: v as u64,
-        action: a,
-        resets,
+    Timed {
+        firing: Firing::Fired {
+            ticks: v as u64,
+            action: a,
+            resets: m.resets,
+        },
+        state: next,
     }
 }
 
-// 29 or 30, quiet, or the least clock fires, in place: what does not fire leaves the numbers as they are.
-pub fn shoot_in(t: &[u64], parts: &mut [u8], n: usize, values: &mut [i64]) -> Firing
-    requires { Armed t.now (holding n parts.old) values.old × (length parts.old ≡ max_components) }
-    ensures { ShotCall (model_of t.now) (holding n parts.old) values.old result (holding n parts.new) values.new }
-{
-    let e = enabling::enabling_of(t, parts, n);
-    let d = choose(values, e);
-    match d {
-        Choice::Negative(c) => Firing::Refused(Refusal {
-            number: 29,
-            place: Place::Clock(c),
-        }),
-        Choice::Shared(c) => Firing::Refused(Refusal {
-            number: 30,
-            place: Place::Clock(c),
-        }),
-        Choice::Quiet => Firing::Quiet,
-        Choice::Fires(c) => fire(t, parts, n, values, c),
-    }
-}
-
-// The same of a state: beside a refusal stands none.
+// 29 or 30, quiet, or the least clock fires.
 pub fn shoot(t: &[u64], x: State, values: &mut [i64]) -> Timed
     requires { Armed t.now x values.old }
     ensures { TimingAnswers (timed_from (model_of t.now) (parts_of x) values.old (enabling_all (model_of t.now) (parts_of x))) x values.old result values.new }
 {
-    let n = x.count;
-    let mut parts = x.parts;
-    let firing = shoot_in(t, &mut parts, n, values);
-    match firing {
-        Firing::Fired {
-            ticks: _,
-            action: _,
-            resets: _,
-        } => Timed {
-            firing,
-            state: State { count: n, parts },
-        },
-        Firing::Quiet => Timed {
-            firing,
-            state: State { count: n, parts },
-        },
-        Firing::Refused(_) => Timed {
-            firing,
+    let e = enabling::enabling_all(t, x);
+    let d = choose(values, e);
+    match d {
+        Choice::Negative(c) => Timed {
+            firing: Firing::Refused(Refusal {
+                number: 29,
+                place: Place::Clock(c),
+            }),
             state: answer::no_state(),
         },
+        Choice::Shared(c) => Timed {
+            firing: Firing::Refused(Refusal {
+                number: 30,
+                place: Place::Clock(c),
+            }),
+            state: answer::no_state(),
+        },
+        Choice::Quiet => Timed {
+            firing: Firing::Quiet,
+            state: x,
+        },
+        Choice::Fires(c) => fire(t, x, values, c),
     }
 }
 

@@ -1,5 +1,7 @@
 // The C library: the engine's calls over plain numbers and lent buffers (include/floodneedle.h says each call's promise in words).
 // An answer comes back as words, always written; a refusal leaves every other buffer as it was.
+#![tactic(auto)]
+
 ghost use Rattle.std.specs.Prelude.{◌≡◌, ℕ};
 ghost use Rattle.std.proofs.Math.Option.{some};
 ghost use Rattle.answer.specs.Told.{Answer, done_of, says_ended};

@@ -1,4 +1,6 @@
 // The second pass over a text that is known to be good: each line is taken into a lent table.
+#![tactic(auto)]
+
 ghost use Rattle.std.specs.Prelude.{◌≡◌, ◌++◌, ℕ, ◌≤◌, length, drop};
 ghost use Rattle.answer.specs.Told.{answered};
 ghost use Rattle.model.specs.Model.{Model as TheModel};

@@ -1,6 +1,6 @@
 -- What judging a line of good shape answers, by what stands before it: the lowest of the faults 3 to 7 (01, "Refusal numbers"), or the line taken in.
 use Rattle.std.proofs.Math.Option.{Option, none, some}
-use Rattle.std.specs.Prelude.{Bool, true, false, ◌&&◌, not, cond, List, [], ◌∷◌, ℕ, zero, suc, ◌+◌, ◌-◌, length, eqb, ltb, leb}
+use Rattle.std.specs.Prelude.{Bool, true, ◌&&◌, cond, ℕ, zero, suc, ◌+◌, length, eqb, ltb, leb}
 use Rattle.laws.specs.Sets.{has, ◌∪◌, within, only}
 use Rattle.answer.specs.Limits.{max_components, max_rows, max_states, max_actions, max_clocks}
 use Rattle.model.specs.Model.{Row, acts, row_count}

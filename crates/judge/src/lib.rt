@@ -1,4 +1,6 @@
 // A line of good shape is judged, 3 to 7, against what stands before it, and taken in where it is faultless.
+#![tactic(auto)]
+
 ghost use Rattle.std.specs.Prelude.{◌≡◌, true, ◌≤◌, ◌<◌};
 ghost use Rattle.answer.specs.Limits.{max_actions, max_clocks};
 ghost use Rattle.judge.specs.Judged.{guard_number, key_before, last_plain, in_range, guard_named, named, comp_step, act_step, clk_step, row_step, step_of, beginning};
@@ -8,7 +10,7 @@ use fields::{Guard, Resets};
 use lines::Line;
 
 // What "`row` lines ascend strictly by": from, action, guard (0 for `-`, x + 1 for clock x), resets, target.
-#[derive(Drop)]
+#[derive(Clone, Copy)]
 pub struct Key {
     pub from: u64,
     pub action: u64,
@@ -18,7 +20,7 @@ pub struct Key {
 }
 
 // The last line: its turn (`comp` 0, `act` 1, `clk` 2, `row` 3; 4 before any line), its action or clock, and a row's key.
-#[derive(Drop)]
+#[derive(Clone, Copy)]
 pub struct Last {
     pub turn: u64,
     pub number: u64,
@@ -26,7 +28,7 @@ pub struct Last {
 }
 
 // What stands before a line: the components and rows so far, and of the last component what a line is judged by.
-#[derive(Drop)]
+#[derive(Clone, Copy)]
 pub struct Progress {
     pub components: usize,
     pub rows: usize,

@@ -1,5 +1,7 @@
 // The rows that the states of a table's model lack for their inputs: one walk counts them, measures their lines and lists them, so that nothing is written
 // before the whole is known to fit.
+#![tactic(auto)]
+
 ghost use Rattle.std.specs.Prelude.{◌≡◌, true, cond, ℕ, ◌+◌, ◌*◌, ◌≤◌, ◌<◌, length};
 ghost use Rattle.std.proofs.lemmas.List.Edits.{sets};
 ghost use Rattle.answer.specs.Limits.{max_rows, max_actions, max_components, max_states};
@@ -18,7 +20,7 @@ pub struct Tally {
 }
 
 // A state and an action of a component.
-#[derive(Drop)]
+#[derive(Clone, Copy)]
 pub struct Cell {
     pub component: usize,
     pub state: usize,

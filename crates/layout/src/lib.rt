@@ -1,4 +1,6 @@
 // The table: what stands where (docs/TABLE.md). Each function reads one word, or joins a few, and asks only that the table is long enough and the index in range.
+#![tactic(auto)]
+
 ghost use Rattle.std.specs.Prelude.{◌≡◌, ℕ, ◌≤◌, ◌<◌, length};
 ghost use Rattle.answer.specs.Limits.{max_components, max_states, max_rows};
 ghost use Rattle.model.specs.Model.{acts};

@@ -1,4 +1,6 @@
 // What each action triggers, what is in one set with it, and the actions that enable it: tables of 64 sets of actions, row by row.
+#![tactic(auto)]
+
 ghost use Rattle.std.specs.Prelude.{◌≡◌, cond, ℕ, ◌<◌, length};
 ghost use Rattle.answer.specs.Limits.{max_actions};
 ghost use Rattle.model.specs.Model.{urgents};
@@ -10,7 +12,7 @@ ghost use Rattle.leads.specs.Learning.{AtRow, PairOf, learn_row};
 use answer::Model;
 
 // Which table.
-#[derive(Drop)]
+#[derive(Clone, Copy)]
 pub enum Kind {
     Triggers,
     Sets,
@@ -18,7 +20,7 @@ pub enum Kind {
 }
 
 // A state of a component, and whether the component can reach it.
-#[derive(Drop)]
+#[derive(Clone, Copy)]
 pub struct Spot {
     pub component: usize,
     pub state: usize,

@@ -1,4 +1,6 @@
 // Lines of a text: the shape of a whole line, one scan from left to right, which answers the line or where it stopped; no value is judged here.
+#![tactic(auto)]
+
 ghost use Rattle.std.specs.Prelude.{◌≡◌, drop};
 ghost use Rattle.model.specs.Text.{lf};
 ghost use Rattle.model.specs.Reading.{got, then, the_byte, field, guard_or_dash, kind as kind_scan, numbers_or_dash, exactly, comp_entry, act_entry, clk_entry, row_entry, entry};
@@ -10,7 +12,7 @@ use fields::{
     Cursor, Guard, GuardScan, Kind, KindScan, NumberScan, Resets, ResetsScan, Sign, Step,
 };
 
-#[derive(Drop)]
+#[derive(Clone, Copy)]
 pub enum Line {
     Comp {
         states: u64,

@@ -1,4 +1,1 @@
 pub mod Settled
-pub mod Lines
-pub mod Free
-pub mod Calls

@@ -1,4 +1,6 @@
 // The tables of a system, its rows one after the other; the pairs of actions that are led to.
+#![tactic(auto)]
+
 ghost use Rattle.std.specs.Prelude.{◌≡◌, ℕ, ◌<◌, length};
 ghost use Rattle.std.proofs.Math.Option.{none};
 ghost use Rattle.laws.specs.Sets.{only};

@@ -1,4 +1,6 @@
 // A table of 64 rows of 64 yes or no marks, by value, closed under going on. One table lies on the stack at a time: 4,096 bytes.
+#![tactic(auto)]
+
 ghost use Rattle.std.specs.Prelude.{◌≡◌, true, false, ◌||◌, ◌&&◌, cond, ℕ, ◌<◌, length, get_or};
 ghost use Rattle.laws.specs.Sets.{only};
 ghost use Rattle.marks.specs.Marks.{rows_of_marks, RowOf, Joined, Idle, Passed, Closed, ClosedSets};

@@ -1,4 +1,6 @@
 // The rule of the numbers: the actions of a tree line by line, as words (8 times the element's number, and its signal's).
+#![tactic(auto)]
+
 ghost use Rattle.std.specs.Prelude.{◌≡◌, cond, ℕ, ◌+◌, ◌*◌, ◌≤◌, ◌<◌, length};
 ghost use Rattle.laws.specs.Fold.{tab};
 ghost use Rattle.answer.specs.Limits.{max_actions, max_elements, max_inputs};

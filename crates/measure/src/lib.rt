@@ -1,4 +1,6 @@
 // How long the text of a table is, without writing it. A row's line is measured by a fixed number of machine steps: the members of a set are counted, not walked.
+#![tactic(auto)]
+
 ghost use Rattle.std.specs.Prelude.{◌≡◌, ℕ, ◌+◌, ◌-◌, ◌≤◌, ◌<◌, length};
 ghost use Rattle.laws.specs.Fold.{tab};
 ghost use Rattle.answer.specs.Limits.{max_components, max_rows};

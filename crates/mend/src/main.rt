@@ -1,5 +1,7 @@
 // The program `mend` (paper 02, 1/13): it reads a model text from standard input and writes the repaired text, or the line of a refusal.
 // No answer without an input that was read to its end: where a read fails, nothing goes to standard output.
+#![tactic(auto)]
+
 ghost use Rattle.std.specs.Prelude.{◌≡◌, ◌*◌, ◌≤◌, length};
 ghost use Rattle.layout.specs.Image.{Image, model_of};
 ghost use Rattle.lacking.specs.Walk.{cell_bytes, most_cells};
@@ -8,7 +10,6 @@ ghost use Rattle.printout.specs.Printed.{Printed, Filled};
 ghost use Rattle.mend.specs.Mended.{repaired_text, mended_text};
 
 use answer::{Checked, Model, Written};
-use libc::{STDIN_FILENO, STDOUT_FILENO};
 use stream::Moved;
 
 // Three bytes for every state and action of the largest model, so that 24 never comes.
@@ -53,18 +54,18 @@ fn filled(input: &[u8], out: &mut [u8]) -> usize
 }
 
 // Writes the answer to an input, or says that it could not.
-fn answer(input: &[u8]) {
+fn answer(rt: &HostRuntime, input: &[u8]) {
     let mut out = printout::empty_out();
     let k = filled(input, &mut out);
-    if let Moved::Failed(e) = stream::write(STDOUT_FILENO, &out[..k]) {
-        failing::say(b"mend: the text could not be written whole", e);
+    if let Moved::Failed(e) = stream::write(rt, &mut rt.stdout(), &out[..k]) {
+        failing::say(rt, b"mend: the text could not be written whole", e);
     }
 }
 
-fn main() {
+fn main(rt: HostRuntime) {
     let mut input = printout::empty_input();
-    match stream::read(STDIN_FILENO, &mut input) {
-        Moved::Bytes(n) => answer(&input[..n]),
-        Moved::Failed(e) => failing::say(b"mend: standard input could not be read", e),
+    match stream::read(&rt, &mut rt.stdin(), &mut input) {
+        Moved::Bytes(n) => answer(&rt, &input[..n]),
+        Moved::Failed(e) => failing::say(&rt, b"mend: standard input could not be read", e),
     }
 }

@@ -1,7 +1,7 @@
 -- How far the work in the lent table has come: an old image, the new one that is to be, and the table between them.
 use Rattle.std.specs.Prelude.{◌≡◌, List, ℕ, suc, ◌+◌, ◌*◌, ◌≤◌, ◌<◌, length, get_or, take}
 use Rattle.model.specs.Model.{row_count}
-use Rattle.layout.specs.Layout.{head_words, block_words, row_words, rows_at, image_words, count_of, block_word, first_of}
+use Rattle.layout.specs.Layout.{head_words, block_words, row_words, rows_at, count_of, block_word, first_of}
 use Rattle.layout.specs.Image.{model_of, Image}
 use Rattle.lacking.specs.Repair.{repaired_of}
 

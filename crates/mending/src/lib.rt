@@ -1,5 +1,7 @@
 // Missing self-loops put into a lent table, in place: the rows are raised by as many as are missing, and then one walk forward over components and states
 // puts each where it belongs, a loop before the first row with a higher action.
+#![tactic(auto)]
+
 ghost use Rattle.std.specs.Prelude.{◌≡◌, [], ◌∷◌, ◌++◌, ℕ, ◌+◌, ◌*◌, ◌-◌, ◌≤◌, ◌<◌, length, get_or, set, drop};
 ghost use Rattle.std.proofs.lemmas.List.Edits.{sets};
 ghost use Rattle.sets.specs.Members.{word_bits};

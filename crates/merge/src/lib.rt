@@ -1,4 +1,6 @@
 // Merging.
+#![tactic(auto)]
+
 ghost use Rattle.std.specs.Prelude.{◌≡◌};
 ghost use Rattle.std.proofs.Math.Option.{none};
 ghost use Rattle.answer.specs.declared.Checked.TheVariants as Checked;

@@ -1,6 +1,8 @@
 // The program `merge` (paper 01, composition): it reads a model text from standard input and writes the text of the model in which the component that its
 // argument names and the next one are their product, or the line of a refusal.
 // No answer without an input that was read to its end: where a read fails, nothing goes to standard output.
+#![tactic(auto)]
+
 ghost use Rattle.std.specs.Prelude.{◌≡◌, ◌≤◌, length};
 ghost use Rattle.layout.specs.Image.{Image, model_of};
 ghost use Rattle.steplines.specs.Run.{most_bytes};
@@ -9,7 +11,6 @@ ghost use Rattle.merger.specs.Merged.{joined_text, merged_text};
 
 use answer::Checked;
 use arguments::Asked;
-use libc::{STDERR_FILENO, STDIN_FILENO, STDOUT_FILENO};
 use stream::Moved;
 
 fn put_joined(t: &[u64], i: usize, out: &mut [u8]) -> usize
@@ -44,29 +45,29 @@ fn filled(input: &[u8], i: usize, out: &mut [u8]) -> usize
 }
 
 // Writes the answer to an input, or says that it could not.
-fn answer(input: &[u8], i: usize) {
+fn answer(rt: &HostRuntime, input: &[u8], i: usize) {
     let mut out = printout::empty_out();
     let k = filled(input, i, &mut out);
-    if let Moved::Failed(e) = stream::write(STDOUT_FILENO, &out[..k]) {
-        failing::say(b"merge: the text could not be written whole", e);
+    if let Moved::Failed(e) = stream::write(rt, &mut rt.stdout(), &out[..k]) {
+        failing::say(rt, b"merge: the text could not be written whole", e);
     }
 }
 
-fn with_model(i: usize) {
+fn with_model(rt: &HostRuntime, i: usize) {
     let mut input = printout::empty_input();
-    match stream::read(STDIN_FILENO, &mut input) {
-        Moved::Bytes(n) => answer(&input[..n], i),
-        Moved::Failed(e) => failing::say(b"merge: standard input could not be read", e),
+    match stream::read(rt, &mut rt.stdin(), &mut input) {
+        Moved::Bytes(n) => answer(rt, &input[..n], i),
+        Moved::Failed(e) => failing::say(rt, b"merge: standard input could not be read", e),
     }
 }
 
-fn usage() {
-    stream::write(STDERR_FILENO, b"usage: ./merge COMPONENT < MODEL\n");
+fn usage(rt: &HostRuntime) {
+    stream::write(rt, &mut rt.stderr(), b"usage: ./merge COMPONENT < MODEL\n");
 }
 
-fn main() {
-    match arguments::only_number() {
-        Asked::Number(i) => with_model(i),
-        Asked::Wrong => usage(),
+fn main(rt: HostRuntime) {
+    match arguments::only_number(&rt) {
+        Asked::Number(i) => with_model(&rt, i),
+        Asked::Wrong => usage(&rt),
     }
 }

@@ -1,4 +1,6 @@
 // A text of the second form, checked before anything is written: 1, the `form` line, the `name` lines, the other lines judged as old lines, 8, and unused names.
+#![tactic(auto)]
+
 ghost use Rattle.std.specs.Prelude.{◌≡◌, ℕ, ◌≤◌, length, get_or};
 ghost use Rattle.std.proofs.Math.Option.{some};
 ghost use Rattle.answer.specs.Told.{says_checked, done_of};

@@ -1,4 +1,6 @@
 // A good line with its name exchanged for its number is the old line, byte for byte. So a line is cut at its name, and its parts are copied.
+#![tactic(auto)]
+
 ghost use Rattle.std.specs.Prelude.{◌≡◌, ◌≤◌, ◌<◌, length, drop};
 ghost use Rattle.answer.specs.Limits.{max_actions, max_bytes};
 ghost use Rattle.model.specs.Reading.{got};
@@ -14,7 +16,7 @@ use namefields::Found;
 use namelines::{NamedLine, NamedScan};
 
 // A line that begins at a known place: the bytes up to `stop`, then the number of the action where there is one, then those from `go` to `next`.
-#[derive(Drop)]
+#[derive(Clone, Copy)]
 pub struct Cut {
     pub stop: usize,
     pub go: usize,

@@ -99,6 +99,6 @@ pub comps-read : {t : List ℕ} {k : ℕ} (p : Progress) (cs : List Comp) → Al
     → Reaches t k p (text_of cs) → (j : ℕ) × (q : Progress) × Reaches t j q [] × (q.comps ≡ reverse_aux cs p.comps)
 unfolding text_of row_count
 comps-read {t} {k} p [] h l n r = (k, p, r, refl)
-comps-read p (c ∷ cs) h l n r =
+comps-read {t = t} {k = k} p (c ∷ cs) h l n r =
     let a = comp-read c (text_of cs) h.0 (omega arith) (omega arith) r in
-    comps-read (record { comps = c ∷ p.comps; last = some a.0 }) cs h.1 (omega arith) (omega arith) a.1.reached
+    comps-read {k = a.1.line} (record { comps = c ∷ p.comps; last = some a.0 }) cs h.1 (omega arith) (omega arith) a.1.reached

@@ -33,6 +33,7 @@ declares : (e : Entry) (es : List Entry) → In e es → (a : ℕ) → a ∈ dec
 unfolding declared_in
 declares e (d ∷ es) (here q) a h = or-in-l (declared_by d) (declared_in es) a (rw (← q) h)
 declares e (d ∷ es) (there m) a h = or-in-r (declared_by d) (declared_in es) a (declares e es m a h)
+declares e [] m a h = elim m [ ]
 
 -- an action of a component has its `act` line
 act-there : (c : Comp) (a : ℕ) → a ∈ acts c → a < max_actions → In (act-entry a (kind_of c a)) (comp_entries c)

@@ -2,7 +2,7 @@
 use mathlib.Core.Path.{◌≡◌, refl, sym, ◌∙◌, ap}
 use mathlib.Core.Option.{none}
 use mathlib.Core.List.{List, [], ◌∷◌, ◌++◌, append_assoc}
-use Prim.Native.Nat.{ℕ}
+use Prim.Native.Nat.{ℕ, suc}
 use Rattle.laws.proofs.ListLaws.{All}
 use Rattle.model.specs.Reading.{got, Entry, entry, Progress, at_start, fault_of}
 use Rattle.model.specs.Line.{line_of, LineFits}
@@ -51,7 +51,7 @@ pub reached : {t : List ℕ} {k : ℕ} {p q : Progress} {es : List Entry} (bs : 
     → All LineFits es → Reaches t k p (lines_text es ++ bs) → (j : ℕ) × Reaches t j q bs
 unfolding lines_text
 reached {k = k} bs none_left h r = (k, r)
-reached {p = p} bs (takes e {es} f t) h r =
+reached {k = k} {p = p} bs (takes e {es} f t) h r =
     let rest = lines_text es ++ bs in
     let read : entry (line_of e ++ rest) ≡ got e rest = entry-exact.printed e rest h.0 tt in
-    reached bs t h.1 (line_on e rest r (append_assoc (line_of e) (lines_text es) bs) h.0 (fault-none p (line_of e ++ rest) e rest read f))
+    reached {k = suc k} bs t h.1 (line_on e rest r (append_assoc (line_of e) (lines_text es) bs) h.0 (fault-none p (line_of e ++ rest) e rest read f))

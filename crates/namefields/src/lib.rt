@@ -1,4 +1,6 @@
 // Names in a text: where one ends, whether it is good, whether two are the same, and which action has it. No name is copied: 64 places say where each stands.
+#![tactic(auto)]
+
 ghost use Rattle.std.specs.Prelude.{◌≡◌, ◌+◌, length, drop};
 ghost use Rattle.answer.specs.Limits.{max_actions};
 ghost use Rattle.named.specs.NamedText.{is_letter, is_letter_or_digit, letters_or_digits, good_name, same_name, is_named};
@@ -10,7 +12,7 @@ use fields::Sign;
 // "a name of 1 to 16 lower-case letters or digits".
 const LONGEST: usize = 16;
 
-#[derive(Drop)]
+#[derive(Clone, Copy)]
 pub enum Found {
     Is(u64),
     Nothing,

@@ -1,4 +1,6 @@
 // A line behind the `name` lines: judged as the old line that it is with its name exchanged for its number, and the place of its fault.
+#![tactic(auto)]
+
 ghost use Rattle.std.specs.Prelude.{◌≡◌, ℕ, ◌+◌, ◌≤◌, ◌<◌, length};
 ghost use Rattle.std.proofs.Math.Option.{some};
 ghost use Rattle.answer.specs.Limits.{max_actions, max_bytes};

@@ -1,4 +1,6 @@
 // Lines of the second form: the shape of a whole line, one scan from left to right, which answers the line or where it stopped. A name stays in the text: the line says where it stands.
+#![tactic(auto)]
+
 ghost use Rattle.std.specs.Prelude.{◌≡◌, ◌+◌, ◌≤◌, length, drop};
 ghost use Rattle.model.specs.Text.{lf};
 ghost use Rattle.model.specs.Reading.{got, then, the_byte, exactly, field, guard_or_dash, kind as kind_scan, numbers_or_dash};
@@ -15,7 +17,7 @@ use fields::{
 };
 use lines::{Line, LineScan};
 
-#[derive(Drop)]
+#[derive(Clone, Copy)]
 pub enum NamedLine {
     Form,
     Name {

@@ -3,4 +3,5 @@ pub mod Determined
 pub mod Fitted
 pub mod Exactly
 pub mod NamesExactly
+pub mod NumbersExactly
 pub mod RoundTrip

@@ -1,4 +1,4 @@
--- What the two calls that convert a text answer and leave (02, 7/13), in the paper's words.
+-- What the call `to_names` answers and leaves (02, 7/13), in the paper's words; and what either conversion answers with a lent buffer (`Fitting`).
 use Rattle.std.specs.Prelude.{◌≡◌, List, [], ◌∷◌, ℕ, ◌≤◌, ◌<◌, length}
 use Rattle.answer.specs.Limits.{max_bytes}
 use Rattle.answer.specs.Told.{Told, tell, Answer, answered, refused}
@@ -10,7 +10,6 @@ use Rattle.iosa.specs.InOrder.{Leaves}
 use Rattle.iosa.specs.Lent.{Fills}
 use Rattle.answering.specs.Answers.{ReadAnswer}
 use Rattle.named.specs.NamedText.{text_named, defaults_of}
-use Rattle.names.specs.Names.{NumbersAnswer}
 
 -- old to new: what reading the old text refuses, "1; lines in file order, within a line 2 to 7; 8"; or the text in the second form of the one model
 -- whose text this is: "Old to new names each action `a` and its number"
@@ -28,6 +27,3 @@ pub data Fitting (Converted : Answer (List ℕ) → Type 0) (bytes : ℕ) : Answ
 
 abbrev pub NamesExactly : List ℕ → List ℕ → List ℕ → Written → Type 0
 NamesExactly t old new r = Leaves (Fitting (NamesAnswer t) (length old)) (Fills old new r)
-
-abbrev pub NumbersExactly : List ℕ → List ℕ → List ℕ → Written → Type 0
-NumbersExactly t old new r = Leaves (Fitting (NumbersAnswer t) (length old)) (Fills old new r)

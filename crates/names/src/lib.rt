@@ -1,4 +1,6 @@
 // Names for actions (paper 02, request 7): a text of the second form is made a text of the old one, line by line, and the other way.
+#![tactic(auto)]
+
 ghost use Rattle.std.specs.Prelude.{◌≡◌, ◌≤◌, length};
 ghost use Rattle.answer.specs.Limits.{max_actions, max_bytes};
 ghost use Rattle.print.specs.Put.{Room, Put};

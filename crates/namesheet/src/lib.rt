@@ -1,4 +1,6 @@
 // The `name` lines of a text of the second form: each is judged, and 64 places say where the names stand.
+#![tactic(auto)]
+
 ghost use Rattle.std.specs.Prelude.{◌≡◌, true, List, ℕ, ◌+◌, ◌≤◌, ◌<◌, length, drop, get_or};
 ghost use Rattle.answer.specs.Limits.{max_actions, max_bytes};
 ghost use Rattle.named.specs.ReadNamed.{unused};

@@ -1,4 +1,6 @@
 // Names for actions (paper 02, request 7), old to new: `form`, a `name` line for each declared action, and the old lines with `a` put in before each action.
+#![tactic(auto)]
+
 ghost use Rattle.std.specs.Prelude.{◌≡◌, ◌≤◌, ◌<◌, length};
 ghost use Rattle.answer.specs.Limits.{max_actions, max_bytes};
 ghost use Rattle.print.specs.Put.{Room, Put};
@@ -10,7 +12,7 @@ use fields::{Cursor, Sign};
 use lines::{Line, LineScan};
 
 // A line that begins at a known place: its action begins `place` bytes on, 0 where it has none; the action that it declares, as a set; where the next line begins.
-#[derive(Drop)]
+#[derive(Clone, Copy)]
 pub struct Part {
     pub place: usize,
     pub declares: u64,

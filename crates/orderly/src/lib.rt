@@ -1,4 +1,6 @@
 // The new test called: 20, 10 to 17, 45, 18; and whether a path or a simulation may begin: 20, 10 to 17, check 18 or else 45, 18.
+#![tactic(auto)]
+
 ghost use Rattle.std.specs.Prelude.{◌≡◌};
 ghost use Rattle.std.proofs.Math.Option.{none};
 ghost use Rattle.laws.specs.Sets.{◌∖◌};

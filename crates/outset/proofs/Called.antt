@@ -1,13 +1,12 @@
 -- The answer of `start`, by whether the table was recognised; and the words of a table that it is made of.
 use mathlib.Core.Path.{◌≡◌, sym, ◌∙◌, ap}
-use mathlib.Core.Bool.{Bool, true, false, not}
+use mathlib.Core.Bool.{Bool, true, false}
 use mathlib.Core.Option.{some}
 use mathlib.Core.List.{List}
 use Prim.Native.Nat.{ℕ, ◌<◌}
 use native.Mathlib.Omega.{arith}
 use native.Mathlib.Decide.{dec_lt}
 use lib.ListN.{length, get_or, get_or-eq_default}
-use borrow.Author.Tests.{not-true, not-false}
 use Rattle.answer.specs.Limits.{max_components, max_states, no_state}
 use Rattle.answer.specs.Told.{answered, done_of, told, says_checked}
 use Rattle.answer.specs.declared.Checked.TheVariants.{Fine, Refused}
@@ -50,20 +49,20 @@ module _ (t : List ℕ) (im : Image t) where
 
 -- w is what the recogniser answered
 module _ (t : List ℕ) (w : Bool) (e : w ≡ is_image t) where
-  pub is-image : not w ≡ false → Image t
-  is-image f = (image-exactly t).0 (sym e ∙ not-false w f)
+  pub is-image : w ≡ true → Image t
+  is-image f = (image-exactly t).0 (sym e ∙ f)
 
   -- 20, and zeros
-  pub refused-20 : not w ≡ true → (x : State) → x ≡ no_state
+  pub refused-20 : w ≡ false → (x : State) → x ≡ no_state
       → StartCall t (record { checked = Refused (record { number = 20; place = Whole }); started = 0; state = x })
   unfolding says_checked told
   refused-20 f x q =
-      let o = on-no-image t (λ m. answered (start_of m)) (sym e ∙ not-true w f) in
+      let o = on-no-image t (λ m. answered (start_of m)) (sym e ∙ f) in
       record { checked = ap (λ v. some (done_of v)) (sym o); started = ap started_in (sym o); state = q ∙ ap state_in (sym o) }
 
-  pub begins : not w ≡ false → (s : ℕ) (x : State) → s ≡ started_all (model_of t) → x ≡ state_of (start_all (model_of t))
+  pub begins : w ≡ true → (s : ℕ) (x : State) → s ≡ started_all (model_of t) → x ≡ state_of (start_all (model_of t))
       → StartCall t (record { checked = Fine; started = s; state = x })
   unfolding says_checked
   begins f s x p q =
-      let o = on-image t (λ m. answered (start_of m)) (sym e ∙ not-false w f) in
+      let o = on-image t (λ m. answered (start_of m)) (sym e ∙ f) in
       record { checked = ap (λ v. some (done_of v)) (sym o); started = p ∙ ap started_in (sym o); state = q ∙ ap state_in (sym o) }

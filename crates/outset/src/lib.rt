@@ -1,4 +1,6 @@
 // The call `start`: where the system of a table begins.
+#![tactic(auto)]
+
 ghost use Rattle.std.specs.Prelude.{◌≡◌, ℕ, ◌<◌, get_or};
 ghost use Rattle.answer.specs.Limits.{max_components};
 ghost use Rattle.iosa.specs.Start.{start_all};

@@ -1,4 +1,6 @@
 // Compatibility: 15, 16 and 17, each at the lowest action or clock, then at the lowest two components that clash.
+#![tactic(auto)]
+
 ghost use Rattle.std.specs.Prelude.{◌≡◌, Bool, true, false, [], ◌∷◌, ℕ, ◌+◌, ◌≤◌, ◌<◌, length};
 ghost use Rattle.std.proofs.Math.Option.{some};
 ghost use Rattle.laws.specs.Sets.{has};
@@ -14,7 +16,7 @@ use answer::{Checked, Place, Refusal};
 use rows::Found;
 
 // What no two components may share: outputs, clocks, or an action that is urgent in one of them alone.
-#[derive(Drop)]
+#[derive(Clone, Copy)]
 pub enum Shared {
     Outputs,
     Clocks,

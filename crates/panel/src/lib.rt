@@ -1,4 +1,6 @@
 // A composed state behind `&mut`, advanced by one urgent step.
+#![tactic(auto)]
+
 ghost use Rattle.panel.specs.Advance.{AdvanceCall, TakenCall};
 
 use answer::{Outcome, State, Stepped};

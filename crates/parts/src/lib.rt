@@ -1,4 +1,6 @@
 // One component's conditions, by its index: 10 to 14 in turn, each at the least place.
+#![tactic(auto)]
+
 ghost use Rattle.std.specs.Prelude.{◌≡◌, Bool, true, false, ℕ, ◌+◌, ◌≤◌, ◌<◌, length};
 ghost use Rattle.laws.specs.Search.{seek};
 ghost use Rattle.answer.specs.Limits.{max_actions, max_rows};
@@ -10,7 +12,7 @@ ghost use Rattle.parts.specs.Faults.{Says, bad_guard_by, fault10, fault14, actio
 use answer::{Checked, Model, Place, Refusal};
 
 // The conditions that are asked of one state after the other.
-#[derive(Drop)]
+#[derive(Clone, Copy)]
 pub enum Asked {
     Clocks,
     Inputs,

@@ -1,4 +1,6 @@
 // A repairable fault tree is read into a table, as its model.
+#![tactic(auto)]
+
 ghost use Rattle.plant.specs.ReadTreeCall.{ReadTreeCall};
 
 use answer::{Checked, Place, Refusal};

@@ -1,4 +1,6 @@
 // The image of a tree's model, written in the order of its words: the block of each line, then the rows of all lines, then zeros.
+#![tactic(auto)]
+
 ghost use Rattle.std.specs.Prelude.{◌≡◌, true, ℕ, suc, ◌+◌, ◌*◌, ◌≤◌, ◌<◌, length};
 ghost use Rattle.std.proofs.lemmas.List.Edits.{sets};
 ghost use Rattle.answer.specs.Limits.{max_actions, max_clocks, max_states, max_rows};

@@ -1,4 +1,6 @@
 // Fields of a text, put into a lent buffer at a place. Each function answers the place behind what it put, and leaves every other byte.
+#![tactic(auto)]
+
 ghost use Rattle.std.specs.Prelude.{[], ◌∷◌, ◌≤◌, ◌<◌, length};
 ghost use Rattle.answer.specs.Limits.{max_components};
 ghost use Rattle.answer.specs.State.{parts_of};

@@ -1,4 +1,6 @@
 // What the programs have in common that read a text and print what a call answers: their buffers, and the answer at a buffer's front.
+#![tactic(auto)]
+
 ghost use Rattle.std.specs.Prelude.{◌≡◌, ◌+◌, ◌≤◌, length};
 ghost use Rattle.answer.specs.Limits.{max_bytes};
 ghost use Rattle.model.specs.Text.{text_of};

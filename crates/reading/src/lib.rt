@@ -1,4 +1,6 @@
 // The words of a text's model, written into a lent table: the words that one line changes (docs/TABLE.md).
+#![tactic(auto)]
+
 ghost use Rattle.std.specs.Prelude.{[], ◌∷◌, ℕ, suc, ◌+◌, ◌≤◌, ◌<◌, length, get_or};
 ghost use Rattle.answer.specs.Limits.{max_components, max_rows, max_states, max_actions};
 ghost use Rattle.layout.specs.Layout.{head_words, image_words};

@@ -1,4 +1,6 @@
 // Missing self-loops put in.
+#![tactic(auto)]
+
 ghost use Rattle.std.specs.Prelude.{◌≡◌, ◌||◌, not, length, ltb};
 ghost use Rattle.answer.specs.Limits.{max_rows, max_bytes};
 ghost use Rattle.answer.specs.declared.Written.TheVariants as Written;

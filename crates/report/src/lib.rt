@@ -1,4 +1,6 @@
 // What the program prints for its input (paper 01, "The program and its example").
+#![tactic(auto)]
+
 ghost use Rattle.std.specs.Prelude.{◌≤◌, length};
 ghost use Rattle.answer.specs.State.{parts_of};
 ghost use Rattle.iosa.specs.Settle.{settle_of};

@@ -1,4 +1,6 @@
 // The request line of the program (paper 01, "The program and its example"): one scan of its bytes from left to right.
+#![tactic(auto)]
+
 ghost use Rattle.std.specs.Prelude.{◌≡◌, ◌≤◌, length, drop};
 ghost use Rattle.answer.specs.Limits.{no_state};
 ghost use Rattle.model.specs.Reading.{more_numbers, numbers, field};

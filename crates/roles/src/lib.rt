@@ -1,4 +1,6 @@
 // What an action is to a module (000, section 5.5), and where it leads from a state: numbers and bits only, no tables.
+#![tactic(auto)]
+
 ghost use Rattle.std.specs.Prelude.{◌≡◌, ℕ, ◌+◌, ◌*◌, ◌-◌, ◌/◌, ◌%◌, ◌≤◌, ◌<◌};
 ghost use Rattle.std.proofs.Math.Option.{some};
 ghost use Rattle.laws.specs.Sets.{has};
@@ -10,7 +12,7 @@ ghost use Rattle.trees.specs.Modules.{one_more, one_less, count_move, pand_state
 ghost use Rattle.roles.specs.Roles.{signal_is, kind_is, move_is, gate_is, told_as, gate_of, meant_as};
 
 // "fl", "up", "f", "u", "r": failure and repair by the clock, failure and repair told, start of repair.
-#[derive(Drop)]
+#[derive(Clone, Copy)]
 pub enum Signal {
     Fl,
     Up,

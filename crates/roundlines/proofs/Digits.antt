@@ -29,8 +29,7 @@ one-digit : (k n : ℕ) → n < 10 → digits_of (suc k) n ≡ (byte0 + n) ∷ [
 unfolding digits_of
 one-digit k n h = go (ltb n 10) refl
   where
-    go : (b : Bool) → ltb n 10 ≡ b
-        → elim b as (λ _. List ℕ) [ true ↦ (byte0 + n) ∷ [] | false ↦ digits_of k (n / 10) ++ (byte0 + n % 10) ∷ [] ] ≡ (byte0 + n) ∷ []
+    go : (b : Bool) → ltb n 10 ≡ b → elim b as (λ _. List ℕ) [ true ↦ (byte0 + n) ∷ [] | false ↦ digits_of k (n / 10) ++ (byte0 + n % 10) ∷ [] ] ≡ (byte0 + n) ∷ []
     go true e = refl
     go false e = absurd (omega (arith, ltb-false n 10 e))
 
@@ -39,8 +38,7 @@ unfolding digits_of
 more-digits k n h = go (ltb n 10) refl
   where
     go : (b : Bool) → ltb n 10 ≡ b
-        → elim b as (λ _. List ℕ) [ true ↦ (byte0 + n) ∷ [] | false ↦ digits_of k (n / 10) ++ (byte0 + n % 10) ∷ [] ]
-        ≡ digits_of k (n / 10) ++ (byte0 + n % 10) ∷ []
+        → elim b as (λ _. List ℕ) [ true ↦ (byte0 + n) ∷ [] | false ↦ digits_of k (n / 10) ++ (byte0 + n % 10) ∷ [] ] ≡ digits_of k (n / 10) ++ (byte0 + n % 10) ∷ []
     go true e = absurd (omega (arith, ltb-true n 10 e))
     go false e = refl
 

@@ -1,6 +1,6 @@
 -- The lines of a simulation by the parts in which they are put.
 use mathlib.Core.Path.{◌≡◌, refl, sym, ◌∙◌, ap}
-use mathlib.Core.Bool.{Bool, true, false}
+use mathlib.Core.Bool.{Bool, true, false, cond}
 use mathlib.Core.List.{List, [], ◌∷◌, ◌++◌}
 use Prim.Native.Nat.{ℕ}
 use lib.IntN.{ℤ, pos, nat_abs}
@@ -8,8 +8,7 @@ use lib.Signed.{lt_z}
 use Rattle.laws.specs.Sets.{has}
 use Rattle.model.specs.Text.{tab, lf, dash, decimal, joined, guard_field, set_field, fields_after}
 use Rattle.iosa.specs.TimedExactly.{value_of}
-use Rattle.roundlines.specs.Lines.{long, signed, done_word, clock_word, done_line, clock_with, clock_line, clock_part, clock_lines, ended_text}
-use Rattle.roundlines.specs.Lines.{fired_of, stood_of, round_line}
+use Rattle.roundlines.specs.Lines.{long, signed, done_word, clock_word, done_line, clock_with, clock_line, clock_part, clock_lines, ended_text, fired_of, stood_of, round_line}
 
 pub below_parts : (b : Bool) (n : ℕ) → b ≡ true → signed b n ≡ (dash ∷ []) ++ long n
 unfolding signed

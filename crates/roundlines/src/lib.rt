@@ -1,4 +1,6 @@
 // The lines that the program `simulate` prints (paper 02, 4/13), put into a lent buffer at a place. Each function answers the place behind what it put.
+#![tactic(auto)]
+
 ghost use Rattle.std.specs.Prelude.{◌≡◌, ◌≤◌, ◌<◌, length, nat_abs};
 ghost use Rattle.answer.specs.Limits.{max_components, max_clocks};
 ghost use Rattle.answer.specs.State.{parts_of};
@@ -90,11 +92,11 @@ fn put_done(out: &mut [u8], at: usize, k: usize, x: State) -> usize
 }
 
 // How a simulation ended that was not refused.
-pub fn put_ended(out: &mut [u8], at: usize, k: usize, x: State, d: u64, values: &[i64]) -> usize
-    requires { (x.count ≤ max_components) × (length values.now ≡ max_clocks) × Room out.old at (ended_text k (parts_of x) d values.now) }
-    ensures { Put out.old at (ended_text k (parts_of x) d values.now) out.new result }
+pub fn put_ended(out: &mut [u8], k: usize, x: State, d: u64, values: &[i64]) -> usize
+    requires { (x.count ≤ max_components) × (length values.now ≡ max_clocks) × Room out.old 0 (ended_text k (parts_of x) d values.now) }
+    ensures { Put out.old 0 (ended_text k (parts_of x) d values.now) out.new result }
 {
-    let next = put_done(out, at, k, x);
+    let next = put_done(out, 0, k, x);
     put_clocks(out, next, d, values)
 }
 
@@ -123,18 +125,10 @@ fn put_stood(out: &mut [u8], at: usize, x: State, resets: u64) -> usize
 }
 
 // A round's line.
-pub fn put_round(
-    out: &mut [u8],
-    at: usize,
-    k: usize,
-    ticks: u64,
-    g: u64,
-    x: State,
-    resets: u64,
-) -> usize
-    requires { (x.count ≤ max_components) × Room out.old at (round_line k ticks g (parts_of x) resets) }
-    ensures { Put out.old at (round_line k ticks g (parts_of x) resets) out.new result }
+pub fn put_round(out: &mut [u8], k: usize, ticks: u64, g: u64, x: State, resets: u64) -> usize
+    requires { (x.count ≤ max_components) × Room out.old 0 (round_line k ticks g (parts_of x) resets) }
+    ensures { Put out.old 0 (round_line k ticks g (parts_of x) resets) out.new result }
 {
-    let next = put_fired(out, at, k, ticks, g);
+    let next = put_fired(out, 0, k, ticks, g);
     put_stood(out, next, x, resets)
 }

@@ -9,10 +9,10 @@ use lib.IntN.{ℤ}
 use Rattle.laws.specs.Sets.{◌∪◌}
 use Rattle.laws.specs.Search.{least}
 use Rattle.laws.proofs.SearchLaws.{least-some}
-use Rattle.laws.proofs.TestLaws.{apart-cases}
 use Rattle.answer.specs.Limits.{max_clocks, max_budget}
-use Rattle.answer.specs.Told.{tell, told, answered, refused, as_refused, says_verdict}
+use Rattle.answer.specs.Told.{Told, tell, told, Answer, answered, refused, as_refused, says_verdict}
 use Rattle.answer.specs.declared.Place.TheVariants as OfPlace
+use Rattle.answer.specs.declared.Refusal.{Refusal}
 use Rattle.answer.specs.declared.Settled.{Settled}
 use Rattle.answer.specs.declared.Verdict.TheVariants as OfVerdict
 use Rattle.answer.specs.State.{parts_of}
@@ -31,22 +31,12 @@ use Rattle.feed.specs.Feeding.{Fed, FedCall}
 use Rattle.feed.proofs.Supplied.{ran-out-told}
 use Rattle.rounds.specs.declared.Stand.{Stand}
 use Rattle.rounds.specs.declared.Closed.{Closed}
-use Rattle.ticks.specs.Ticks.{Ticking}
-use Rattle.rounds.specs.declared.Closing.{Closing}
 use Rattle.rounds.specs.declared.Closing.TheVariants.{Done, Refused}
-use Rattle.rounds.specs.Rounds.{says_closing, Posed, Placed, Closes, EndingIs, unsettled_at, CloseCall}
+use Rattle.rounds.specs.Rounds.{says_closing, Posed, Placed, Closes, EndCall, CloseCall}
 use Rattle.rounds.proofs.Keeps.{settle-keeps}
 use Rattle.rounds.proofs.Poses.{posed-parts, posed-with, posed-again}
 
 -- ---- the end
--- at, used and was are the places and values before, at', used' and vs those after
-record EndCall (l : Lent) (s : Stand) (at used : List ℕ) (was : List ℤ) (r : Closed) (at' used' : List ℕ) (vs : List ℤ) : Type 0 where
-  ends : (p : Supply) (ts : List ℕ) → Supplies l p ts at used → s.state ≡ state_of (parts_of s.state)
-      → Closes (end_of p s.resets (parts_of s.state) was ts) l p r at' used' vs
-  placed : Placed at' used'
-  state : r.state ≡ s.state
-  ticking : (d : ℕ) → Ticking d was → Ticking d vs
-
 module _ (p : Supply) (w : ℕ) (s : List ℕ) (vs : List ℤ) (ts : List ℕ) where
   end-lacks : (x : ℕ) → least (lacks p w ts) max_clocks ≡ some x → end_of p w s vs ts ≡ refused (tell p.ran_out (x ∷ []))
   unfolding end_of
@@ -59,8 +49,7 @@ module _ (p : Supply) (w : ℕ) (s : List ℕ) (vs : List ℤ) (ts : List ℕ) w
 module _ (l : Lent) (s : Stand) (at used : List ℕ) (was : List ℤ) (x : ℕ) (at' used' : List ℕ) (vs : List ℤ)
     (call : FedCall l s.resets at used was x at' used' vs) where
   ends_so : (r : Closed) → r.state ≡ s.state
-      → ((p : Supply) (ts : List ℕ) → Supplies l p ts at used → s.state ≡ state_of (parts_of s.state) → (o : Option ℕ)
-      → least (lacks p s.resets ts) max_clocks ≡ o
+      → ((p : Supply) (ts : List ℕ) → Supplies l p ts at used → s.state ≡ state_of (parts_of s.state) → (o : Option ℕ) → least (lacks p s.resets ts) max_clocks ≡ o
       → Fed o l p s.resets ts was x at' used' vs → Closes (end_of p s.resets (parts_of s.state) was ts) l p r at' used' vs)
       → EndCall l s at used was r at' used' vs
   ends_so r e by = record {
@@ -70,7 +59,7 @@ module _ (l : Lent) (s : Stand) (at used : List ℕ) (was : List ℤ) (x : ℕ) 
     ticking = call.ticking;
   }
 
-  ends-lacking : x < max_clocks → (n : ℕ) → n ≡ ran_out_of l.source → (r : Closed)
+  pub ends-lacking : x < max_clocks → (n : ℕ) → n ≡ ran_out_of l.source → (r : Closed)
       → r ≡ record { closing = Refused (record { number = n; place = OfPlace.Clock x }); state = s.state } → EndCall l s at used was r at' used' vs
   unfolding says_closing
   ends-lacking h n en r e = ends_so r (ap (λ (q : Closed). q.state) e) by
@@ -79,19 +68,17 @@ module _ (l : Lent) (s : Stand) (at used : List ℕ) (was : List ℤ) (x : ℕ) 
           → as_refused {A = Bool} (told (record { number = n; place = OfPlace.Clock x })) ≡ some (refused (tell p.ran_out (y ∷ [])))
       tells p ep y ey = rw (en, ep, ey) (ap as_refused (ran-out-told l.source y))
 
-      by : (p : Supply) (ts : List ℕ) → Supplies l p ts at used → s.state ≡ state_of (parts_of s.state) → (o : Option ℕ)
-          → least (lacks p s.resets ts) max_clocks ≡ o
+      by : (p : Supply) (ts : List ℕ) → Supplies l p ts at used → s.state ≡ state_of (parts_of s.state) → (o : Option ℕ) → least (lacks p s.resets ts) max_clocks ≡ o
           → Fed o l p s.resets ts was x at' used' vs → Closes (end_of p s.resets (parts_of s.state) was ts) l p r at' used' vs
       by p ts k z none q f = absurd (omega (arith, f.limit))
       by p ts k z (some y) q f =
           subst (λ a. Closes a l p r at' used' vs) (sym (end-lacks p s.resets (parts_of s.state) was ts y q))
           (ap (λ (c : Closed). says_closing c.closing) e ∙ tells p k.number y f)
 
-  ends-fed : max_clocks ≤ x → (r : Closed) → r ≡ record { closing = Done; state = s.state } → EndCall l s at used was r at' used' vs
+  pub ends-fed : max_clocks ≤ x → (r : Closed) → r ≡ record { closing = Done; state = s.state } → EndCall l s at used was r at' used' vs
   ends-fed h r e = ends_so r (ap (λ (q : Closed). q.state) e) by
     where
-      by : (p : Supply) (ts : List ℕ) → Supplies l p ts at used → s.state ≡ state_of (parts_of s.state) → (o : Option ℕ)
-          → least (lacks p s.resets ts) max_clocks ≡ o
+      by : (p : Supply) (ts : List ℕ) → Supplies l p ts at used → s.state ≡ state_of (parts_of s.state) → (o : Option ℕ) → least (lacks p s.resets ts) max_clocks ≡ o
           → Fed o l p s.resets ts was x at' used' vs → Closes (end_of p s.resets (parts_of s.state) was ts) l p r at' used' vs
       by p ts k z none q f = subst (λ a. Closes a l p r at' used' vs) (sym (end-fed p s.resets (parts_of s.state) was ts q)) (record {
         closing = ap (λ (c : Closed). c.closing) e;
@@ -100,15 +87,6 @@ module _ (l : Lent) (s : Stand) (at used : List ℕ) (was : List ℤ) (x : ℕ) 
         supplies = f.supplies;
       })
       by p ts k z (some y) q f = absurd (omega (arith, f, (least-some (lacks p s.resets ts) max_clocks y q).below))
-
-  ends-so-or-so : (c : Closing) → EndingIs l.source x c → EndCall l s at used was (record { closing = c; state = s.state }) at' used' vs
-  ends-so-or-so c i =
-      let done : max_clocks ≤ x → EndCall l s at used was (record { closing = c; state = s.state }) at' used' vs =
-      λ h. ends-fed h _ (ap (λ (k : Closing). record { closing = k; state = s.state }) (i.fed h)) in
-      apart-cases x max_clocks
-      (λ e. done (omega arith))
-      (λ h. ends-lacking h _ refl _ (ap (λ (k : Closing). record { closing = k; state = s.state }) (i.lacks h)))
-      (λ h. done (omega arith))
 
 -- ---- settling, then the end
 module _ (t : List ℕ) (s : Stand) (was : List ℤ) (posed : Posed t s.state was) (d : Settled)
@@ -121,8 +99,7 @@ module _ (t : List ℕ) (s : Stand) (was : List ℤ) (posed : Posed t s.state wa
   unfolding close_of
   close-stable p ts e = rw (e, close_of)
 
-  close-42 : (p : Supply) (ts : List ℕ) → ours.stable ≡ false
-      → close_of (model_of t) p s.round s.resets (parts_of s.state) was ts ≡ refused (tell 42 (s.round ∷ []))
+  close-42 : (p : Supply) (ts : List ℕ) → ours.stable ≡ false → close_of (model_of t) p s.round s.resets (parts_of s.state) was ts ≡ refused (tell 42 (s.round ∷ []))
   unfolding close_of
   close-42 p ts e = rw (e, close_of)
 
@@ -136,10 +113,8 @@ module _ (t : List ℕ) (s : Stand) (was : List ℤ) (posed : Posed t s.state wa
   settled-parts : parts_of d.state ≡ ours.state
   settled-parts = posed-parts t s.state was posed d.state ours.state given.state kept
 
-  closes-stable : (l : Lent) (at used : List ℕ) → d.verdict ≡ OfVerdict.Stable → (R : ℕ) → R ≡ s.resets ∪ d.resets
-      → (r : Closed) (at' used' : List ℕ) (vs : List ℤ)
-      → EndCall l (record { from = s.from; round = s.round; state = d.state; resets = R }) at used was r at' used' vs
-      → CloseCall t l s at used was r at' used' vs
+  pub closes-stable : (l : Lent) (at used : List ℕ) → d.verdict ≡ OfVerdict.Stable → (R : ℕ) → R ≡ s.resets ∪ d.resets → (r : Closed) (at' used' : List ℕ) (vs : List ℤ)
+      → EndCall l (record { from = s.from; round = s.round; state = d.state; resets = R }) at used was r at' used' vs → CloseCall t l s at used was r at' used' vs
   unfolding says_verdict
   closes-stable l at used v R er r at' used' vs e =
       let st : ours.stable ≡ true = let q : some (answered true) ≡ some (answered ours.stable) = ap says_verdict (sym v) ∙ given.verdict in cc in
@@ -153,24 +128,23 @@ module _ (t : List ℕ) (s : Stand) (was : List ℤ) (posed : Posed t s.state wa
         posed = posed-again t d.state r.state was vs settled-posed e.state (e.ticking (declared (model_of t)) posed.ticking);
       }
 
-  -- each clock set or reset takes its sample
-  pub closes-fed : (l : Lent) (at used : List ℕ) → d.verdict ≡ OfVerdict.Stable → (R : ℕ) → R ≡ s.resets ∪ d.resets
-      → (x : ℕ) (at' used' : List ℕ) (vs : List ℤ)
-      → FedCall l R at used was x at' used' vs → (c : Closing) → EndingIs l.source x c
-      → CloseCall t l s at used was (record { closing = c; state = d.state }) at' used' vs
-  closes-fed l at used v R er x at' used' vs f c i =
-      closes-stable l at used v R er _ at' used' vs
-      (ends-so-or-so l (record { from = s.from; round = s.round; state = d.state; resets = R }) at used was x at' used' vs f c i)
-
-  -- 42
-  pub closes-42 : (l : Lent) (at used : List ℕ) → d.verdict ≡ OfVerdict.Unsettled → (c : Closing) → c ≡ unsettled_at s.round → Placed at used
-      → CloseCall t l s at used was (record { closing = c; state = d.state }) at used was
+  pub closes-42 : (l : Lent) (at used : List ℕ) → d.verdict ≡ OfVerdict.Unsettled → (r : Closed)
+      → r ≡ record { closing = Refused (record { number = 42; place = OfPlace.Index s.round }); state = d.state } → Placed at used → CloseCall t l s at used was r at used was
   unfolding says_verdict says_closing told
-  closes-42 l at used v c e placed =
+  closes-42 l at used v r e c =
       let st : ours.stable ≡ false = let q : some (answered false) ≡ some (answered ours.stable) = ap says_verdict (sym v) ∙ given.verdict in cc in
       record {
         closes = λ p ts m.
-            subst (λ a. Closes a l p (record { closing = c; state = d.state }) at used was) (sym (close-42 p ts st)) (ap says_closing e);
-        placed = placed;
-        posed = settled-posed;
+            subst (λ a. Closes a l p r at used was) (sym (close-42 p ts st)) (ap (λ (q : Closed). says_closing q.closing) e);
+        placed = c;
+        posed = posed-again t d.state r.state was was settled-posed (ap (λ (q : Closed). q.state) e) posed.ticking;
       }
+
+  -- settling by our rule is not refused
+  pub closes-not : (q : Refusal) → d.verdict ≡ OfVerdict.Refused q → ⊥
+  unfolding says_verdict
+  closes-not q v = go (told q) (ap says_verdict (sym v) ∙ given.verdict)
+    where
+      go : (o : Option Told) → ◌≡◌ {A = Option (Answer Bool)} (as_refused o) (some (answered ours.stable)) → ⊥
+      go none h = let z : ◌≡◌ {A = ℕ} 0 1 = cc in omega arith
+      go (some f) h = let z : ◌≡◌ {A = ℕ} 0 1 = cc in omega arith

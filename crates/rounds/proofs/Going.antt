@@ -33,8 +33,7 @@ use Rattle.feed.specs.declared.Source.{Source}
 use Rattle.rounds.specs.declared.Closed.{Closed}
 use Rattle.rounds.specs.declared.Closing.{Closing}
 use Rattle.rounds.specs.declared.Closing.TheVariants.{Done, Quiet, Refused}
-use Rattle.rounds.specs.Rounds.{says_closing, Posed, Placed, RoundIs, Closes, later_of, Later, CloseCall, LaterCall}
-use Rattle.rounds.specs.Rounds.{Runnable, Runs, refused_with, RoundsCall, FirstCall, RunCall}
+use Rattle.rounds.specs.Rounds.{says_closing, Posed, Placed, RoundIs, Closes, later_of, Later, CloseCall, LaterCall, Runnable, Runs, refused_with, RoundsCall, FirstCall, RunCall}
 
 -- ---- one later round of those that are left
 module _ (m : Model) (p : Supply) (n r : ℕ) (q : Round) where
@@ -78,11 +77,11 @@ unfolding rounds_from
 no-round m p n r q e = rw (e, rounds_from)
 
 -- ---- what a round ended with
-abbrev pub ended : State → List ℤ → List ℕ → Round
+abbrev ended : State → List ℤ → List ℕ → Round
 ended x vs ts = record { state = parts_of x; values = vs; taken = ts }
 
-pub round_is : (t : List ℕ) (l : Lent) (p : Supply) (q : Round) (r : Closed) (at used : List ℕ) (vs : List ℤ) → Posed t r.state vs
-    → RoundIs l p q r at used vs → ended r.state vs q.taken ≡ q
+round_is : (t : List ℕ) (l : Lent) (p : Supply) (q : Round) (r : Closed) (at used : List ℕ) (vs : List ℤ) → Posed t r.state vs → RoundIs l p q r at used vs
+    → ended r.state vs q.taken ≡ q
 unfolding state_of
 round_is t l p q r at used vs k i =
     let c : r.state.count ≡ length q.state = ap (λ (x : State). x.count) i.state in
@@ -90,16 +89,16 @@ round_is t l p q r at used vs k i =
     ap₂ (λ a b. record { state = a; values = b; taken = q.taken }) (ap parts_of i.state ∙ state-numbers q.state few) i.values
 
 -- no two of the three endings of a round are one
-pub not-quiet : {c : Closing} → c ≡ Done → c ≡ Quiet → ⊥
+not-quiet : {c : Closing} → c ≡ Done → c ≡ Quiet → ⊥
 not-quiet e f = let z : ◌≡◌ {A = ℕ} 0 1 = cc in omega arith
 
-pub not-refused : {c : Closing} {q : Refusal} → c ≡ Done → c ≡ Refused q → ⊥
+not-refused : {c : Closing} {q : Refusal} → c ≡ Done → c ≡ Refused q → ⊥
 not-refused e f = let z : ◌≡◌ {A = ℕ} 0 1 = cc in omega arith
 
 quiet-not-refused : {c : Closing} {q : Refusal} → c ≡ Quiet → c ≡ Refused q → ⊥
 quiet-not-refused e f = let z : ◌≡◌ {A = ℕ} 0 1 = cc in omega arith
 
-pub done-not-told : (c : Closing) (f : Told) → says_closing c ≡ some (refused f) → c ≡ Done → ⊥
+done-not-told : (c : Closing) (f : Told) → says_closing c ≡ some (refused f) → c ≡ Done → ⊥
 unfolding says_closing
 done-not-told c f h e = let q : some (answered true) ≡ some (refused f) = ap says_closing (sym e) ∙ h in let z : ◌≡◌ {A = ℕ} 0 1 = cc in omega arith
 
@@ -108,8 +107,7 @@ unfolding says_closing
 quiet-not-told c f h e = let q : some (answered false) ≡ some (refused f) = ap says_closing (sym e) ∙ h in let z : ◌≡◌ {A = ℕ} 0 1 = cc in omega arith
 
 -- the refusal of a round is the simulation's
-refusal_is : (c : Closing) (q : Refusal) (f : Told) (r : Simulated) (vs : List ℤ) → says_closing c ≡ some (refused f) → c ≡ Refused q → r ≡ refused_with q
-    → Runs (refused f) r vs
+refusal_is : (c : Closing) (q : Refusal) (f : Told) (r : Simulated) (vs : List ℤ) → says_closing c ≡ some (refused f) → c ≡ Refused q → r ≡ refused_with q → Runs (refused f) r vs
 unfolding says_closing says_ended
 refusal_is c q f r vs h e i = record {
   ended = ap (λ (s : Simulated). says_ended s.ended) i ∙ ap as_refused (go (told q) refl (ap says_closing (sym e) ∙ h));
@@ -122,16 +120,14 @@ refusal_is c q f r vs h e i = record {
 
 -- ---- the loop
 -- x₀, at₀, used₀ and was are the state, places and values after round 0, and the others those after round k
-pub record Going (t : List ℕ) (l : Lent) (n : ℕ) (x₀ : State) (at₀ used₀ : List ℕ) (was : List ℤ) (x : State) (at used : List ℕ) (vs : List ℤ)
-    (k : ℕ) : Type 0 where
+pub record Going (t : List ℕ) (l : Lent) (n : ℕ) (x₀ : State) (at₀ used₀ : List ℕ) (was : List ℤ) (x : State) (at used : List ℕ) (vs : List ℤ) (k : ℕ) : Type 0 where
   pub below : k ≤ n
   pub placed : Placed at used
   pub posed : Posed t x vs
   pub along : (p : Supply) (ts : List ℕ) → Supplies l p ts at₀ used₀
       → (us : List ℕ) × Supplies l p us at used × (rounds_from (model_of t) p (n - k) k (ended x vs us) ≡ rounds_from (model_of t) p n 0 (ended x₀ was ts))
 
-pub going-none : (t : List ℕ) (l : Lent) (n : ℕ) (x : State) (at used : List ℕ) (vs : List ℤ) → Placed at used → Posed t x vs
-    → Going t l n x at used vs x at used vs 0
+pub going-none : (t : List ℕ) (l : Lent) (n : ℕ) (x : State) (at used : List ℕ) (vs : List ℤ) → Placed at used → Posed t x vs → Going t l n x at used vs x at used vs 0
 going-none t l n x at used vs c k = record {
   below = omega arith;
   placed = c;
@@ -160,8 +156,7 @@ module _ (t : List ℕ) (l : Lent) (n : ℕ) (x₀ : State) (at₀ used₀ : Lis
     -- what is left is one round and the others
     Left : (p : Supply) (ts : List ℕ) → Type 0
     Left p ts = (ws : List ℕ) × Supplies l p ws at used
-        × (onward (model_of t) p (n - (k + 1)) k (ended x vs ws) (later_of (model_of t) p (k + 1) (parts_of x) vs ws) ≡ rounds_from (model_of t) p n 0
-        (ended x₀ was ts))
+        × (onward (model_of t) p (n - (k + 1)) k (ended x vs ws) (later_of (model_of t) p (k + 1) (parts_of x) vs ws) ≡ rounds_from (model_of t) p n 0 (ended x₀ was ts))
 
     left : (p : Supply) (ts : List ℕ) (m : Supplies l p ts at₀ used₀) → Left p ts
     unfolding Left
@@ -185,7 +180,7 @@ module _ (t : List ℕ) (l : Lent) (n : ℕ) (x₀ : State) (at₀ used₀ : Lis
             × (rounds_from (model_of t) p (n - (k + 1)) (k + 1) (ended c.state us xs) ≡ rounds_from (model_of t) p n 0 (ended x₀ was ts))
         on p ts g = go (later_of (model_of t) p (k + 1) (parts_of x) vs g.0) (call.goes p g.0 g.1) g.2
           where
-            go : (o : Answer (Option Round)) → Later o l p x vs c at' used' us
+            go : (o : Answer (Option Round)) → Later o l p vs c at' used' us
                 → onward (model_of t) p (n - (k + 1)) k (ended x vs g.0) o ≡ rounds_from (model_of t) p n 0 (ended x₀ was ts)
                 → (xs : List ℕ) × Supplies l p xs at' used'
                 × (rounds_from (model_of t) p (n - (k + 1)) (k + 1) (ended c.state us xs) ≡ rounds_from (model_of t) p n 0 (ended x₀ was ts))
@@ -197,20 +192,20 @@ module _ (t : List ℕ) (l : Lent) (n : ℕ) (x₀ : State) (at₀ used₀ : Lis
             go (answered none) i e = absurd (not-quiet d i.0)
             go (refused f) i e = absurd (done-not-told c.closing f i d)
 
-    pub going-quiet : c.closing ≡ Quiet → (r : Simulated) → r ≡ record { ended = OfEnded.Rounds k; state = c.state } → RoundsCall t l n x₀ at₀ used₀ was r us
+    pub going-quiet : c.closing ≡ Quiet → (r : Simulated) → r ≡ record { ended = OfEnded.Rounds k; state = x } → RoundsCall t l n x₀ at₀ used₀ was r us
     unfolding says_ended Left
     going-quiet d r e = record {
       runs = λ p ts m.
           let g = left p ts m in go p ts (later_of (model_of t) p (k + 1) (parts_of x) vs g.0) (call.goes p g.0 g.1) g.0 g.2;
     }
       where
-        go : (p : Supply) (ts : List ℕ) (o : Answer (Option Round)) → Later o l p x vs c at' used' us → (ws : List ℕ)
+        go : (p : Supply) (ts : List ℕ) (o : Answer (Option Round)) → Later o l p vs c at' used' us → (ws : List ℕ)
             → onward (model_of t) p (n - (k + 1)) k (ended x vs ws) o ≡ rounds_from (model_of t) p n 0 (ended x₀ was ts)
             → Runs (rounds_from (model_of t) p n 0 (ended x₀ was ts)) r us
         go p ts (answered (some q)) i ws q' = absurd (not-quiet i.closing d)
         go p ts (answered none) i ws q' = subst (λ a. Runs a r us) q' (record {
           ended = ap (λ (q : Simulated). says_ended q.ended) e;
-          state = ap (λ (q : Simulated). q.state) e ∙ i.2 ∙ w.posed.zeros;
+          state = ap (λ (q : Simulated). q.state) e ∙ w.posed.zeros;
           values = i.1;
         })
         go p ts (refused f) i ws q' = absurd (quiet-not-told c.closing f i d)
@@ -222,7 +217,7 @@ module _ (t : List ℕ) (l : Lent) (n : ℕ) (x₀ : State) (at₀ used₀ : Lis
           let g = left p ts m in go p ts (later_of (model_of t) p (k + 1) (parts_of x) vs g.0) (call.goes p g.0 g.1) g.0 g.2;
     }
       where
-        go : (p : Supply) (ts : List ℕ) (o : Answer (Option Round)) → Later o l p x vs c at' used' us → (ws : List ℕ)
+        go : (p : Supply) (ts : List ℕ) (o : Answer (Option Round)) → Later o l p vs c at' used' us → (ws : List ℕ)
             → onward (model_of t) p (n - (k + 1)) k (ended x vs ws) o ≡ rounds_from (model_of t) p n 0 (ended x₀ was ts)
             → Runs (rounds_from (model_of t) p n 0 (ended x₀ was ts)) r us
         go p ts (answered (some o)) i ws q' = absurd (not-refused i.closing d)
@@ -236,7 +231,7 @@ zero-at (suc n) zero = refl
 zero-at (suc n) (suc x) = zero-at n x
 
 module _ (t : List ℕ) (k : Runnable t) (x : State) (e : x ≡ state_of (start_all (model_of t))) where
-  pub start-parts : parts_of x ≡ start_all (model_of t)
+  start-parts : parts_of x ≡ start_all (model_of t)
   start-parts =
       let well = well-formed t k.image in
       ap parts_of e ∙ state-numbers (start_all (model_of t)) (omega (arith, start-length (model_of t), well.components))
@@ -250,15 +245,10 @@ module _ (t : List ℕ) (k : Runnable t) (x : State) (e : x ≡ state_of (start_
       joinable = k.joinable;
     };
     zeros = e ∙ sym (ap state_of start-parts);
-    ticking = rw v (record {
-      count = length-replicate {A = ℤ} max_clocks (pos 0);
-      each = λ y h. subst Tick (sym (zero-at max_clocks y))
-          (count-tick 0 (omega arith));
-    });
+    ticking = rw v (record { count = length-replicate {A = ℤ} max_clocks (pos 0); each = λ y h. subst Tick (sym (zero-at max_clocks y)) (count-tick 0 (omega arith)) });
   }
 
-  pub first-closes : (l : Lent) (from : Source) (at used : List ℕ) (R : ℕ) → R ≡ started_all (model_of t) → (vs : List ℤ) → vs ≡ no_values
-      → (r : Closed) (at' used' : List ℕ) (us : List ℤ)
+  pub first-closes : (l : Lent) (from : Source) (at used : List ℕ) (R : ℕ) → R ≡ started_all (model_of t) → (vs : List ℤ) → vs ≡ no_values → (r : Closed) (at' used' : List ℕ) (us : List ℤ)
       → CloseCall t l (record { from = from; round = 0; state = x; resets = R }) at used vs r at' used' us → FirstCall t l at used r at' used' us
   unfolding round_zero
   first-closes l from at used R er vs v r at' used' us c = record {
@@ -286,8 +276,7 @@ module _ (t : List ℕ) (l : Lent) (n : ℕ) (at used : List ℕ) (b : Closed) (
   run_on d c = by_first go
     where
       go : (p : Supply) (o : Answer Round) → Closes o l p b at' used' vs → Runs (and_then o (rounds_from (model_of t) p n 0)) r us
-      go p (answered q) i = subst (λ a. Runs a r us) (ap (rounds_from (model_of t) p n 0) (round_is t l p q b at' used' vs first.posed i))
-          (c.runs p q.taken i.supplies)
+      go p (answered q) i = subst (λ a. Runs a r us) (ap (rounds_from (model_of t) p n 0) (round_is t l p q b at' used' vs first.posed i)) (c.runs p q.taken i.supplies)
       go p (refused g) i = absurd (done-not-told b.closing g i d)
 
   pub run-not : b.closing ≡ Quiet → RunCall t l n at used r us

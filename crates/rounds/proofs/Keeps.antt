@@ -56,16 +56,14 @@ settle-keeps (c ∷ cs) well good fit s w n = (our-run-is-a-series c cs well goo
 pub shot-keeps : (m : Model) → WellFormed m → Conforming m → Joinable m → (s : List ℕ) → Within m s → (vs : List ℤ) → InTicks m vs → (τ : Timing)
     → timed_from m s vs (enabling_all m s) ≡ answered τ → Kept m vs τ
 shot-keeps [] well good fit s w vs k τ e = absurd (omega (arith, well.some))
-shot-keeps (c ∷ cs) well good fit s w vs k τ e = go (choice_of (enabling_all (c ∷ cs) s) vs) refl
-    (sym (timed-by-choice (c ∷ cs) s vs (enabling_all (c ∷ cs) s)) ∙ e)
+shot-keeps (c ∷ cs) well good fit s w vs k τ e = go (choice_of (enabling_all (c ∷ cs) s) vs) refl (sym (timed-by-choice (c ∷ cs) s vs (enabling_all (c ∷ cs) s)) ∙ e)
   where
     fires : (x : ℕ) → choice_of (enabling_all (c ∷ cs) s) vs ≡ Fires x → fire (c ∷ cs) s vs x ≡ τ → Kept (c ∷ cs) vs τ
     fires x q f =
         let chosen = fires-chosen (enabling_all (c ∷ cs) s) vs x q in
         let v = count-of (value_of vs x) chosen.from_zero in
         let row = fire-is-a-row c cs well good fit s w vs x v.0 ((waiting c cs well good fit s w).to x chosen.own) v.1 in
-        let is : record { shot = fired v.0 row.a row.R; state = row.s'; values = aged_from (declared (c ∷ cs)) (pos v.0) 0 vs } ≡ τ = sym
-        row.answer ∙ f in
+        let is : record { shot = fired v.0 row.a row.R; state = row.s'; values = aged_from (declared (c ∷ cs)) (pos v.0) 0 vs } ≡ τ = sym row.answer ∙ f in
         subst (Kept (c ∷ cs) vs) is (record {
           within = row.within;
           ticks = falls-in-ticks (c ∷ cs) vs v.0 (aged_from (declared (c ∷ cs)) (pos v.0) 0 vs)
@@ -73,8 +71,7 @@ shot-keeps (c ∷ cs) well good fit s w vs k τ e = go (choice_of (enabling_all 
           rests = λ h. let z : ◌≡◌ {A = ℕ} 0 1 = cc (h) in absurd (omega arith);
         })
 
-    go : (d : Choice) → choice_of (enabling_all (c ∷ cs) s) vs ≡ d → answer_of (c ∷ cs) s vs (choice_of (enabling_all (c ∷ cs) s) vs) ≡ answered τ
-        → Kept (c ∷ cs) vs τ
+    go : (d : Choice) → choice_of (enabling_all (c ∷ cs) s) vs ≡ d → answer_of (c ∷ cs) s vs (choice_of (enabling_all (c ∷ cs) s) vs) ≡ answered τ → Kept (c ∷ cs) vs τ
     go d q h = by d q (sym (ap (answer_of (c ∷ cs) s vs) q) ∙ h)
       where
         by : (d : Choice) → choice_of (enabling_all (c ∷ cs) s) vs ≡ d → answer_of (c ∷ cs) s vs d ≡ answered τ → Kept (c ∷ cs) vs τ

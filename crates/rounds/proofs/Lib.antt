@@ -2,5 +2,4 @@ pub mod Keeps
 pub mod Poses
 pub mod Ending
 pub mod Turning
-pub mod Shooting
 pub mod Going

@@ -16,7 +16,7 @@ use Rattle.timing.specs.Timed.{enabling_all, timed_from}
 use Rattle.iosa.specs.TimedExactly.{Timing}
 use Rattle.layout.specs.Image.{model_of}
 use Rattle.layout.proofs.RowsOfRange.{well-formed}
-use Rattle.firing.specs.Shots.{TimingGives, TimingAnswers}
+use Rattle.firing.specs.Shots.{TimingGives, TimingAnswers, Armed}
 use Rattle.simulation.specs.Simulate.{Supply, Round, close_of, and_then}
 use Rattle.feed.specs.Supply.{Lent}
 use Rattle.rounds.specs.declared.Stand.{Stand}
@@ -25,6 +25,9 @@ use Rattle.rounds.specs.declared.Closing.TheVariants.{Quiet, Refused}
 use Rattle.rounds.specs.Rounds.{says_closing, Posed, Placed, Closes, later_of, Later, CloseCall, LaterCall}
 use Rattle.rounds.proofs.Keeps.{Kept, shot-keeps}
 use Rattle.rounds.proofs.Poses.{ticking-in, in-ticking, posed-parts, posed-with, posed-again}
+
+pub armed : (t : List ℕ) (x : State) (vs : List ℤ) → Posed t x vs → Armed t x vs
+armed t x vs k = record { standing = k.ready.standing; conforming = k.ready.conforming; joinable = k.ready.joinable; ticking = k.ticking }
 
 -- ---- what a firing says of the timed step's answer
 module _ (a : Answer Timing) (x : State) (was : List ℤ) (r : Timed) (vs : List ℤ) (e : TimingAnswers a x was r vs) where
@@ -45,8 +48,7 @@ module _ (x : State) (was : List ℤ) (r : Timed) (vs : List ℤ) where
   }
   shoots-so (refused f) e s h = let q : some (refused f) ≡ some (answered s) = sym e.firing ∙ h in let z : ◌≡◌ {A = ℕ} 0 1 = cc in absurd (omega arith)
 
-  refused-so : (a : Answer Timing) → TimingAnswers a x was r vs → (q : Refusal) → says_firing r.firing ≡ as_refused (told q) → (f : Told) × (a ≡ refused f)
-      × (told q ≡ some f) × (vs ≡ was)
+  refused-so : (a : Answer Timing) → TimingAnswers a x was r vs → (q : Refusal) → says_firing r.firing ≡ as_refused (told q) → (f : Told) × (a ≡ refused f) × (told q ≡ some f) × (vs ≡ was)
   refused-so (answered τ) e q h = absurd (go (told q) (sym e.firing ∙ h))
     where
       go : (o : Option Told) → some (answered τ.shot) ≡ as_refused o → ⊥
@@ -73,10 +75,10 @@ module _ (m : Model) (p : Supply) (k : ℕ) (s : List ℕ) (vs : List ℤ) (ts :
     unfolding later_of
     later-fired v a R h = rw (e, later_of) (rw h)
 
-closes-later : (a : Answer Round) (l : Lent) (p : Supply) (x : State) (was : List ℤ) (r : Closed) (at used : List ℕ) (vs : List ℤ) → Closes a l p r at used vs
-    → Later (and_then a (λ q. answered (some q))) l p x was r at used vs
-closes-later (answered q) l p x was r at used vs e = e
-closes-later (refused f) l p x was r at used vs e = e
+closes-later : (a : Answer Round) (l : Lent) (p : Supply) (was : List ℤ) (r : Closed) (at used : List ℕ) (vs : List ℤ) → Closes a l p r at used vs
+    → Later (and_then a (λ q. answered (some q))) l p was r at used vs
+closes-later (answered q) l p was r at used vs e = e
+closes-later (refused f) l p was r at used vs e = e
 
 module _ (t : List ℕ) (s : Stand) (was : List ℤ) (posed : Posed t s.state was) (shot : Timed) (vs : List ℤ)
     (given : TimingAnswers (timed_from (model_of t) (parts_of s.state) was (enabling_all (model_of t) (parts_of s.state))) s.state was shot vs) where
@@ -97,23 +99,6 @@ module _ (t : List ℕ) (s : Stand) (was : List ℤ) (posed : Posed t s.state wa
     hit-values : vs ≡ hit.timing.values
     hit-values = hit.gives.values
 
-    -- the timed step's own answer
-    pub fired-timing : Timing
-    fired-timing = hit.timing
-
-    pub fired-answer : step ≡ answered fired-timing
-    unfolding fired-timing
-    fired-answer = hit.answer
-
-    pub fired-shot : fired-timing.shot ≡ fired v a R
-    unfolding fired-timing
-    fired-shot = hit.shot
-
-    pub fired-state : parts_of shot.state ≡ fired-timing.state
-    unfolding fired-timing
-    fired-state =
-        posed-parts t s.state was posed shot.state hit.timing.state hit.gives.state (kept hit.timing hit.answer).within
-
     pub fired-posed : Posed t shot.state vs
     fired-posed =
         let h = kept hit.timing hit.answer in
@@ -121,8 +106,7 @@ module _ (t : List ℕ) (s : Stand) (was : List ℤ) (posed : Posed t s.state wa
         (rw hit-values (ticking-in (model_of t) hit.timing.values h.ticks))
 
     pub later-closes : (l : Lent) (at used : List ℕ) (r : Closed) (at' used' : List ℕ) (us : List ℤ)
-        → CloseCall t l (record { from = s.from; round = s.round; state = shot.state; resets = R }) at used vs r at' used' us
-        → LaterCall t l s at used was r at' used' us
+        → CloseCall t l (record { from = s.from; round = s.round; state = shot.state; resets = R }) at used vs r at' used' us → LaterCall t l s at used was r at' used' us
     later-closes l at used r at' used' us c =
         let τ = hit.timing in
         let h = kept τ hit.answer in
@@ -130,11 +114,11 @@ module _ (t : List ℕ) (s : Stand) (was : List ℤ) (posed : Posed t s.state wa
         let k = s.round in
         record {
           goes = λ p ts m.
-              subst (λ a. Later a l p s.state was r at' used' us)
+              subst (λ a. Later a l p was r at' used' us)
               (ap (λ u. and_then (close_of (model_of t) p k R u vs ts) (λ q. answered (some q))) parts
               ∙ ap (λ u. and_then (close_of (model_of t) p k R τ.state u ts) (λ q. answered (some q))) hit-values
               ∙ sym (later-fired (model_of t) p k (parts_of s.state) was ts τ hit.answer v a R hit.shot))
-              (closes-later (close_of (model_of t) p k R (parts_of shot.state) vs ts) l p s.state was r at' used' us (c.closes p ts m));
+              (closes-later (close_of (model_of t) p k R (parts_of shot.state) vs ts) l p was r at' used' us (c.closes p ts m));
           placed = c.placed;
           posed = c.posed;
         }
@@ -148,9 +132,8 @@ module _ (t : List ℕ) (s : Stand) (was : List ℤ) (posed : Posed t s.state wa
         let same : vs ≡ was = h.gives.values ∙ (kept h.timing h.answer).rests h.shot in
         record {
           goes = λ p ts m.
-              subst (λ a. Later a l p s.state was r at used vs)
-              (sym (later-quiet (model_of t) p s.round (parts_of s.state) was ts h.timing h.answer h.shot))
-              (ap (λ (q : Closed). q.closing) e, same, ap (λ (q : Closed). q.state) e);
+              subst (λ a. Later a l p was r at used vs) (sym (later-quiet (model_of t) p s.round (parts_of s.state) was ts h.timing h.answer h.shot))
+              (ap (λ (q : Closed). q.closing) e, same);
           placed = placed;
           posed = posed-again t s.state r.state was vs posed (ap (λ (q : Closed). q.state) e) (rw same posed.ticking);
         }
@@ -163,7 +146,7 @@ module _ (t : List ℕ) (s : Stand) (was : List ℤ) (posed : Posed t s.state wa
         let h = refused-so s.state was shot vs step given q (ap says_firing f) in
         record {
           goes = λ p ts m.
-              subst (λ a. Later a l p s.state was r at used vs) (sym (later-refused (model_of t) p s.round (parts_of s.state) was ts h.0 h.1))
+              subst (λ a. Later a l p was r at used vs) (sym (later-refused (model_of t) p s.round (parts_of s.state) was ts h.0 h.1))
               (ap (λ (c : Closed). says_closing c.closing) e ∙ ap as_refused h.2);
           placed = placed;
           posed = posed-again t s.state r.state was vs posed (ap (λ (q : Closed). q.state) e) (rw h.3 posed.ticking);

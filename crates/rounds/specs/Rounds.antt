@@ -1,11 +1,10 @@
 -- What a round of a simulation gives: its answer, and the values and places then. The samples are whichever the places supply.
-use Rattle.std.specs.Prelude.{◌≡◌, Bool, true, false, List, ℕ, ◌≤◌, ◌<◌, length, ℤ}
+use Rattle.std.specs.Prelude.{◌≡◌, Bool, true, false, List, ℕ, length, ℤ}
 use Rattle.std.proofs.Math.Option.{Option, none, some}
 use Rattle.answer.specs.Limits.{no_state, max_clocks}
 use Rattle.answer.specs.Told.{Told, told, Answer, answered, refused, as_refused, fired, quiet, says_ended}
 use Rattle.answer.specs.State.{parts_of}
 use Rattle.answer.specs.declared.Refusal.{Refusal}
-use Rattle.answer.specs.declared.Place.TheVariants as OfPlace
 use Rattle.answer.specs.declared.Ended.TheVariants as OfEnded
 use Rattle.answer.specs.declared.State.{State}
 use Rattle.answer.specs.declared.Simulated.{Simulated}
@@ -15,13 +14,10 @@ use Rattle.timing.specs.Timed.{timed_from, enabling_all}
 use Rattle.layout.specs.Image.{Image, model_of}
 use Rattle.words.specs.Bytes.{state_of}
 use Rattle.ticks.specs.Ticks.{Ticking}
-use Rattle.moves.specs.Standing.{holding}
 use Rattle.settling.specs.Gives.{Ready}
-use Rattle.simulation.specs.Simulate.{Supply, Round, close_of, and_then, Simulation, none_taken, round_zero, rounds_from, simulate_of}
-use Rattle.feed.specs.declared.Source.{Source}
-use Rattle.feed.specs.Supply.{Lent, ran_out_of, Supplies}
+use Rattle.simulation.specs.Simulate.{Supply, Round, end_of, close_of, and_then, Simulation, none_taken, round_zero, rounds_from, simulate_of}
+use Rattle.feed.specs.Supply.{Lent, Supplies}
 use Rattle.rounds.specs.declared.Stand.{Stand}
-use Rattle.rounds.specs.declared.Turn.{Turn}
 use Rattle.rounds.specs.declared.Closing.{Closing}
 use Rattle.rounds.specs.declared.Closing.TheVariants.{Done, Quiet, Refused}
 use Rattle.rounds.specs.declared.Closed.{Closed}
@@ -54,23 +50,15 @@ abbrev pub Closes : Answer Round → Lent → Supply → Closed → List ℕ →
 Closes (answered q) l p r at used vs = RoundIs l p q r at used vs
 Closes (refused f) l p r at used vs = says_closing r.closing ≡ some (refused f)
 
--- of `closing_of`: 41, or over draws 50, at a clock that lacks a sample; else the round is done
-pub record EndingIs (from : Source) (x : ℕ) (r : Closing) : Type 0 where
-  pub lacks : x < max_clocks → r ≡ Refused (record { number = ran_out_of from; place = OfPlace.Clock x })
-  pub fed : max_clocks ≤ x → r ≡ Done
+-- of `end`; at, used and was are the places and values before, at', used' and vs those after
+pub record EndCall (l : Lent) (s : Stand) (at used : List ℕ) (was : List ℤ) (r : Closed) (at' used' : List ℕ) (vs : List ℤ) : Type 0 where
+  pub ends : (p : Supply) (ts : List ℕ) → Supplies l p ts at used → s.state ≡ state_of (parts_of s.state)
+      → Closes (end_of p s.resets (parts_of s.state) was ts) l p r at' used' vs
+  pub placed : Placed at' used'
+  pub state : r.state ≡ s.state
+  pub ticking : (d : ℕ) → Ticking d was → Ticking d vs
 
--- 42 at a round
-abbrev pub unsettled_at : ℕ → Closing
-unsettled_at k = Refused (record { number = 42; place = OfPlace.Index k })
-
--- a round in place as it begins, and as it ended, with the numbers that its state has then
-abbrev pub stand_at : Turn → List ℕ → Stand
-stand_at s ps = record { from = s.from; round = s.round; state = holding s.count ps; resets = 0 }
-
-abbrev pub closed_at : Closing → ℕ → List ℕ → Closed
-closed_at c n ps = record { closing = c; state = holding n ps }
-
--- of `close`; at, used and was are the places and values before, at', used' and vs those after
+-- of `close`
 pub record CloseCall (t : List ℕ) (l : Lent) (s : Stand) (at used : List ℕ) (was : List ℤ) (r : Closed) (at' used' : List ℕ) (vs : List ℤ) : Type 0 where
   pub closes : (p : Supply) (ts : List ℕ) → Supplies l p ts at used
       → Closes (close_of (model_of t) p s.round s.resets (parts_of s.state) was ts) l p r at' used' vs
@@ -84,16 +72,15 @@ later_of m p k s vs ts = and_then (timed_from m s vs (enabling_all m s)) (λ τ.
   | fired v a R ↦ and_then (close_of m p k R τ.state τ.values ts) (λ q. answered (some q))
 ])
 
--- x and was are the state and the values before
-abbrev pub Later : Answer (Option Round) → Lent → Supply → State → List ℤ → Closed → List ℕ → List ℕ → List ℤ → Type 0
-Later (answered (some q)) l p x was r at used vs = RoundIs l p q r at used vs
-Later (answered none) l p x was r at used vs = (r.closing ≡ Quiet) × (vs ≡ was) × (r.state ≡ x)
-Later (refused f) l p x was r at used vs = says_closing r.closing ≡ some (refused f)
+abbrev pub Later : Answer (Option Round) → Lent → Supply → List ℤ → Closed → List ℕ → List ℕ → List ℤ → Type 0
+Later (answered (some q)) l p was r at used vs = RoundIs l p q r at used vs
+Later (answered none) l p was r at used vs = (r.closing ≡ Quiet) × (vs ≡ was)
+Later (refused f) l p was r at used vs = says_closing r.closing ≡ some (refused f)
 
 -- of `later`
 pub record LaterCall (t : List ℕ) (l : Lent) (s : Stand) (at used : List ℕ) (was : List ℤ) (r : Closed) (at' used' : List ℕ) (vs : List ℤ) : Type 0 where
   pub goes : (p : Supply) (ts : List ℕ) → Supplies l p ts at used
-      → Later (later_of (model_of t) p s.round (parts_of s.state) was ts) l p s.state was r at' used' vs
+      → Later (later_of (model_of t) p s.round (parts_of s.state) was ts) l p was r at' used' vs
   pub placed : Placed at' used'
   pub posed : Posed t r.state vs
 

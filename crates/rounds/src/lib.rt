@@ -1,24 +1,24 @@
 // The rounds of a simulation in a model that is accepted: the checks are the caller's.
+#![tactic(auto)]
+
 ghost use Rattle.std.specs.Prelude.{◌≡◌, ℕ, ◌≤◌, ◌<◌, length};
-ghost use Rattle.answer.specs.Limits.{max_clocks, max_components};
+ghost use Rattle.answer.specs.Limits.{max_clocks, max_budget};
 ghost use Rattle.simulation.specs.Simulate.{no_values};
 ghost use Rattle.feed.specs.Supply.{lent};
-ghost use Rattle.moves.specs.Standing.{holding};
-ghost use Rattle.rounds.specs.Rounds.{Posed, Placed, EndingIs, unsettled_at, stand_at, closed_at, CloseCall, LaterCall};
-ghost use Rattle.rounds.specs.Rounds.{refused_with, RoundsCall, FirstCall, Runnable, RunCall};
+ghost use Rattle.rounds.specs.Rounds.{Posed, Placed, EndCall, CloseCall, LaterCall, refused_with, RoundsCall, FirstCall, Runnable, RunCall};
 
-use answer::{Ended, Firing, Model, Place, Refusal, Simulated, State};
+use answer::{Ended, Firing, Model, Place, Refusal, Simulated, State, Verdict};
 use feed::Source;
 
 // What is asked for: where the samples come from, and how many later rounds.
-#[derive(Drop)]
+#[derive(Clone, Copy)]
 pub struct Plan {
     pub from: Source,
     pub rounds: usize,
 }
 
 // Where a round stands: its number, where the samples come from, the state, and the clocks set or reset in it so far.
-#[derive(Drop)]
+#[derive(Clone, Copy)]
 pub struct Stand {
     pub from: Source,
     pub round: usize,
@@ -26,52 +26,53 @@ pub struct Stand {
     pub resets: u64,
 }
 
-// A later round in place: its number, where the samples come from, and how many parts the state has; its numbers lie in a lent buffer.
-#[derive(Drop)]
-pub struct Turn {
-    pub from: Source,
-    pub round: usize,
-    pub count: usize,
-}
-
 // How a round ended.
-#[derive(Drop)]
+#[derive(Clone, Copy)]
 pub enum Closing {
     Done,
     Quiet,
     Refused(Refusal),
 }
 
-#[derive(Drop)]
+#[derive(Clone, Copy)]
 pub struct Closed {
     pub closing: Closing,
     pub state: State,
 }
 
-// 41 at the lowest clock that has no sample left, where there is one.
-fn closing_of(from: Source, x: u64) -> Closing
-    ensures { EndingIs from x result }
+// 41 at the lowest clock that has no sample left; else each clock set or reset has taken its next one.
+fn end(
+    text: &[u8],
+    numbers: &[u64],
+    at: &mut [usize; Model::CLOCKS],
+    used: &mut [usize; Model::CLOCKS],
+    s: Stand,
+    values: &mut [i64],
+) -> Closed
+    requires { Placed at.old used.old × (length values.old ≡ max_clocks) }
+    ensures { EndCall (lent s.from text.now numbers.now) s at.old used.old values.old result
+        at.new used.new values.new }
 {
+    let from = s.from;
+    let state = s.state;
+    let w = s.resets;
+    let x = feed::fed(from, text, numbers, at, used, w, values);
     if x < Model::CLOCKS as u64 {
-        return Closing::Refused(Refusal {
-            number: feed::ran_out(from),
-            place: Place::Clock(x),
-        });
+        return Closed {
+            closing: Closing::Refused(Refusal {
+                number: feed::ran_out(from),
+                place: Place::Clock(x),
+            }),
+            state,
+        };
     }
-    Closing::Done
+    Closed {
+        closing: Closing::Done,
+        state,
+    }
 }
 
-// 42 at a round.
-fn unsettled(round: usize) -> Closing
-    ensures { result ≡ unsettled_at round }
-{
-    Closing::Refused(Refusal {
-        number: 42,
-        place: Place::Index(round),
-    })
-}
-
-// A round settles, 42 where it does not, and ends: each clock set or reset takes its next sample.
+// A round settles, 42 where it does not, and ends.
 pub fn close(
     t: &[u64],
     text: &[u8],
@@ -87,73 +88,88 @@ pub fn close(
 {
     let begun = s.state;
     let from = s.from;
-    let n = begun.count;
-    let mut parts = begun.parts;
-    let d = settling::rest_in(t, &mut parts, n, State::BUDGET);
-    let state = State { count: n, parts };
-    if !d.stable {
-        return Closed {
-            closing: unsettled(s.round),
+    let round = s.round;
+    let d = settling::untraced(t, begun, State::BUDGET);
+    let state = d.state;
+    let verdict = d.verdict;
+    match verdict {
+        Verdict::Stable => {
+            let resets = sets::union(s.resets, d.resets);
+            end(
+                text,
+                numbers,
+                at,
+                used,
+                Stand {
+                    from,
+                    round,
+                    state,
+                    resets,
+                },
+                values,
+            )
+        }
+        Verdict::Unsettled => Closed {
+            closing: Closing::Refused(Refusal {
+                number: 42,
+                place: Place::Index(round),
+            }),
             state,
-        };
-    }
-    let x = feed::fed(
-        from,
-        text,
-        numbers,
-        at,
-        used,
-        sets::union(s.resets, d.resets),
-        values,
-    );
-    Closed {
-        closing: closing_of(from, x),
-        state,
+        },
+        Verdict::Refused(q) => Closed {
+            closing: Closing::Refused(q),
+            state,
+        },
     }
 }
 
-// A later round, in place: the timed step, and what it fires settles and ends.
+// A later round: the timed step, and what it fires settles and ends.
 fn later(
     t: &[u64],
     text: &[u8],
     numbers: &[u64],
     at: &mut [usize; Model::CLOCKS],
     used: &mut [usize; Model::CLOCKS],
-    s: Turn,
-    parts: &mut [u8],
+    s: Stand,
     values: &mut [i64],
-) -> Closing
-    requires { Placed at.old used.old × Posed t.now (holding s.count parts.old) values.old × (length parts.old ≡ max_components) }
-    ensures { LaterCall t.now (lent s.from text.now numbers.now) (stand_at s parts.old)
-        at.old used.old values.old (closed_at result s.count parts.new)
+) -> Closed
+    requires { Placed at.old used.old × Posed t.now s.state values.old }
+    ensures { LaterCall t.now (lent s.from text.now numbers.now) s at.old used.old values.old result
         at.new used.new values.new }
 {
+    let begun = s.state;
     let from = s.from;
-    let n = s.count;
-    let firing = firing::shoot_in(t, parts, n, values);
+    let round = s.round;
+    let shot = firing::shoot(t, begun, values);
+    let state = shot.state;
+    let firing = shot.firing;
     match firing {
         Firing::Fired {
             ticks: _,
             action: _,
             resets,
-        } => {
-            let d = settling::rest_in(t, parts, n, State::BUDGET);
-            if !d.stable {
-                return unsettled(s.round);
-            }
-            let x = feed::fed(
+        } => close(
+            t,
+            text,
+            numbers,
+            at,
+            used,
+            Stand {
                 from,
-                text,
-                numbers,
-                at,
-                used,
-                sets::union(resets, d.resets),
-                values,
-            );
-            closing_of(from, x)
-        }
-        Firing::Quiet => Closing::Quiet,
-        Firing::Refused(q) => Closing::Refused(q),
+                round,
+                state,
+                resets,
+            },
+            values,
+        ),
+        Firing::Quiet => Closed {
+            closing: Closing::Quiet,
+            state: begun,
+        },
+        Firing::Refused(q) => Closed {
+            closing: Closing::Refused(q),
+            state: begun,
+        },
     }
 }
 
@@ -184,32 +200,35 @@ fn later_rounds(
 {
     let from = plan.from;
     let rounds = plan.rounds;
-    let count = begun.count;
-    let mut parts = begun.parts;
+    let mut state = begun;
     let mut k = 0usize;
     while k < rounds {
-        let closing = later(
+        let here = state;
+        let c = later(
             t,
             text,
             numbers,
             at,
             used,
-            Turn {
+            Stand {
                 from,
                 round: k + 1,
-                count,
+                state,
+                resets: 0,
             },
-            &mut parts,
             values,
         );
+        let next = c.state;
+        let closing = c.closing;
         match closing {
             Closing::Done => {
+                state = next;
                 k += 1;
             }
             Closing::Quiet => {
                 return Simulated {
                     ended: Ended::Rounds(k),
-                    state: State { count, parts },
+                    state: here,
                 };
             }
             Closing::Refused(f) => {
@@ -219,7 +238,7 @@ fn later_rounds(
     }
     Simulated {
         ended: Ended::Rounds(k),
-        state: State { count, parts },
+        state,
     }
 }
 

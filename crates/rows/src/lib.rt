@@ -1,4 +1,6 @@
 // The rows that leave a state: a walk over their range and over nothing else.
+#![tactic(auto)]
+
 ghost use Rattle.std.specs.Prelude.{◌≡◌, ℕ, ◌+◌, ◌≤◌, ◌<◌, length};
 ghost use Rattle.answer.specs.Limits.{max_rows};
 ghost use Rattle.layout.specs.Layout.{image_words};

@@ -1,4 +1,6 @@
 // One step and settling, on any table and any state: the checks are made once for a call, and never again inside its loop.
+#![tactic(auto)]
+
 ghost use Rattle.std.specs.Prelude.{◌≡◌, ℕ, ◌≤◌, ◌<◌};
 ghost use Rattle.std.proofs.Math.Option.{some};
 ghost use Rattle.answer.specs.Told.{says_checked};

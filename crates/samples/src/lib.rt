@@ -1,4 +1,6 @@
 // The sample text: one sample, the line of a clock, the whole text with the place of 40 and where each clock's samples begin, and the next sample at a cursor.
+#![tactic(auto)]
+
 ghost use Rattle.std.specs.Prelude.{◌≡◌, List, ℕ, ◌≤◌, ◌<◌, length, drop};
 ghost use Rattle.model.specs.Reading.{is, field};
 ghost use Rattle.fields.specs.Fields.{past, got_number};
@@ -106,7 +108,7 @@ fn line_of(text: &[u8], x: u64, c: Cursor) -> Line
 }
 
 // A place in the text, and the number of the line there.
-#[derive(Drop)]
+#[derive(Clone, Copy)]
 pub struct Spot {
     pub at: usize,
     pub line: usize,

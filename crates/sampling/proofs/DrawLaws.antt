@@ -8,7 +8,7 @@ use lib.ListN.{drop}
 use lib.Dec.{T}
 use lib.Ieee.{Float}
 use Rattle.laws.proofs.SearchLaws.{no-some}
-use Rattle.model.specs.Reading.{Got, Scan, is, stops}
+use Rattle.model.specs.Reading.{Scan, is, stops}
 use Rattle.fields.specs.declared.Cursor.{Cursor}
 use Rattle.draw.specs.declared.Law.{Law}
 use Rattle.draw.specs.declared.Law.TheVariants.{Uniform, Mixture}

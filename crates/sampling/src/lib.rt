@@ -1,4 +1,6 @@
 // A draw as a round ends: from the distribution at a clock's place in the file, by the clock's next lent numbers.
+#![tactic(auto)]
+
 ghost use Rattle.std.specs.Prelude.{◌≡◌, ℕ, ◌<◌, T};
 ghost use Rattle.std.proofs.Math.Option.{some};
 ghost use Rattle.answer.specs.Limits.{max_clocks};

@@ -1,4 +1,6 @@
 // Sets of clocks or of actions: one 64-bit number, bit x for member x.
+#![tactic(auto)]
+
 ghost use Rattle.std.specs.Prelude.{◌≡◌, ℕ, ◌<◌};
 ghost use Rattle.laws.specs.Sets.{has, ◌∪◌, ◌∖◌, within, only};
 ghost use Rattle.sets.specs.Members.{word_bits, lowest_of, size_of};

@@ -1,12 +1,13 @@
 // The program `settle` (paper 01, "The program and its example"): it reads standard input, calls `report`, and writes what that filled.
 // No answer without an input that was read to its end: where a read fails, nothing goes to standard output.
+#![tactic(auto)]
+
 ghost use Rattle.std.specs.Prelude.{◌≡◌, ◌+◌, length};
 ghost use Rattle.answer.specs.Limits.{max_request, max_bytes};
 ghost use Rattle.steplines.specs.Run.{most_bytes};
 ghost use Rattle.settle.specs.Filled.{Filled};
 
 use answer::{Model, Written};
-use libc::{STDIN_FILENO, STDOUT_FILENO};
 use stream::Moved;
 
 // A request line, a text, and the byte that makes it too long: 9 and 1 are told from no more than these.
@@ -37,18 +38,18 @@ fn filled(input: &[u8], out: &mut [u8]) -> usize
 }
 
 // Writes the report on an input, or says that it could not.
-fn answer(input: &[u8]) {
+fn answer(rt: &HostRuntime, input: &[u8]) {
     let mut out = empty_report();
     let k = filled(input, &mut out);
-    if let Moved::Failed(e) = stream::write(STDOUT_FILENO, &out[..k]) {
-        failing::say(b"settle: the report could not be written whole", e);
+    if let Moved::Failed(e) = stream::write(rt, &mut rt.stdout(), &out[..k]) {
+        failing::say(rt, b"settle: the report could not be written whole", e);
     }
 }
 
-fn main() {
+fn main(rt: HostRuntime) {
     let mut input = empty_input();
-    match stream::read(STDIN_FILENO, &mut input) {
-        Moved::Bytes(n) => answer(&input[..n]),
-        Moved::Failed(e) => failing::say(b"settle: standard input could not be read", e),
+    match stream::read(&rt, &mut rt.stdin(), &mut input) {
+        Moved::Bytes(n) => answer(&rt, &input[..n]),
+        Moved::Failed(e) => failing::say(&rt, b"settle: standard input could not be read", e),
     }
 }

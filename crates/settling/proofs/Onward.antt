@@ -1,6 +1,6 @@
 -- Where the loop that settles stands: the state reached, and the steps done before what is left.
 use mathlib.Core.Path.{◌≡◌, refl, sym, ap, ap₂, ◌∙◌}
-use mathlib.Core.Bool.{Bool, true, false, not}
+use mathlib.Core.Bool.{false, not}
 use mathlib.Core.Option.{some}
 use mathlib.Core.List.{List, [], ◌∷◌, ◌++◌, append-nil}
 use Prim.Native.Nat.{ℕ, ◌+◌, ◌-◌, ◌%◌, ◌≤◌, ◌<◌}
@@ -12,7 +12,7 @@ use lib.Seq.{take-suc-set, drop-set-lt, drop-drop, length-take-le}
 use lib.Bits.{or_zero_r}
 use Rattle.laws.specs.Sets.{◌∪◌}
 use Rattle.answer.specs.Limits.{max_actions, max_components}
-use Rattle.answer.specs.Told.{answered, says_verdict}
+use Rattle.answer.specs.Told.{answered}
 use Rattle.answer.specs.declared.State.{State}
 use Rattle.answer.specs.declared.Settled.{Settled}
 use Rattle.answer.specs.State.{parts_of, with_parts}
@@ -20,9 +20,8 @@ use Rattle.iosa.specs.Automaton.{Conforming, Joinable}
 use Rattle.iosa.specs.Step.{urgent_step, is_stable}
 use Rattle.iosa.specs.Settle.{resting, settle}
 use Rattle.layout.specs.Image.{model_of}
-use Rattle.model.specs.Model.{Model}
 use Rattle.moves.specs.Moves.{reset_all, after_all, moved_all, lowest_all}
-use Rattle.settling.specs.Gives.{Ready, EndsAt, SettleGives, TraceHolds, traced, verdict_of, rest_at}
+use Rattle.settling.specs.Gives.{Ready, EndsAt, SettleGives, TraceHolds, traced}
 use Rattle.settling.proofs.Reached.{Reached, reached-first, next-parts, reached-next}
 use Rattle.moves.proofs.Lowest.{lowest-here}
 use Rattle.settling.proofs.Plus.{plus, plus-nothing, plus_step, settle-ends}
@@ -99,10 +98,3 @@ module _ (t : List ℕ) (budget : ℕ) (x : State) (old : List ℕ) (cur : State
         sym (take-append-drop k trace)
             ∙ ap₂ ◌++◌ (sym taken) (at.rest ∙ ap (λ n. drop n old) (sym (ap length taken ∙ length-take-le k trace inside))),
       )
-
--- what settling in place answers where it ends
-pub ends_at : (m : Model) (cur : State) (k resets : ℕ) (b : Bool) → is_stable m (parts_of cur) ≡ b
-    → EndsAt m cur k resets (rest_at (record { stable = b; steps = k; resets = resets }) cur)
-unfolding says_verdict verdict_of
-ends_at m cur k resets true e = record { verdict = ap (λ b. some (answered b)) (sym e); steps-are = refl; resets-are = refl; state = refl }
-ends_at m cur k resets false e = record { verdict = ap (λ b. some (answered b)) (sym e); steps-are = refl; resets-are = refl; state = refl }

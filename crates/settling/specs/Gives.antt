@@ -1,5 +1,5 @@
 -- What a step and settling give, in an accepted model and from a state of it.
-use Rattle.std.specs.Prelude.{◌≡◌, Bool, true, false, List, ◌++◌, ℕ, length, drop}
+use Rattle.std.specs.Prelude.{◌≡◌, List, ◌++◌, ℕ, length, drop}
 use Rattle.std.proofs.Math.Option.{Option, none, some}
 use Rattle.answer.specs.Limits.{no_state}
 use Rattle.answer.specs.Told.{Answer, answered, refused, Step, moved, says_outcome, says_verdict}
@@ -9,8 +9,6 @@ use Rattle.answer.specs.declared.Refusal.{Refusal}
 use Rattle.answer.specs.declared.Place.TheVariants.{Index}
 use Rattle.answer.specs.declared.Stepped.{Stepped}
 use Rattle.answer.specs.declared.Settled.{Settled}
-use Rattle.answer.specs.declared.Verdict.{Verdict}
-use Rattle.answer.specs.declared.Verdict.TheVariants.{Stable, Unsettled}
 use Rattle.model.specs.Model.{Model}
 use Rattle.iosa.specs.Automaton.{Conforming, Joinable}
 use Rattle.iosa.specs.Step.{taken, taken_by, named, lowest, urgent_step, is_stable}
@@ -20,7 +18,6 @@ use Rattle.iosa.specs.Orders.{Settling}
 use Rattle.layout.specs.Image.{model_of}
 use Rattle.moves.specs.Moves.{reset_all, after_all}
 use Rattle.moves.specs.Standing.{Standing}
-use Rattle.settling.specs.declared.Rest.{Rest}
 
 -- an image of an accepted model, and a composed state of it
 pub record Ready (t : List ℕ) (x : State) : Type 0 where
@@ -76,15 +73,6 @@ SettleAnswers (refused f) x r = (says_verdict r.verdict ≡ some (refused f)) ×
 
 abbrev pub SettleGives : Model → ℕ → State → Settled → Type 0
 SettleGives m budget x r = SettlingGives (settle (urgent_step m) budget (parts_of x)) x r
-
--- what settling says of the state that it reached
-unfoldable pub verdict_of : Bool → Verdict
-verdict_of true = Stable
-verdict_of false = Unsettled
-
--- where settling in place ended, as an answer, with the state that it led to
-abbrev pub rest_at : Rest → State → Settled
-rest_at r x = record { verdict = verdict_of r.stable; steps = r.steps; resets = r.resets; state = x }
 
 -- "It writes the actions taken to the front of a lent trace, one byte each; later bytes stay"
 unfoldable pub traced : List ℕ → List ℕ → List ℕ

@@ -1,11 +1,10 @@
 // Steps and settling in a model that is accepted, from a state of it: the checks are the caller's.
+#![tactic(auto)]
+
 ghost use Rattle.std.specs.Prelude.{◌≡◌, ℕ, ◌≤◌, ◌<◌, length};
-ghost use Rattle.answer.specs.Limits.{max_components};
 ghost use Rattle.answer.specs.State.{parts_of};
 ghost use Rattle.layout.specs.Image.{model_of};
-ghost use Rattle.moves.specs.Standing.{holding};
-ghost use Rattle.settling.specs.Gives.{Ready, StepsBy, EndsAt, StepGives, StepAnswers, SettleGives, SettleAnswers, by_rule_of, by_name_of};
-ghost use Rattle.settling.specs.Gives.{TraceHolds, not_enabled_at, rest_at};
+ghost use Rattle.settling.specs.Gives.{Ready, StepsBy, EndsAt, StepGives, StepAnswers, SettleGives, SettleAnswers, by_rule_of, by_name_of, TraceHolds, not_enabled_at};
 ghost use Rattle.iosa.specs.Settle.{play};
 
 use answer::{Model, Outcome, Place, Refusal, Settled, State, Stepped, Verdict};
@@ -107,61 +106,25 @@ pub fn by_rule(t: &[u64], x: State, budget: usize, trace: &mut [u8]) -> Settled
     ended(t, State { count: n, parts }, steps, resets)
 }
 
-// Where settling in place ended: whether the state reached is stable, the steps, and the clocks reset.
-#[derive(Drop)]
-pub struct Rest {
-    pub stable: bool,
-    pub steps: usize,
-    pub resets: u64,
-}
-
-// The same without a trace, in place: a round of a simulation keeps no trace, and hands its state on where it lies.
-pub fn rest_in(t: &[u64], parts: &mut [u8], n: usize, budget: usize) -> Rest
-    requires { Ready t.now (holding n parts.old) × (length parts.old ≡ max_components) }
-    ensures { SettleGives (model_of t.now) budget (holding n parts.old) (rest_at result (holding n parts.new)) }
-{
-    let mut resets = 0u64;
-    let mut taken = 0usize;
-    loop {
-        let a = moves::lowest_of(t, parts, n);
-        if Model::ACTIONS as u64 <= a {
-            return Rest {
-                stable: true,
-                steps: taken,
-                resets,
-            };
-        }
-        if budget <= taken {
-            return Rest {
-                stable: false,
-                steps: taken,
-                resets,
-            };
-        }
-        let reset = moves::move_in(t, parts, n, a);
-        resets = sets::union(resets, reset);
-        taken += 1;
-    }
-}
-
-// The same of a state.
+// The same without a trace: a round of a simulation keeps none.
 pub fn untraced(t: &[u64], x: State, budget: usize) -> Settled
     requires { Ready t.now x }
     ensures { SettleGives (model_of t.now) budget x result }
 {
     let n = x.count;
     let mut parts = x.parts;
-    let r = rest_in(t, &mut parts, n, budget);
-    Settled {
-        verdict: if r.stable {
-            Verdict::Stable
-        } else {
-            Verdict::Unsettled
-        },
-        steps: r.steps,
-        resets: r.resets,
-        state: State { count: n, parts },
+    let mut resets = 0u64;
+    let mut taken = 0usize;
+    while taken < budget {
+        let a = moves::lowest_of(t, &parts, n);
+        if Model::ACTIONS as u64 <= a {
+            return ended(t, State { count: n, parts }, taken, resets);
+        }
+        let reset = moves::move_in(t, &mut parts, n, a);
+        resets = sets::union(resets, reset);
+        taken += 1;
     }
+    ended(t, State { count: n, parts }, taken, resets)
 }
 
 // Settling by a list: the listed actions in order.

@@ -1,4 +1,6 @@
 // The call `simulate_drawn`: a simulation over draws from distributions.
+#![tactic(auto)]
+
 ghost use Rattle.std.specs.Prelude.{◌≡◌};
 ghost use Rattle.std.proofs.Math.Option.{none};
 ghost use Rattle.layout.specs.Image.{model_of};

@@ -1,4 +1,2 @@
 pub mod Widths
 pub mod Ending
-pub mod Walks
-pub mod Shows

@@ -1,2 +1,1 @@
 pub mod Simulated
-pub mod Calls

@@ -1,5 +1,5 @@
 -- Whether the merged model keeps the limits (01: 26 "over 64 states, 1,024 rows or 32,768 bytes"; 128 states since request 12), and the row at which the product's rows end.
-use Rattle.std.specs.Prelude.{◌≡◌, Bool, true, false, List, ℕ, ◌+◌, length, take}
+use Rattle.std.specs.Prelude.{◌≡◌, true, false, List, ℕ, ◌+◌, length, take}
 use Rattle.model.specs.Model.{row_count}
 use Rattle.merged.specs.Merge.{product_rows}
 use Rattle.merged.specs.MergedExactly.{FitsIn}

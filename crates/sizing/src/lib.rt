@@ -1,4 +1,6 @@
 // Whether the product of two neighbours fits, before anything is written: refusal 26 of the call `merge`.
+#![tactic(auto)]
+
 ghost use Rattle.std.specs.Prelude.{◌≡◌, ℕ, suc, ◌+◌, ◌≤◌, ◌<◌, ◌&&◌, length, drop, leb};
 ghost use Rattle.answer.specs.Limits.{max_rows, max_bytes};
 ghost use Rattle.model.specs.Model.{row_count};

@@ -1,4 +1,6 @@
 // A run, printed as it goes: a line for each step, then the last line (paper 01, "The program and its example"). The table is an image of a confluent model.
+#![tactic(auto)]
+
 ghost use Rattle.std.specs.Prelude.{◌≡◌, [], ◌∷◌, ◌≤◌, length};
 ghost use Rattle.std.proofs.Math.Option.{none};
 ghost use Rattle.answer.specs.Limits.{max_budget};

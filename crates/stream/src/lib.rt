@@ -1,16 +1,27 @@
-// A descriptor's bytes read to their end, and bytes written to one whole. What the system fails at is told apart from what ends.
+// What a reader gives, read to its end, and bytes written to one whole. What the system fails at is told apart from what ends.
 // No contract can say what the system reads or writes: what its answers mean is said by `meant`, and all else follows that.
-ghost use Rattle.std.specs.Prelude.{◌≡◌, ◌-◌, ◌≤◌, length};
+#![tactic(auto)]
+
+ghost use Rattle.std.specs.Prelude.{◌≡◌, ◌-◌, ◌≤◌, IfSome, length};
+ghost use Rattle.std.specs.IoError.{raw_os_error};
 ghost use Rattle.stream.specs.Stream.{tried_of, Tries, Gets, AtMost, Within, Whole};
 
-use libc::types::timespec;
-use libc::{EAGAIN, EINTR, EIO};
+use std::io::{ErrorKind, Read, Write};
+use std::time::{Clock, Duration};
+use std::{io, thread};
 
 // How often a call that is to be tried again is tried: no run uses them up, and a proved loop ends.
 const TRIES: u64 = u64::MAX;
 
 // How much is read behind a full buffer.
 const BEHIND: usize = 1 << 30;
+
+// The system's numbers of the errors that are spoken of here.
+const EINTR: i32 = 4;
+
+const EIO: i32 = 5;
+
+const EAGAIN: i32 = 11;
 
 // What one call of the system's came to.
 #[derive(Drop)]
@@ -46,39 +57,48 @@ fn meant(got: isize, error: i32) -> Tried
     Tried::Failed(error)
 }
 
-// Waits a hundredth of a second, or until a signal comes.
-fn pause() {
-    let asked = timespec {
-        tv_sec: 0,
-        tv_nsec: 10000000,
-    };
-    let mut left = timespec {
-        tv_sec: 0,
-        tv_nsec: 0,
-    };
-    libc::nanosleep(&asked, &mut left);
+// The number of an error, the system's own where it has one.
+pub fn number(error: &io::Error) -> i32
+    ensures { IfSome (raw_os_error error.now) (λ code. result ≡ code) }
+{
+    match error.raw_os_error() {
+        Some(code) => code,
+        None => match error.kind() {
+            ErrorKind::Interrupted => EINTR,
+            ErrorKind::WouldBlock => EAGAIN,
+            _ => EIO,
+        },
+    }
+}
+
+// Waits a hundredth of a second.
+fn pause(clock: &impl Clock) {
+    thread::sleep(clock, Duration::from_millis(10));
 }
 
 // One read into a buffer from a place on: what stands before the place stays.
-fn try_read(fd: i32, buf: &mut [u8], from: usize) -> Tried
+fn try_read<R: Read>(input: &mut R, buf: &mut [u8], from: usize) -> Tried
     requires { from ≤ length buf.old }
     ensures { Tries buf.old from buf.new result }
 {
-    let got = libc::read(fd, &mut buf[from..]);
-    meant(got, os::errno())
+    let answer = input.read(&mut buf[from..]);
+    match answer {
+        Ok(n) => meant(n as isize, 0),
+        Err(e) => meant(-1, number(&e)),
+    }
 }
 
 // Reads until something comes of it.
-fn read_some(fd: i32, buf: &mut [u8], from: usize) -> Moved
+fn read_some<R: Read>(clock: &impl Clock, input: &mut R, buf: &mut [u8], from: usize) -> Moved
     requires { from ≤ length buf.old }
     ensures { Gets buf.old from buf.new result }
 {
     let mut left = TRIES;
     while left > 0 {
-        match try_read(fd, buf, from) {
+        match try_read(input, buf, from) {
             Tried::Moved(n) => return Moved::Bytes(n),
             Tried::Failed(e) => return Moved::Failed(e),
-            Tried::Again => pause(),
+            Tried::Again => pause(clock),
         }
         left -= 1;
     }
@@ -86,19 +106,19 @@ fn read_some(fd: i32, buf: &mut [u8], from: usize) -> Moved
 }
 
 // Reads until a buffer is full or the input ends.
-fn fill(fd: i32, buf: &mut [u8]) -> Moved
+fn fill<R: Read>(clock: &impl Clock, input: &mut R, buf: &mut [u8]) -> Moved
     ensures { Within (length buf.new) result }
 {
     let mut done = 0;
     while done < buf.len() {
-        match read_some(fd, buf, done) {
+        match read_some(clock, input, buf, done) {
             Moved::Failed(e) => return Moved::Failed(e),
             Moved::Bytes(n) => {
                 if n == 0 {
                     break;
                 }
                 done += n;
-            },
+            }
         }
     }
     Moved::Bytes(done)
@@ -111,19 +131,19 @@ fn less(a: usize, b: usize) -> usize
 }
 
 // Reads on to the end of the input, or for so many bytes, and keeps none.
-fn skip(fd: i32, most: usize) -> Moved {
-    let mut space = io::large_buffer();
+fn skip<R: Read>(clock: &impl Clock, input: &mut R, most: usize) -> Moved {
+    let mut space = [0u8; 65536];
     let chunk: &mut [u8] = &mut space;
     let mut left = most;
     while left > 0 {
-        match read_some(fd, chunk, 0) {
+        match read_some(clock, input, chunk, 0) {
             Moved::Failed(e) => return Moved::Failed(e),
             Moved::Bytes(n) => {
                 if n == 0 {
                     break;
                 }
                 left = less(left, n);
-            },
+            }
         }
     }
     Moved::Bytes(0)
@@ -131,13 +151,13 @@ fn skip(fd: i32, most: usize) -> Moved {
 
 // Reads the input to its end, and answers how many of its bytes stand at the front of a buffer, or the error at which it stopped.
 // What no longer fits is read too, so that whoever sends it can end: up to BEHIND bytes, since not every input ends.
-pub fn read(fd: i32, buf: &mut [u8]) -> Moved
+pub fn read<R: Read>(clock: &impl Clock, input: &mut R, buf: &mut [u8]) -> Moved
     ensures { Within (length buf.new) result }
 {
-    let front = fill(fd, buf);
+    let front = fill(clock, input, buf);
     if let Moved::Bytes(n) = front {
         if n == buf.len() {
-            if let Moved::Failed(e) = skip(fd, BEHIND) {
+            if let Moved::Failed(e) = skip(clock, input, BEHIND) {
                 return Moved::Failed(e);
             }
         }
@@ -146,25 +166,28 @@ pub fn read(fd: i32, buf: &mut [u8]) -> Moved
 }
 
 // One write of a buffer from a place on.
-fn try_write(fd: i32, buf: &[u8], from: usize) -> Tried
+fn try_write<W: Write>(output: &mut W, buf: &[u8], from: usize) -> Tried
     requires { from ≤ length buf.now }
     ensures { AtMost (length buf.now - from) result }
 {
-    let put = libc::write(fd, &buf[from..]);
-    meant(put, os::errno())
+    let answer = output.write(&buf[from..]);
+    match answer {
+        Ok(n) => meant(n as isize, 0),
+        Err(e) => meant(-1, number(&e)),
+    }
 }
 
 // Writes until something comes of it.
-fn write_some(fd: i32, buf: &[u8], from: usize) -> Moved
+fn write_some<W: Write>(clock: &impl Clock, output: &mut W, buf: &[u8], from: usize) -> Moved
     requires { from ≤ length buf.now }
     ensures { Within (length buf.now - from) result }
 {
     let mut left = TRIES;
     while left > 0 {
-        match try_write(fd, buf, from) {
+        match try_write(output, buf, from) {
             Tried::Moved(n) => return Moved::Bytes(n),
             Tried::Failed(e) => return Moved::Failed(e),
-            Tried::Again => pause(),
+            Tried::Again => pause(clock),
         }
         left -= 1;
     }
@@ -172,19 +195,19 @@ fn write_some(fd: i32, buf: &[u8], from: usize) -> Moved
 }
 
 // Writes a buffer whole, and answers its length, or the error at which it stopped.
-pub fn write(fd: i32, buf: &[u8]) -> Moved
+pub fn write<W: Write>(clock: &impl Clock, output: &mut W, buf: &[u8]) -> Moved
     ensures { Whole (length buf.now) result }
 {
     let mut done = 0;
     while done < buf.len() {
-        match write_some(fd, buf, done) {
+        match write_some(clock, output, buf, done) {
             Moved::Failed(e) => return Moved::Failed(e),
             Moved::Bytes(n) => {
                 if n == 0 {
                     return Moved::Failed(EIO);
                 }
                 done += n;
-            },
+            }
         }
     }
     Moved::Bytes(done)

@@ -1,4 +1,6 @@
 // The whole text is checked before anything is written: 1, then the lines in file order, then 8.
+#![tactic(auto)]
+
 ghost use Rattle.std.specs.Prelude.{◌≡◌, ◌≤◌, length, drop};
 ghost use Rattle.std.proofs.Math.Option.{some};
 ghost use Rattle.answer.specs.Told.{says_checked, done_of};

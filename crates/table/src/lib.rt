@@ -1,4 +1,6 @@
 // The recogniser (refusal 20): whether the front of a lent buffer of any length and content is an image (docs/TABLE.md). It walks the image a fixed number of times.
+#![tactic(auto)]
+
 ghost use Rattle.std.specs.Prelude.{◌≡◌, ℕ, ◌+◌, ◌-◌, ◌≤◌, ◌<◌, length};
 ghost use Rattle.laws.specs.Sets.{within};
 ghost use Rattle.laws.specs.Fold.{all};

@@ -1,4 +1,6 @@
 // The lines that the program prints, put into a lent buffer at a place (paper 01, "The program and its example"). Each function answers the place behind what it put.
+#![tactic(auto)]
+
 ghost use Rattle.std.specs.Prelude.{[], ◌∷◌, ◌≤◌, length};
 ghost use Rattle.answer.specs.Limits.{max_components};
 ghost use Rattle.answer.specs.State.{parts_of};

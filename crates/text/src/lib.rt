@@ -1,4 +1,6 @@
 // The model text: it is read into a table, and a table's model is written as the one text that it has.
+#![tactic(auto)]
+
 ghost use Rattle.reading.specs.Read.{ReadCall};
 ghost use Rattle.text.specs.Write.{WriteCall};
 

@@ -1,9 +1,8 @@
 -- Clock values by a set of clocks: what the loops over the 64 values compute (01, "The timed step"; 28 to 30).
-use Rattle.std.specs.Prelude.{◌≡◌, Bool, true, false, ◌&&◌, ◌||◌, not, cond, List, ℕ, length, eqb, ℤ, pos}
+use Rattle.std.specs.Prelude.{◌≡◌, Bool, true, ◌&&◌, ◌||◌, not, cond, List, ℕ, length, eqb, ℤ, pos}
 use Rattle.std.proofs.Math.Option.{Option, none, some}
 use Rattle.std.specs.Int.Signed.{lt_z, le_z}
 use Rattle.laws.specs.Sets.{has, ◌∈◌}
-use Rattle.laws.specs.Search.{any}
 use Rattle.answer.specs.Limits.{max_clocks, max_ticks}
 use Rattle.timing.specs.Timed.{fallen}
 use Rattle.iosa.specs.TimedExactly.{floor, value_of}

@@ -1,4 +1,6 @@
 // Clock values in signed ticks: the range of 28, the tests of 29 and 30, the least value, and the fall.
+#![tactic(auto)]
+
 ghost use Rattle.std.specs.Prelude.{◌≡◌, ℕ, ◌≤◌, ◌<◌, length};
 ghost use Rattle.answer.specs.Limits.{max_clocks};
 ghost use Rattle.std.specs.Int.Signed.{lt_z};

@@ -1,4 +1,6 @@
 // The timed step.
+#![tactic(auto)]
+
 ghost use Rattle.timed.specs.TimedStep.{TimedStep};
 
 use answer::{Checked, Firing, State, Timed};

@@ -1,12 +1,13 @@
 // The program `tree` (paper 02, 9/13): it reads the text of a repairable fault tree from standard input and writes the text of its model, or the line of a refusal.
 // No answer without an input that was read to its end: where a read fails, nothing goes to standard output.
+#![tactic(auto)]
+
 ghost use Rattle.std.specs.Prelude.{◌≡◌, ◌≤◌, length};
 ghost use Rattle.steplines.specs.Run.{most_bytes};
 ghost use Rattle.printout.specs.Printed.{Printed, Filled};
 ghost use Rattle.tree.specs.Modelled.{model_text};
 
 use answer::Checked;
-use libc::{STDIN_FILENO, STDOUT_FILENO};
 use stream::Moved;
 
 fn put_tree(input: &[u8], out: &mut [u8]) -> usize
@@ -29,19 +30,19 @@ fn filled(input: &[u8], out: &mut [u8]) -> usize
 }
 
 // Writes the answer to an input, or says that it could not.
-fn answer(input: &[u8]) {
+fn answer(rt: &HostRuntime, input: &[u8]) {
     let mut out = printout::empty_out();
     let k = filled(input, &mut out);
-    if let Moved::Failed(e) = stream::write(STDOUT_FILENO, &out[..k]) {
-        failing::say(b"tree: the text could not be written whole", e);
+    if let Moved::Failed(e) = stream::write(rt, &mut rt.stdout(), &out[..k]) {
+        failing::say(rt, b"tree: the text could not be written whole", e);
     }
 }
 
 // A tree's text is judged no later than in its 65th line, so what does not fit is not needed.
-fn main() {
+fn main(rt: HostRuntime) {
     let mut input = printout::empty_input();
-    match stream::read(STDIN_FILENO, &mut input) {
-        Moved::Bytes(n) => answer(&input[..n]),
-        Moved::Failed(e) => failing::say(b"tree: standard input could not be read", e),
+    match stream::read(&rt, &mut rt.stdin(), &mut input) {
+        Moved::Bytes(n) => answer(&rt, &input[..n]),
+        Moved::Failed(e) => failing::say(&rt, b"tree: standard input could not be read", e),
     }
 }

@@ -1,4 +1,6 @@
 // The lines of a tree's text are judged: 2, 4 and 6, line by line. 4 asks whether an element's numbers are in a set, and so does 5, which waits for the last line.
+#![tactic(auto)]
+
 ghost use Rattle.std.specs.Prelude.{◌≡◌, ◌≤◌, length};
 ghost use Rattle.std.proofs.Math.Option.{some};
 ghost use Rattle.answer.specs.Limits.{max_inputs};

@@ -1,4 +1,6 @@
 // Lines of a tree's text: the shape of a whole line, one scan from left to right, which answers the element or where it stopped; no value is judged here.
+#![tactic(auto)]
+
 ghost use Rattle.std.specs.Prelude.{◌≡◌, ◌+◌, ◌≤◌, ◌<◌, drop};
 ghost use Rattle.answer.specs.Limits.{max_inputs};
 ghost use Rattle.fields.specs.Resets.{valued};
@@ -8,7 +10,7 @@ ghost use Rattle.treelines.specs.Elements.{sort_is, got_sort, no_inputs, placed_
 use fields::{Cursor, NumberScan, Sign, Step};
 
 // `be`, `and`, `or`, `pand`, `rbox`.
-#[derive(Drop)]
+#[derive(Clone, Copy)]
 pub enum Sort {
     Be,
     And,
@@ -24,7 +26,7 @@ pub enum SortScan {
 }
 
 // The inputs of an element, "boxes one to five": the first `count` of five places. An answer that is one of several holds no array.
-#[derive(Drop)]
+#[derive(Clone, Copy)]
 pub struct Inputs {
     pub count: usize,
     pub first: u64,
@@ -40,7 +42,7 @@ pub enum InputsScan {
     Missing(Cursor),
 }
 
-#[derive(Drop)]
+#[derive(Clone, Copy)]
 pub struct Element {
     pub sort: Sort,
     pub number: u64,

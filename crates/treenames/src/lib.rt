@@ -1,4 +1,6 @@
 // 5: an input that no line defines. The text is known to be good line by line; its numbers are a set, and each line is asked again.
+#![tactic(auto)]
+
 ghost use Rattle.std.specs.Prelude.{◌≡◌};
 ghost use Rattle.std.proofs.Math.Option.{some};
 ghost use Rattle.answer.specs.Told.{says_checked, done_of};

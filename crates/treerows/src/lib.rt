@@ -1,4 +1,6 @@
 // The rows of a tree's model, line by line, state by state, action by action: one walk counts them, measures their lines, and writes those below a limit.
+#![tactic(auto)]
+
 ghost use Rattle.std.specs.Prelude.{◌≡◌, [], ◌∷◌, ℕ, ◌+◌, ◌*◌, ◌≤◌, ◌<◌, length};
 ghost use Rattle.answer.specs.Limits.{max_rows, max_actions, max_elements, max_clocks};
 ghost use Rattle.layout.specs.Layout.{image_words};

@@ -124,10 +124,12 @@ in-at : (xs : List Meaning) {x : Meaning} → In x xs → (n : ℕ) × (n < leng
 unfolding at
 in-at (y ∷ ys) (here e) = (0, omega arith, ap some (sym e))
 in-at (y ∷ ys) (there m) = let p = in-at ys m in (suc p.0, omega (arith, p.1), p.2)
+in-at [] m = elim m [ ]
 
 meant-in : (v : ℕ) (ss : List Signal) {s : Signal} → In s ss → In (record { of = v; signal = s }) (meant v ss)
 meant-in v (s ∷ ss) (here e) = here (ap (λ q. record { of = v; signal = q }) e)
 meant-in v (s ∷ ss) (there m) = there (meant-in v ss m)
+meant-in v [] m = elim m [ ]
 
 in-meanings : (t : Tree) (es : List Element) {e : Element} {s : Signal} → In e es → In s (signals_of e.sort (boxed t e.number))
     → In (record { of = e.number; signal = s }) (meanings_from t es)
@@ -136,6 +138,7 @@ in-meanings t (q ∷ es) {e} {s} (here w) m =
     in_left {s = meant q.number (signals_of q.sort (boxed t q.number))} (meanings_from t es)
     (rw (← w) (meant-in e.number (signals_of e.sort (boxed t e.number)) m))
 in-meanings t (q ∷ es) (there l) m = in_right (meant q.number (signals_of q.sort (boxed t q.number))) (in-meanings t es l m)
+in-meanings t [] l m = elim l [ ]
 
 pub has-number : (t : Tree) (e : Element) (s : Signal) → In e t → In s (signals_of e.sort (boxed t e.number))
     → (a : ℕ) × (a < length (meanings t)) × (meaning_of t a ≡ some (record { of = e.number; signal = s }))

@@ -1,4 +1,6 @@
 // How many rows and bytes a tree's model has, before anything is written: 48.
+#![tactic(auto)]
+
 ghost use Rattle.std.specs.Prelude.{◌≡◌, ℕ, ◌+◌, ◌*◌, ◌≤◌, ◌<◌, length};
 ghost use Rattle.answer.specs.Limits.{max_actions, max_clocks, max_components};
 ghost use Rattle.model.specs.Text.{comp_text};

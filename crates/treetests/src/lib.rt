@@ -1,5 +1,7 @@
 // 47: "the conditions of 000 section 5.4 on these elements", of a text that 2, 4, 6 and 5 have no fault with. One pass over its lines gathers sets of 64 bits,
 // a second the inputs of each line, which are closed under going on: (i) is a number in its own set.
+#![tactic(auto)]
+
 ghost use Rattle.std.specs.Prelude.{◌≡◌, cond, ◌<◌, length, get_or, eqb};
 ghost use Rattle.std.proofs.Math.Option.{some};
 ghost use Rattle.laws.specs.Sets.{has};
@@ -28,7 +30,7 @@ pub struct LineSets {
 
 // What the lines so far have: their numbers, the boxes and the basic elements among these, every input, the inputs of boxes; whether a line has an input twice,
 // whether two boxes share one.
-#[derive(Drop)]
+#[derive(Clone, Copy)]
 pub struct Gathered {
     pub numbers: u64,
     pub boxes: u64,

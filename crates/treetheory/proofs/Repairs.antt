@@ -6,7 +6,7 @@ use mathlib.Core.Bool.{Bool, true, false, true≢false, ◌&&◌}
 use mathlib.Core.List.Memᴰ.{head as here}
 use mathlib.Core.List.Memᴰ.{not-nil as in-none}
 use mathlib.Core.List.Memᴰ.{tail as there}
-use mathlib.Core.List.{List, ◌∷◌, Memᴰ as In}
+use mathlib.Core.List.{List, [], ◌∷◌, Memᴰ as In}
 use Prim.Native.Nat.{ℕ, ◌-◌, ◌<◌}
 use native.Mathlib.Omega.{arith}
 use lib.ListN.{length, get_or}
@@ -223,6 +223,7 @@ module _ (S : Grown) where
           i-then true i j = j
           i-then false i j = absurd (true≢false (sym i))
   in-boxed (x ∷ es) e (there m) b v h = or_right (is_box x.sort && among v x.ins) (boxed es v) (in-boxed es e m b v h)
+  in-boxed [] e l b v h = elim l [ ]
 
   -- the number of the order to repair v
   order-number : (i : ℕ) → i < length t → (line_at t i).sort ≡ rbox-sort → (v : ℕ) → In v (line_at t i).ins

@@ -1,4 +1,6 @@
 // The walk of a listed path from the start of a model that is accepted: "a listed path of such steps, 0 to 4,096, each an action and its guard" (02, 8/13).
+#![tactic(auto)]
+
 ghost use Rattle.std.specs.Prelude.{◌≡◌, ℕ, ◌≤◌, ◌<◌};
 ghost use Rattle.std.proofs.Math.Option.{none};
 ghost use Rattle.answer.specs.State.{parts_of};

@@ -1,12 +1,13 @@
 // The program `why` (paper 02, 5/13): it reads a model text from standard input and writes why it is not confluent, or `confluent`, or the line of a refusal.
 // No answer without an input that was read to its end: where a read fails, nothing goes to standard output.
+#![tactic(auto)]
+
 ghost use Rattle.std.specs.Prelude.{◌≡◌, length};
 ghost use Rattle.whys.specs.Explanation.{explanation_of};
 ghost use Rattle.explaining.specs.Longest.{explanation_bytes};
 ghost use Rattle.printout.specs.Printed.{Filled};
 
 use answer::Written;
-use libc::{STDIN_FILENO, STDOUT_FILENO};
 use stream::Moved;
 
 fn empty_out() -> [u8; explaining::EXPLANATION]
@@ -27,18 +28,18 @@ fn filled(input: &[u8], out: &mut [u8]) -> usize
 }
 
 // Writes the answer to an input, or says that it could not.
-fn answer(input: &[u8]) {
+fn answer(rt: &HostRuntime, input: &[u8]) {
     let mut out = empty_out();
     let k = filled(input, &mut out);
-    if let Moved::Failed(e) = stream::write(STDOUT_FILENO, &out[..k]) {
-        failing::say(b"why: the answer could not be written whole", e);
+    if let Moved::Failed(e) = stream::write(rt, &mut rt.stdout(), &out[..k]) {
+        failing::say(rt, b"why: the answer could not be written whole", e);
     }
 }
 
-fn main() {
+fn main(rt: HostRuntime) {
     let mut input = printout::empty_input();
-    match stream::read(STDIN_FILENO, &mut input) {
-        Moved::Bytes(n) => answer(&input[..n]),
-        Moved::Failed(e) => failing::say(b"why: standard input could not be read", e),
+    match stream::read(&rt, &mut rt.stdin(), &mut input) {
+        Moved::Bytes(n) => answer(&rt, &input[..n]),
+        Moved::Failed(e) => failing::say(&rt, b"why: standard input could not be read", e),
     }
 }

@@ -1,6 +1,6 @@
 -- What is printed, exactly: `explanation_of` is the one explanation of a text.
-use mathlib.Core.Path.{◌≡◌, refl, sym, ◌∙◌, ap, subst}
-use mathlib.Core.Logic.{◌↔◌}
+use mathlib.Core.Path.{◌≡◌, refl, sym, ◌∙◌, ap, ap₂, subst}
+use mathlib.Core.Logic.{◌↔◌, ◌⊎◌, inl, inr}
 use mathlib.Core.Option.{Option, none, some}
 use mathlib.Core.List.{List, [], ◌∷◌}
 use Prim.Native.Nat.{ℕ, ◌<◌}
@@ -27,14 +27,21 @@ use Rattle.whys.proofs.Reaching.{the-way, reached-by-a-way}
 use Rattle.whys.proofs.Orders.{order-exactly, order-there, clash-shown}
 
 -- ---- there is one such path
+not-after-parts : {i j : ℕ} {l k : List ℕ} → NotAfter (i ∷ l) (j ∷ k) → (i < j) ⊎ ((i ≡ j) × NotAfter l k)
+not-after-parts (sooner h) = inl h
+not-after-parts (alike q) = inr (refl, q)
+
 one_list : (l k : List ℕ) → length l ≡ length k → NotAfter l k → NotAfter k l → l ≡ k
 one_list [] [] e p q = refl
 one_list [] (j ∷ k) e p q = absurd (omega (arith, e))
 one_list (i ∷ l) [] e p q = absurd (omega (arith, e))
-one_list (i ∷ l) (j ∷ k) e (sooner h) (sooner h') = absurd (omega arith)
-one_list (i ∷ l) (j ∷ k) e (sooner h) (alike q) = absurd (omega arith)
-one_list (i ∷ l) (j ∷ k) e (alike p) (sooner h) = absurd (omega arith)
-one_list (i ∷ l) (j ∷ k) e (alike p) (alike q) = ap (λ z. i ∷ z) (one_list l k (omega (arith, e)) p q)
+one_list (i ∷ l) (j ∷ k) e p q = go (not-after-parts p) (not-after-parts q) (λ x y. one_list l k (omega (arith, e)) x y)
+  where
+    go : (i < j) ⊎ ((i ≡ j) × NotAfter l k) → (j < i) ⊎ ((j ≡ i) × NotAfter k l) → (NotAfter l k → NotAfter k l → l ≡ k) → i ∷ l ≡ j ∷ k
+    go (inl h) (inl h') f = absurd (omega arith)
+    go (inl h) (inr y) f = absurd (omega (arith, y.0))
+    go (inr x) (inl h) f = absurd (omega (arith, x.0))
+    go (inr x) (inr y) f = ap₂ {C = List ℕ} (λ z zs. z ∷ zs) x.0 (f x.1 y.1)
 
 pub one_way : (c : Comp) (s t : ℕ) (l k : List ℕ) → TheWay c s t l → TheWay c s t k → l ≡ k
 one_way c s t l k p q =

@@ -1,4 +1,6 @@
 // Answers as words, and composed states as bytes, for callers in C (include/floodneedle.h has the layout in C's words).
+#![tactic(auto)]
+
 ghost use Rattle.std.specs.Prelude.{◌≡◌, ℕ, get_or, Bool};
 ghost use Rattle.std.proofs.Math.Option.{some};
 ghost use Rattle.answer.specs.Told.{Answer, Step, Shot, says_checked, says_written, says_outcome, says_verdict, says_firing};

@@ -3,7 +3,7 @@
 use mathlib.Core.Path.{◌≡◌, refl, sym}
 use mathlib.Core.Logic.{◌⊎◌, inl, inr, ⊎_elim}
 use mathlib.Core.List.{List, [], ◌∷◌}
-use Prim.Native.Nat.{ℕ}
+use Prim.Native.Nat.{ℕ, ◌<◌}
 use lib.IntN.{ℤ}
 use Rattle.laws.specs.Sets.{only, ◌∈◌}
 use Rattle.model.specs.Model.{Comp, Model, acts, urgents}
@@ -102,8 +102,8 @@ module _ (c : Comp) (cs : List Comp) (well : WellFormed (c ∷ cs)) (conf : Conf
       → EachPart (λ d x. a ∈ acts d → (a ∈ urgents d) ⊎ Stable (auto_of d) x) (c ∷ cs) s
   ways a s w (inl u) =
       let al = urgent-everywhere (c ∷ cs) a pairs (label-parts (λ A. A.urgent) (λ A B. refl) cs (auto_of c) a u) in
-      parts-with {R = λ d. a ∈ acts d → a ∈ urgents d} (c ∷ cs) s (λ d x f h k. inl (f k)) al w
-  ways a s w (inr st) = parts-with {R = WellComp} (c ∷ cs) s (λ d x k q h. inr q) each-well (stable-parts s w st)
+      parts-with {P = λ d x. x < d.states} {Q = λ d x. a ∈ acts d → (a ∈ urgents d) ⊎ Stable (auto_of d) x} {R = λ d. a ∈ acts d → a ∈ urgents d} (c ∷ cs) s (λ d x f h k. inl (f k)) al w
+  ways a s w (inr st) = parts-with {P = λ d. Stable (auto_of d)} {Q = λ d x. a ∈ acts d → (a ∈ urgents d) ⊎ Stable (auto_of d) x} {R = WellComp} (c ∷ cs) s (λ d x k q h. inr q) each-well (stable-parts s w st)
 
   -- a row of the product, urgent or from a stable state, keeps reached parts
   pub row-keeps-reached-parts : (C a R : ℕ) (y z : (product c cs).State) → (a ∈ (product c cs).urgent) ⊎ Stable (product c cs) y → (product c cs).Row y C a R z

@@ -71,19 +71,26 @@ moves-go (c ∷ cs) a si un (s ∷ ss) w g e =
     let b = together-some (move c s a) (move_all cs ss a) g e in
     rw b.whole (and (move-goes c si.0 s a un.0 w.0 b.one b.left) (moves-go cs a si.1 un.1 ss w.1 b.others b.right))
 
-pub go-moves : (m : Model) (a : ℕ) → All Single m → Unclocked a m → {s t : List ℕ} {C R : ℕ} → GoAll a m s C R t
+moves-by : {a : ℕ} {m : Model} {s t : List ℕ} {C R : ℕ} → GoAll a m s C R t → All Single m → Unclocked a m
     → (C ≡ 0) × (move_all m s a ≡ some (record { resets = R; after = t }))
 unfolding move_all
-go-moves m a si un end = (refl, refl)
-go-moves m a si un (and {c = c} {cs = cs} {s = s} g rest) =
+moves-by end si un = (refl, refl)
+moves-by {a = a} (and {c = c} {cs = cs} {s = s} g rest) si un =
     let p = goes-move c si.0 s a un.0 g in
-    let q = go-moves cs a si.1 un.1 rest in
+    let q = moves-by rest si.1 un.1 in
     (ap₂ ◌∪◌ p.0 q.0, ap₂ together p.1 q.1)
 
+pub go-moves : (m : Model) (a : ℕ) → All Single m → Unclocked a m → {s t : List ℕ} {C R : ℕ} → GoAll a m s C R t
+    → (C ≡ 0) × (move_all m s a ≡ some (record { resets = R; after = t }))
+go-moves m a si un g = moves-by g si un
+
 -- rows and rest keep a composed state in range
-pub go-within : (m : Model) (a : ℕ) → All WellComp m → {s t : List ℕ} {C R : ℕ} → GoAll a m s C R t → Within m s × Within m t
-go-within m a w end = (tt, tt)
-go-within m a w (and {c = c} {cs = cs} g rest) =
+within-by : {a : ℕ} {m : Model} {s t : List ℕ} {C R : ℕ} → GoAll a m s C R t → All WellComp m → Within m s × Within m t
+within-by end w = (tt, tt)
+within-by (and {c = c} {cs = cs} g rest) w =
     let o = go-own (auto_of c) (component-own c w.0) g in
-    let r = go-within cs a w.1 rest in
+    let r = within-by rest w.1 in
     ((o.from, r.0), (o.target, r.1))
+
+pub go-within : (m : Model) (a : ℕ) → All WellComp m → {s t : List ℕ} {C R : ℕ} → GoAll a m s C R t → Within m s × Within m t
+go-within m a w g = within-by g w

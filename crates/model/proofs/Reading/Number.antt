@@ -136,14 +136,18 @@ pow-ten zero = omega arith
 pow-ten (suc k) = omega (arith, pow-ten k)
 
 -- digits that were scanned are those printed
-pub digits-back : (k d : ℕ) {ds : List ℕ} {n : ℕ} → 1 ≤ d → d < 10 → Behind d ds n → length ds ≤ k → (digits_of (suc k) n ≡ (byte0 + d) ∷ ds) × (n < 10 ^ suc k)
-digits-back k d p h none-behind l = (digits_last k d h, omega (arith, pow-ten k))
-digits-back zero d p h (one_more {ds} c w q) l = absurd (omega (arith, length-append ds ((byte0 + c) ∷ [])))
-digits-back (suc k) d p h (one_more {ds} {n} c w q) l =
-    let r = digits-back k d p h w (omega (arith, length-append ds ((byte0 + c) ∷ []))) in
+digits-behind : {d : ℕ} {ds : List ℕ} {n : ℕ} → Behind d ds n → (k : ℕ) → 1 ≤ d → d < 10 → length ds ≤ k
+    → (digits_of (suc k) n ≡ (byte0 + d) ∷ ds) × (n < 10 ^ suc k)
+digits-behind {d = d} none-behind k p h l = (digits_last k d h, omega (arith, pow-ten k))
+digits-behind (one_more {ds} c w q) zero p h l = absurd (omega (arith, length-append ds ((byte0 + c) ∷ [])))
+digits-behind (one_more {ds} {n} c w q) (suc k) p h l =
+    let r = digits-behind w k p h (omega (arith, length-append ds ((byte0 + c) ∷ []))) in
     let e : (n * 10 + c) / 10 ≡ n = omega arith in
     let f : (n * 10 + c) % 10 ≡ c = omega arith in
     (digits_step (suc k) (n * 10 + c) (omega (arith, behind-least w)) ∙ rw (e, f, r.0), omega (arith, r.1))
+
+pub digits-back : (k d : ℕ) {ds : List ℕ} {n : ℕ} → 1 ≤ d → d < 10 → Behind d ds n → length ds ≤ k → (digits_of (suc k) n ≡ (byte0 + d) ∷ ds) × (n < 10 ^ suc k)
+digits-back k d p h w l = digits-behind w k p h l
 
 -- ---- a number
 number-zero : (bs : List ℕ) → number (byte0 ∷ bs) ≡ got 0 bs

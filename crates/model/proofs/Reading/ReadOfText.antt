@@ -100,19 +100,19 @@ comp-read {t} {k} {p} c bs w l n r =
     (move {d = x.0} (clks-all c w) refl x.2)
 
 -- ---- the whole text
-comps-read : {t : List ℕ} {k : ℕ} (p : Progress) (cs : List Comp) → All WellComp cs → length p.comps + length cs ≤ max_components
+comps-read : {t : List ℕ} (k : ℕ) (p : Progress) (cs : List Comp) → All WellComp cs → length p.comps + length cs ≤ max_components
     → row_count p.comps + row_count cs ≤ max_rows
     → Reaches t k p (text_of cs) → (j : ℕ) × (q : Progress) × Reaches t j q [] × (q.comps ≡ reverse_aux cs p.comps)
 unfolding text_of row_count
-comps-read {t} {k} p [] h l n r = (k, p, r, refl)
-comps-read p (c ∷ cs) h l n r =
+comps-read k p [] h l n r = (k, p, r, refl)
+comps-read k p (c ∷ cs) h l n r =
     let a = comp-read c (text_of cs) h.0 (omega arith) (omega arith) r in
-    comps-read (record { comps = c ∷ p.comps; last = some a.0 }) cs h.1 (omega arith) (omega arith) a.1.reached
+    comps-read a.1.line (record { comps = c ∷ p.comps; last = some a.0 }) cs h.1 (omega arith) (omega arith) a.1.reached
 
 pub read-of-text : (m : Model) → WellFormed m → read_of (text_of m) ≡ answered m
 unfolding row_count
 read-of-text m w =
-    let r = comps-read {t = text_of m} at_start m (at_all WellComp no_comp m w.each) (omega (arith, w.components)) (omega (arith, w.rows)) first-line in
+    let r = comps-read {t = text_of m} 1 at_start m (at_all WellComp no_comp m w.each) (omega (arith, w.components)) (omega (arith, w.rows)) first-line in
     read-model (text_of m) m (record {
       short = w.bytes;
       lines = r.0;

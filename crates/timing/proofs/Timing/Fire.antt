@@ -145,6 +145,7 @@ not-both : (c : Comp) (cs : List Comp) (x a : ℕ) → Fits (auto_of c) cs → A
     → (a ∈ outputs c → ⊥) × (x ∈ c.clocks → ⊥)
 not-both c (d ∷ ds) x a f (inl h) = (λ p. f.0.outputs a p h.0, λ k. f.0.clocks x k h.1)
 not-both c (d ∷ ds) x a f (inr h) = not-both c ds x a f.1 h
+not-both c [] x a f x4 = elim x4 [ ]
 
 -- ---- the clock's row, and what the system does by it
 pub record Shoots (m : Model) (s : List ℕ) (x : ℕ) (r : Row) : Type 0 where

@@ -1,0 +1,19 @@
+-- `distributions::real` meets its contract.
+use mathlib.Core.Path.{sym, ◌∙◌}
+use mathlib.Core.List.{[], ◌∷◌}
+use Prim.Native.Nat.{ℕ}
+use Rattle.model.specs.Text.{tab}
+use Rattle.drawing.specs.File.{real_at}
+use Rattle.distributions.proofs.FoundLaws.{bytes_on, bytes-off}
+use Rattle.distributions.proofs.real.Goals as goal
+use Rattle.distributions.proofs.real.Goals.{After-byte}
+
+-- where the scan begins
+abbrev start : After-byte → ℕ
+start c = c.args.c.at
+
+pub returns-in-Past : goal.returns-in-Past
+returns-in-Past c = c.bits_at.ensures ∙ sym (bytes_on real_at (tab ∷ []) _ (start (goal.at.returns-in-Past c).After-byte) _ c.byte.ensures _ c.in-Past.is)
+
+pub returns-in-Missing : goal.returns-in-Missing
+returns-in-Missing c = bytes-off real_at (tab ∷ []) _ (start (goal.at.returns-in-Missing c).After-byte) _ c.byte.ensures _ c.in-Missing.is

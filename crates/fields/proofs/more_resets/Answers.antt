@@ -1,0 +1,33 @@
+-- `fields::more_resets` meets its contract. The loop's invariant: the sum so far, with the numbers from here on, is the sum of all.
+use native.Mathlib.Omega.{arith}
+use Rattle.fields.specs.Resets.{with_all, with}
+use Rattle.fields.proofs.Gather.{gathered_none, gathered-end, gathered-other, gathered-missing, gathered-less, gathered-more}
+use Rattle.fields.proofs.ResetLaws.{nothing-more, one_more}
+use Rattle.fields.proofs.more_resets.Goals as goal
+
+pub loop-at-init : goal.loop-at-init
+loop-at-init c = gathered_none with with_all nothing-more one_more _ _ _
+
+pub bounds-text-at : goal.bounds-text-at
+bounds-text-at c = omega arith
+
+pub returns-then-text-at-ne-COMMA : goal.returns-then-text-at-ne-COMMA
+returns-then-text-at-ne-COMMA c = gathered-other with with_all nothing-more one_more _ _ _ _ _ c.loop-at.invariant c.loop-at-test.true c.if-text-at-ne-COMMA.true
+
+pub overflow_add-at : goal.overflow_add-at
+overflow_add-at c = omega arith
+
+pub loop-at-smaller : goal.loop-at-smaller
+loop-at-smaller c = gathered-less with with_all nothing-more one_more _ _ _ _ _ c.loop-at.invariant c.loop-at-test.true c.if-text-at-ne-COMMA.false _
+    c.number.ensures _ _ c.in-Is.is
+
+pub loop-at-preserved : goal.loop-at-preserved
+loop-at-preserved c = gathered-more with with_all nothing-more one_more _ _ _ _ _ c.loop-at.invariant c.loop-at-test.true c.if-text-at-ne-COMMA.false _
+    c.number.ensures _ _ c.in-Is.is _ c.with_reset-more.ensures
+
+pub returns-in-Missing : goal.returns-in-Missing
+returns-in-Missing c = gathered-missing with with_all nothing-more one_more _ _ _ _ _ c.loop-at.invariant c.loop-at-test.true c.if-text-at-ne-COMMA.false _
+    c.number.ensures _ _ c.in-Missing.is
+
+pub returns : goal.returns
+returns c = gathered-end with with_all nothing-more one_more _ _ _ _ _ c.loop-at.invariant c.loop-at-test.false

@@ -1,0 +1,14 @@
+-- What each turn of the loop of `fill::zero_words` keeps.
+use Prim.Native.Nat.{◌+◌, ◌-◌}
+use mathlib.Core.Path.{◌≡◌}
+use lib.ListN.{length}
+use lib.Seq.{sets}
+use Rattle.laws.specs.Fold.{tab}
+use Rattle.fill.specs.Words.{zeros_of}
+use Rattle.fill.proofs.zero_words.Given as goal
+
+abbrev pub invariant-loop-k : goal.invariant-loop-k
+invariant-loop-k l = (length l.into ≡ length l.initial.into) × (sets l.into (l.at + l.k) (tab (λ j. 0) l.k (l.n - l.k)) ≡ sets l.initial.into l.at (zeros_of l.n))
+
+abbrev pub decreases-loop-k : goal.decreases-loop-k
+decreases-loop-k l = l.n - l.k

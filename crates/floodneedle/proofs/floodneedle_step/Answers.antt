@@ -1,0 +1,19 @@
+-- `floodneedle::floodneedle_step` meets its contract: words and state are those of the call on the state that the bytes make.
+use borrow.Author.Rules.{rules}
+use mathlib.Core.Path.{subst}
+use Rattle.answer.specs.declared.State.{State}
+use Rattle.run.specs.Calls.{step_on}
+use Rattle.floodneedle.specs.Told.{StepTold}
+use Rattle.floodneedle.proofs.Tells.{step-told}
+use Rattle.floodneedle.proofs.floodneedle_step.Goals as goal
+
+pub returns : goal.returns
+returns c = let args = c.args in
+    let made = c.state_of-given in
+    let call = c.step-r in
+    let after = call.result.state.parts in
+    let words = c.stepped_words.result in
+    subst
+    (λ (y : State). StepTold (step_on args.table.now y) y after words)
+    made.ensures
+    (step-told (step_on args.table.now made.result) made.result call.result words call.ensures.answer c.stepped_words.ensures)

@@ -1,0 +1,22 @@
+-- The two are joined in a table of zeros: a refusal is printed, and else the text of the model.
+use Prim.Native.Nat.{ℕ}
+use native.Mathlib.Omega.{arith}
+use lib.ListN.{length-replicate}
+use Rattle.layout.specs.Layout.{image_words}
+use Rattle.printout.proofs.Printing.{printed-line, as-printed}
+use Rattle.merger.proofs.Joining.{fine-merged, refused-merged}
+use Rattle.merger.proofs.put_joined.Goals as goal
+
+pub put_model-requires : goal.put_model-requires
+put_model-requires c =
+    ((fine-merged _ c.requires.0 _ _ (omega (arith, length-replicate {A = ℕ} image_words 0)) _ _ c.merge-checked.ensures c.in-Fine.is).0, c.requires.1)
+
+pub returns-in-Refused : goal.returns-in-Refused
+returns-in-Refused c =
+    let p = refused-merged _ c.requires.0 _ _ (omega (arith, length-replicate {A = ℕ} image_words 0)) _ _ c.merge-checked.ensures c.in-Refused.f c.in-Refused.is in
+    printed-line c.in-Refused.f p.0 _ p.1 p.2 c.put_refusal.ensures
+
+pub returns-in-Fine : goal.returns-in-Fine
+returns-in-Fine c =
+    let p = fine-merged _ c.requires.0 _ _ (omega (arith, length-replicate {A = ℕ} image_words 0)) _ _ c.merge-checked.ensures c.in-Fine.is in
+    as-printed p.1 c.put_model.ensures

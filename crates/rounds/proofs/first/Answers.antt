@@ -1,0 +1,21 @@
+-- `rounds::first` meets its contract.
+use mathlib.Core.Path.{◌∙◌}
+use borrow.Author.Rules.{rules}
+use Rattle.layout.proofs.ImageIsSane.{image-long, count-below}
+use Rattle.layout.proofs.JoinedInModel.{started-joined}
+use Rattle.rounds.proofs.Going.{first-posed, first-closes}
+use Rattle.rounds.proofs.first.Goals as goal
+
+pub start_state-state-requires : goal.start_state-state-requires
+start_state-state-requires c = c.requires.0.image
+
+pub joined-resets-requires : goal.joined-resets-requires
+joined-resets-requires c = let im = c.requires.0.image in (image-long _ im, count-below _ im, search rules)
+
+pub close-requires : goal.close-requires
+close-requires c =
+    (c.requires.1, first-posed _ c.requires.0 _ c.start_state-state.ensures _ c.requires.2)
+
+pub returns : goal.returns
+returns c =
+    first-closes _ c.requires.0 _ c.start_state-state.ensures _ _ _ _ _ (c.joined-resets.ensures ∙ started-joined _) _ c.requires.2 _ _ _ _ c.close.ensures

@@ -1,0 +1,10 @@
+-- The length of so long an array is a law's, and is not computed.
+use mathlib.Core.Path.{sym}
+use Prim.Native.Nat.{ℕ}
+use lib.ListN.{length-replicate}
+use Prim.Native.Nat.{◌+◌}
+use Rattle.answer.specs.Limits.{max_request, max_bytes}
+use Rattle.settle.proofs.empty_input.Goals as goal
+
+pub returns : goal.returns
+returns c = sym (length-replicate {A = ℕ} (max_request + max_bytes + 1) 0)

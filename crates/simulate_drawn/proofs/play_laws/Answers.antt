@@ -1,0 +1,41 @@
+-- `simulate_drawn::play_laws` meets its contract: 22, 28, 49, then the rounds.
+use mathlib.Core.Path.{◌≡◌, refl, subst}
+use mathlib.Core.List.{List}
+use Prim.Native.Nat.{ℕ}
+use Rattle.answer.specs.declared.Checked.{Checked}
+use Rattle.model.specs.Model.{declared}
+use Rattle.layout.specs.Image.{model_of}
+use Rattle.distributions.specs.Text.{Scans}
+use Rattle.drawing.specs.File.{laws_of}
+use Rattle.drawing.specs.Call.{simulate_drawn}
+use Rattle.simulate.proofs.Called.{told-22, told-28}
+use Rattle.simulate_drawn.proofs.Drawn.{fine-count, told-49, plays-draws}
+use Rattle.simulate_drawn.proofs.play_laws.Goals as goal
+
+-- what the scan found, of the clocks that the model declares
+scanned : (t x : List ℕ) (d : ℕ) (r : Checked) (at : List ℕ) → d ≡ declared (model_of t) → Scans (laws_of d x) x r at → Scans (laws_of (declared (model_of t)) x) x r at
+scanned t x d r at e h = subst (λ d. Scans (laws_of d x) x r at) e h
+
+pub returns-then-rounds-gt-BUDGET : goal.returns-then-rounds-gt-BUDGET
+unfolding simulate_drawn
+returns-then-rounds-gt-BUDGET c = told-22 _ _ _ _ c.requires.1 c.if-rounds-gt-BUDGET.true _ c.refused.ensures
+
+pub returns-then-clocks-ne-CLOCKS : goal.returns-then-clocks-ne-CLOCKS
+unfolding simulate_drawn
+returns-then-clocks-ne-CLOCKS c = told-28 _ _ _ _ c.requires.1 c.if-rounds-gt-BUDGET.false c.if-clocks-ne-CLOCKS.true _ c.refused-then-clocks-ne-CLOCKS.ensures
+
+pub declared-requires : goal.declared-requires
+declared-requires c = c.requires.0.image
+
+pub play-requires : goal.play-requires
+play-requires c = let x = c.args.laws.now in
+    let o = laws_of (declared (model_of c.args.t.now)) x in
+    (c.requires.0, fine-count o x c.scan-checked.result c.scan-checked.new.at (scanned _ _ _ _ _ c.declared.ensures c.scan-checked.ensures) c.in-Fine.is, c.if-clocks-ne-CLOCKS.false)
+
+pub returns-in-Fine : goal.returns-in-Fine
+returns-in-Fine c = plays-draws _ _ _ _ _ c.requires.1 c.if-rounds-gt-BUDGET.false c.if-clocks-ne-CLOCKS.false c.scan-checked.result c.scan-checked.new.at (scanned _ _ _ _ _ c.declared.ensures c.scan-checked.ensures)
+    _ refl c.in-Fine.is _ _ c.play.ensures
+
+pub returns-in-Refused : goal.returns-in-Refused
+returns-in-Refused c = told-49 _ _ _ _ _ c.requires.1 c.if-rounds-gt-BUDGET.false c.if-clocks-ne-CLOCKS.false c.scan-checked.result c.scan-checked.new.at (scanned _ _ _ _ _ c.declared.ensures c.scan-checked.ensures)
+    _ c.in-Refused.is _ c.refused-in-Refused.ensures

@@ -1,0 +1,6 @@
+-- What was put stands at the front.
+use Rattle.printout.proofs.Printing.{is-filled}
+use Rattle.simulator.proofs.filled.Goals as goal
+
+pub returns : goal.returns
+returns c = is-filled c.put_simulated.ensures

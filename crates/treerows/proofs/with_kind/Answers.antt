@@ -1,0 +1,14 @@
+-- `treerows::with_kind` meets its contract.
+use Rattle.treerows.proofs.with_kind.Goals as goal
+
+pub returns-in-In : goal.returns-in-In
+returns-in-In c = rw (c.in-In.is, c.union.ensures, c.single-one.ensures)
+
+pub returns-in-Out : goal.returns-in-Out
+returns-in-Out c = rw (c.in-Out.is, c.union-in-Out.ensures, c.single-one.ensures)
+
+pub returns-in-Uin : goal.returns-in-Uin
+returns-in-Uin c = rw (c.in-Uin.is, c.union-in-Uin.ensures, c.single-one.ensures)
+
+pub returns-in-Uout : goal.returns-in-Uout
+returns-in-Uout c = rw (c.in-Uout.is, c.union-in-Uout.ensures, c.single-one.ensures)

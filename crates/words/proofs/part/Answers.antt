@@ -1,0 +1,7 @@
+-- `words::part` meets its contract: past the end a list has its default.
+use mathlib.Core.Path.{sym}
+use lib.ListN.{get_or-eq_default}
+use Rattle.words.proofs.part.Goals as goal
+
+pub returns-else-i-bytes : goal.returns-else-i-bytes
+returns-else-i-bytes c = sym (get_or-eq_default c.args.bytes.now 0 c.if-i-bytes.false)
