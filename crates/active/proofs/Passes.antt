@@ -9,7 +9,7 @@ use lib.ListN.{length, get_or, set, get_or-eq_default}
 use lib.Seq.{get_or-set_same, get_or-set_other, set-get_or}
 use lib.Bits.{and_le_l}
 use borrow.Author.Tests.{eq-eqb, ne_eqb}
-use Rattle.laws.specs.Sets.{◌∩◌, within}
+use Rattle.laws.specs.Sets.{◌∩◌}
 use Rattle.laws.specs.Fold.{over_from, over, sum}
 use Rattle.laws.proofs.SetLaws.{within-true}
 use Rattle.laws.proofs.UnionLaws.{over-keeps}

@@ -11,7 +11,6 @@ ghost use Rattle.layout.specs.Image.{Image, comp_of};
 ghost use Rattle.active.specs.Narrowing.{narrow_state, pass, FirstSets, Fell};
 
 use answer::Model;
-use rows::Found;
 
 // The guard of a row as a set: none, or one clock.
 pub fn guard_set(g: u64) -> u64
@@ -43,11 +42,7 @@ pub fn is_unstable(t: &[u64], i: usize, s: usize) -> bool
     let lo = layout::first_of(t, i, s);
     let hi = layout::first_of(t, i, s + 1);
     let set = layout::block_word(t, i, layout::UOUTS);
-    let f = rows::find_in(t, lo, hi, set);
-    match f {
-        Found::At(_) => true,
-        Found::Nothing => false,
-    }
+    rows::find_in(t, lo, hi, set).is_some()
 }
 
 // What the start and stability allow at s.

@@ -2,7 +2,7 @@
 use mathlib.Core.Path.{◌≡◌}
 use mathlib.Core.List.{List}
 use Prim.Native.Nat.{ℕ}
-use Rattle.answer.specs.declared.Checked.{Checked}
+use Rattle.answer.specs.Told.{Checked}
 use Rattle.answer.proofs.SaysFixes.{checked-fixed}
 use Rattle.iosa.specs.Checks.{component_of, compatible_of, accept_of, confluent_of}
 use Rattle.table.specs.OnTable.{check_on}

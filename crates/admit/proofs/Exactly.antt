@@ -8,8 +8,8 @@ use mathlib.Core.List.{List}
 use Prim.Native.Nat.{ℕ, ◌<◌}
 use lib.ListN.{length}
 use Rattle.answer.specs.Told.{Told, answered, says_checked}
-use Rattle.answer.specs.declared.Checked.{Checked}
-use Rattle.answer.specs.declared.Checked.TheVariants.{Fine}
+use Rattle.answer.specs.Told.{Checked}
+use Rattle.std.specs.Prelude.{Ok}
 use Rattle.model.specs.Model.{Model, comp_at}
 use Rattle.iosa.specs.Automaton.{auto_of, Conditions, Conforming, Joinable, AllConfluent}
 use Rattle.iosa.specs.Checks.{component_of, compatible_of, accept_of, confluent_of}
@@ -25,7 +25,7 @@ use Rattle.table.proofs.ImageExactly.{image-exactly}
 use Rattle.admit.specs.Admit.{ByItself, Compatibly, Accepted, Confluently}
 use Rattle.answer.proofs.SaysFixes.{checked-fixed}
 
--- what a call that goes on after `Fine` counts on
+-- what a call that goes on after `(Ok tt)` counts on
 pub record Admitted (t : List ℕ) : Type 0 where
   pub image : Image t
   pub accepted : accept_of (model_of t) ≡ none
@@ -35,10 +35,10 @@ pub record Admitted (t : List ℕ) : Type 0 where
 admitted : (t : List ℕ) → Image t → accept_of (model_of t) ≡ none → Admitted t
 admitted t im e = let p = (accepted-exactly (model_of t) (well-formed t im)).0 e in record { image = im; accepted = e; conforming = p.0; joinable = p.1 }
 
-pub accept-fine : (t : List ℕ) → Accepted t Fine → Admitted t
+pub accept-fine : (t : List ℕ) → Accepted t (Ok tt) → Admitted t
 accept-fine t e = let p = fine-passes t accept_of e in admitted t ((image-exactly t).0 p.0) p.1
 
-pub confluent-fine : (t : List ℕ) → Confluently t Fine → Admitted t × (confluent_of (model_of t) ≡ none) × AllConfluent (model_of t)
+pub confluent-fine : (t : List ℕ) → Confluently t (Ok tt) → Admitted t × (confluent_of (model_of t) ≡ none) × AllConfluent (model_of t)
 confluent-fine t e =
     let p = fine-passes t confluent_of e in
     let im = (image-exactly t).0 p.0 in
@@ -47,19 +47,19 @@ confluent-fine t e =
 
 -- ---- both ways
 pub passes-fine : (t : List ℕ) (check : Model → Option Told) (r : Checked) → Image t → check (model_of t) ≡ none
-    → says_checked r ≡ some (check_on t check) → r ≡ Fine
+    → says_checked r ≡ some (check_on t check) → r ≡ (Ok tt)
 unfolding says_checked
 passes-fine t check r im e s =
-    checked-fixed r Fine (answered tt) (s ∙ ap some (on-image t (λ m. unless (check m) tt) ((image-exactly t).1 im) ∙ ap (λ o. unless o tt) e)) refl
+    checked-fixed r (Ok tt) (answered tt) (s ∙ ap some (on-image t (λ m. unless (check m) tt) ((image-exactly t).1 im) ∙ ap (λ o. unless o tt) e)) refl
 
-pub accept-exactly : (t : List ℕ) (r : Checked) → Accepted t r → (r ≡ Fine) ↔ (Image t × Conforming (model_of t) × Joinable (model_of t))
+pub accept-exactly : (t : List ℕ) (r : Checked) → Accepted t r → (r ≡ (Ok tt)) ↔ (Image t × Conforming (model_of t) × Joinable (model_of t))
 accept-exactly t r s = (
   λ e. let a = accept-fine t (rw e at s) in (a.image, a.conforming, a.joinable),
   λ p. passes-fine t accept_of r p.0 ((accepted-exactly (model_of t) (well-formed t p.0)).1 (p.1, p.2)) s,
 )
 
 pub confluent-call-exactly : (t : List ℕ) (r : Checked) → Confluently t r
-    → (r ≡ Fine) ↔ (Image t × Conforming (model_of t) × Joinable (model_of t) × AllConfluent (model_of t))
+    → (r ≡ (Ok tt)) ↔ (Image t × Conforming (model_of t) × Joinable (model_of t) × AllConfluent (model_of t))
 confluent-call-exactly t r s = (
   λ e. let a = confluent-fine t (rw e at s) in (a.0.image, a.0.conforming, a.0.joinable, a.2),
   λ p.
@@ -69,7 +69,7 @@ confluent-call-exactly t r s = (
 )
 
 pub component-exactly : (t : List ℕ) (i : ℕ) (r : Checked) → ByItself t i r
-    → (r ≡ Fine) ↔ (Image t × (i < length (model_of t)) × Conditions (auto_of (comp_at (model_of t) i)))
+    → (r ≡ (Ok tt)) ↔ (Image t × (i < length (model_of t)) × Conditions (auto_of (comp_at (model_of t) i)))
 component-exactly t i r s = (
   λ e.
       let p = fine-passes t (λ m. component_of m i) (rw e at s) in
@@ -79,7 +79,7 @@ component-exactly t i r s = (
   λ p. passes-fine t (λ m. component_of m i) r p.0 ((conditions-exactly (model_of t) (well-formed t p.0) i).1 (p.1, p.2)) s,
 )
 
-pub compatible-exactly : (t : List ℕ) (r : Checked) → Compatibly t r → (r ≡ Fine) ↔ (Image t × Joinable (model_of t))
+pub compatible-exactly : (t : List ℕ) (r : Checked) → Compatibly t r → (r ≡ (Ok tt)) ↔ (Image t × Joinable (model_of t))
 compatible-exactly t r s = (
   λ e.
       let p = fine-passes t compatible_of (rw e at s) in

@@ -10,8 +10,8 @@ use lib.ListN.{length}
 use Rattle.laws.specs.Search.{seek, or_else}
 use Rattle.laws.proofs.SearchLaws.{seek-some, seek-none}
 use Rattle.answer.specs.Told.{Told, answered, refused, says_checked}
-use Rattle.answer.specs.declared.Checked.{Checked}
-use Rattle.answer.specs.declared.Checked.TheVariants.{Fine, Refused}
+use Rattle.answer.specs.Told.{Checked}
+use Rattle.std.specs.Prelude.{Ok, Err}
 use Rattle.answer.specs.declared.Refusal.{Refusal}
 use Rattle.answer.proofs.SaysFixes.{checked-fixed}
 use Rattle.model.specs.Model.{Model}
@@ -26,14 +26,14 @@ use Rattle.admit.specs.Admit.{ByItself, Compatibly, Accepted}
 use Rattle.admit.specs.Together.{FirstRefusal, of-component, of-last}
 
 -- ---- what an answer that says this is
-is-fine : (r : Checked) → says_checked r ≡ some (answered tt) → r ≡ Fine
+is-fine : (r : Checked) → says_checked r ≡ some (answered tt) → r ≡ (Ok tt)
 unfolding says_checked
-is-fine r s = checked-fixed r Fine (answered tt) s refl
+is-fine r s = checked-fixed r (Ok tt) (answered tt) s refl
 
-is-refused : (r : Checked) (f : Told) → says_checked r ≡ some (refused f) → (q : Refusal) × (r ≡ Refused q)
+is-refused : (r : Checked) (f : Told) → says_checked r ≡ some (refused f) → (q : Refusal) × (r ≡ Err q)
 unfolding says_checked
-is-refused Fine f s = let z : ◌≡◌ {A = ℕ} 0 1 = cc in absurd (omega arith)
-is-refused (Refused q) f s = (q, refl)
+is-refused (Ok tt) f s = let z : ◌≡◌ {A = ℕ} 0 1 = cc in absurd (omega arith)
+is-refused (Err q) f s = (q, refl)
 
 -- ---- by whether the table is an image
 module _ (t : List ℕ) (check : Model → Option Told) (r : Checked) (s : says_checked r ≡ some (check_on t check)) where
@@ -54,7 +54,7 @@ module _ (t : List ℕ) (each : ℕ → Checked) (last r : Checked)
   n = length (model_of t)
 
   -- a component that refuses, all before it fine, refuses as `accept` does
-  first : (i : ℕ) (f : Told) → i < n → ((j : ℕ) → j < i → each j ≡ Fine)
+  first : (i : ℕ) (f : Told) → i < n → ((j : ℕ) → j < i → each j ≡ (Ok tt))
       → says_checked (each i) ≡ some (refused f) → says_checked r ≡ some (refused f) → FirstRefusal n each last r
   first i f h before s u = let q = is-refused (each i) f s in of-component h before q.1 (checked-fixed r (each i) (refused f) u s ∙ q.1)
 
@@ -73,7 +73,7 @@ module _ (t : List ℕ) (each : ℕ → Checked) (last r : Checked)
     of-each : (i : ℕ) → i < n → says_checked (each i) ≡ some (unless (component_of m i) tt)
     of-each i h = on-model t (λ x. component_of x i) (each i) (own i h) e
 
-    passed : (i : ℕ) → i < n → component_of m i ≡ none → each i ≡ Fine
+    passed : (i : ℕ) → i < n → component_of m i ≡ none → each i ≡ (Ok tt)
     passed i h z = is-fine (each i) (of-each i h ∙ ap (λ o. some (unless o tt)) z)
 
     of-all : says_checked r ≡ some (unless (or_else (seek (component_of m) 0 n) (compatible_of m)) tt)

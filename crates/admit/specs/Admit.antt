@@ -1,24 +1,15 @@
 -- What the checks of a table answer (01, "Refusal numbers"): "Tables: 20; then 10 to 14 for each component in turn; then 15 to 17; then 18 where .. the confluence check is called".
 -- 02, 10/13: "The check for 10 to 17 is split: one call for a component's own conditions, another for the compatibility of several".
 use Rattle.std.specs.Prelude.{◌≡◌, List, ℕ}
-use Rattle.std.proofs.Math.Option.{Option, some}
-use Rattle.answer.specs.Told.{Told, says_checked}
-use Rattle.answer.specs.declared.Checked.{Checked}
-use Rattle.model.specs.Model.{Model}
+use Rattle.std.proofs.Math.Option.{none, some}
+use Rattle.answer.specs.Told.{says_checked}
+use Rattle.answer.specs.Told.{Checked}
 use Rattle.iosa.specs.Checks.{component_of, compatible_of, accept_of, confluent_of}
 use Rattle.table.specs.OnTable.{check_on}
-use Rattle.admit.specs.declared.Scope.{Scope}
-use Rattle.admit.specs.declared.Scope.TheVariants.{Component, Pairs, Whole}
 
--- what a check looks at, and what it finds there
-abbrev pub fault_in : Scope → Model → Option Told
-fault_in (Component i) m = component_of m i
-fault_in Pairs m = compatible_of m
-fault_in Whole m = accept_of m
-
--- 20, then that
-abbrev pub Answers : List ℕ → Scope → Checked → Type 0
-Answers t s r = says_checked r ≡ some (check_on t (fault_in s))
+-- 20, or nothing
+abbrev pub Recognised : List ℕ → Checked → Type 0
+Recognised t r = says_checked r ≡ some (check_on t (λ m. none))
 
 -- of the call `component`: "gives 25 if there is none, after 20", then 10 to 14 of component i
 abbrev pub ByItself : List ℕ → ℕ → Checked → Type 0

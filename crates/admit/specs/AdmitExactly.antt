@@ -1,7 +1,7 @@
 -- What `component`, `compatible`, `accept` and `confluent` answer, in the terms of document 000:
 -- 20 where the table holds no model, else the first fault of the model that it holds.
 use Rattle.std.specs.Prelude.{List, ℕ}
-use Rattle.answer.specs.declared.Checked.{Checked}
+use Rattle.answer.specs.Told.{Checked}
 use Rattle.iosa.specs.InOrder.{Leaves}
 use Rattle.answering.specs.Answers.{ComponentAnswer, CompatibleAnswer, AcceptAnswer, ConfluentAnswer}
 use Rattle.layout.specs.OnImage.{OnImage, Tells}

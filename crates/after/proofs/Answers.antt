@@ -1,6 +1,5 @@
 -- What the calls answer, branch by branch, is what they promise, and so is the trace.
 use mathlib.Core.Path.{◌≡◌, refl, sym, ◌∙◌, ap, subst}
-use mathlib.Core.Logic.{◌⊎◌, inl, inr}
 use mathlib.Core.Bool.{Bool, true, false}
 use mathlib.Core.Option.{Option, none, some}
 use mathlib.Core.List.{List, [], ◌∷◌}
@@ -8,12 +7,11 @@ use Prim.Native.Nat.{ℕ, ◌≤◌}
 use native.Mathlib.Omega.{arith}
 use lib.ListN.{length}
 use Rattle.laws.proofs.SearchLaws.{or_else_none}
-use Rattle.answer.specs.Limits.{no_state}
 use Rattle.answer.specs.Told.{Told, told, Answer, answered, refused, says_checked}
 use Rattle.answer.specs.State.{parts_of}
 use Rattle.answer.specs.declared.State.{State}
-use Rattle.answer.specs.declared.Checked.{Checked}
-use Rattle.answer.specs.declared.Checked.TheVariants.{Fine, Refused}
+use Rattle.answer.specs.Told.{Checked}
+use Rattle.std.specs.Prelude.{Result, Ok, Err}
 use Rattle.answer.specs.declared.Refusal.{Refusal}
 use Rattle.answer.specs.declared.Settled.{Settled}
 use Rattle.model.specs.Model.{Model}
@@ -37,14 +35,12 @@ use Rattle.moves.proofs.Ready.{count-model, count-few}
 use Rattle.parts.specs.Faults.{Says}
 use Rattle.parts.proofs.Saying.{fine-none}
 use Rattle.settling.specs.Gives.{SettlingGives, SettleGives, SettleAnswers, TraceHolds}
-use Rattle.run.specs.Refusals.{refused_settling}
 use Rattle.run.specs.Calls.{trace_after}
-use Rattle.run.proofs.Answers.{refuses-settling}
-use Rattle.after.specs.declared.Arrival.{Arrival}
+use Rattle.walking.specs.Walks.{Walks}
 use Rattle.after.specs.After.{walk_of, after_path, settle_fault, settle_from, settle_after_of, list_from, settle_list_after_of}
-use Rattle.after.specs.Calls.{first_of, walked_on, LeadsTo, AfterGives, AfterAnswers}
+use Rattle.after.specs.Calls.{walked_on, AfterGives, AfterAnswers}
 use Rattle.after.specs.Calls.{settle_after_on, SettleAfterCall, settle_list_after_on, SettleListAfterCall}
-use Rattle.after.proofs.Order.{first_fine, first-refused, refused-fault}
+use Rattle.after.proofs.Order.{refused-fault}
 use Rattle.after.proofs.Leading.{Arrived, arrived, led-nowhere}
 
 -- a call on a table is what follows the path on that table
@@ -66,39 +62,38 @@ played-within : (m : Model) → WellFormed m → Conforming m → Joinable m →
 played-within [] well good fit s w l d e = absurd (omega (arith, well.some))
 played-within (c ∷ cs) well good fit s w l d e = ((list-that-is-a-series c cs well good fit s w l d).0 e).range
 
-module _ (t p : List ℕ) (x : State) (at : Arrived t p x) (r : Settled) where
-  gives_after : (d : Settling (List ℕ)) → Within (model_of t) d.state → SettlingGives d x r → AfterGives d r
-  gives_after d w g =
+module _ (t p : List ℕ) (x : State) (at : Arrived t p x) where
+  gives_after : (d : Settling (List ℕ)) → Within (model_of t) d.state → (r : Settled) → SettlingGives d x r → AfterGives d r
+  gives_after d w r g =
       let st = at.ready.standing in
       let long : length d.state ≡ x.count = within-length (model_of t) d.state w ∙ sym (count-model t x st) in
       record { verdict = g.verdict; steps = g.steps; resets = g.resets; state = g.state ∙ with-zeros x d.state at.zeros long (count-few t x st) }
 
   answers-after : (v : Answer (Settling (List ℕ))) → ((d : Settling (List ℕ)) → v ≡ answered d → Within (model_of t) d.state)
-      → SettleAnswers v x r → AfterAnswers v r
-  answers-after (answered d) w g = gives_after d (w d refl) g
-  answers-after (refused f) w g = g
+      → (r : Result Settled Refusal) → SettleAnswers v x r → AfterAnswers v r
+  answers-after (answered d) w (Ok r) g = gives_after d (w d refl) r g
+  answers-after (answered d) w (Err q) g = absurd g
+  answers-after (refused f) w r g = g
 
 -- ---- a call whose own checks are behind those of the path
-module _ (t p : List ℕ) (to : Arrival) (leads : LeadsTo (walked_on t p) to) (own : Checked) (o : Option Told) (says : Says own o)
-    (f : List ℕ → Answer (Settling (List ℕ))) (first : (s : List ℕ) (e : Told) → o ≡ some e → f s ≡ refused e) where
+module _ (t p : List ℕ) (to : Result State Refusal) (leads : Walks (walked_on t p) to) (f : List ℕ → Answer (Settling (List ℕ))) where
   pub record Refuses (q : Refusal) : Type 0 where
     pub fault : Told
     pub tells : told q ≡ some fault
     pub answer : after_path f (walked_on t p) ≡ refused fault
 
-  refuses-by : (q : Refusal) → first_of to.checked own ≡ Refused q → Refuses q
-  refuses-by q e = go (first-refused to.checked own q e)
-    where
-      go : (to.checked ≡ Refused q) ⊎ ((to.checked ≡ Fine) × (own ≡ Refused q)) → Refuses q
-      go (inl x) = let y = led-nowhere t p to leads q x in record { fault = y.0; tells = y.1; answer = ap (after_path f) y.2 }
-      go (inr x) =
-          let at = arrived t p to leads x.0 in
-          let z = refused-fault q o (ap says_checked (sym x.1) ∙ says) in
-          record { fault = z.0; tells = z.1; answer = ap (after_path f) at.walked ∙ first at.there z.0 z.2 }
+  nowhere : (q : Refusal) → to ≡ Err q → Refuses q
+  nowhere q e = let y = led-nowhere t p to leads q e in record { fault = y.0; tells = y.1; answer = ap (after_path f) y.2 }
+
+  not-there : (x : State) → to ≡ Ok x → (own : Checked) (o : Option Told) → Says own o → ((s : List ℕ) (e : Told) → o ≡ some e → f s ≡ refused e)
+      → (q : Refusal) → own ≡ Err q → Refuses q
+  not-there x fine own o says first q e =
+      let at = arrived t p to leads x fine in
+      let z = refused-fault q o (ap says_checked (sym e) ∙ says) in
+      record { fault = z.0; tells = z.1; answer = ap (after_path f) at.walked ∙ first at.there z.0 z.2 }
 
 -- ---- by our rule
-module _ (t p : List ℕ) (budget : ℕ) (old : List ℕ) (to : Arrival) (leads : LeadsTo (walked_on t p) to) (own : Checked)
-    (says : Says own (settle_fault budget (length old))) where
+module _ (t p : List ℕ) (budget : ℕ) (old : List ℕ) (to : Result State Refusal) (leads : Walks (walked_on t p) to) where
   abbrev from : List ℕ → Answer (Settling (List ℕ))
   from s = settle_from (model_of t) budget (length old) s
 
@@ -110,47 +105,53 @@ module _ (t p : List ℕ) (budget : ℕ) (old : List ℕ) (to : Arrival) (leads 
   unfolding settle_after_of
   on-path = after_on t p (λ m. settle_from m budget (length old))
 
-  pub settle-refuses : (q : Refusal) → first_of to.checked own ≡ Refused q → (r : Settled) → r ≡ refused_settling q → SettleAfterCall t p budget old old r
-  settle-refuses q e r k =
-      let w = refuses-by t p to leads own (settle_fault budget (length old)) says from own_first q e in
+  refused-with : (q : Refusal) → Refuses t p to leads from q → SettleAfterCall t p budget old old (Err q)
+  refused-with q w =
       let v = on-path ∙ w.answer in
       record {
-        answer = subst (λ (u : Answer (Settling (List ℕ))). AfterAnswers u r) (sym v) (rw k (refuses-settling q w.fault no_state w.tells));
+        answer = subst (λ (u : Answer (Settling (List ℕ))). AfterAnswers u (Err q)) (sym v) w.tells;
         trace = sym (ap (λ u. trace_after u old) v);
       }
 
-  module _ (e : first_of to.checked own ≡ Fine) where
-    pub settle-there : Arrived t p to.state
-    settle-there = arrived t p to leads (first_fine to.checked own e).0
+  pub settle-nowhere : (q : Refusal) → to ≡ Err q → SettleAfterCall t p budget old old (Err q)
+  settle-nowhere q e = refused-with q (nowhere t p to leads from q e)
 
-    no-fault : settle_fault budget (length old) ≡ none
-    no-fault = fine-none (settle_fault budget (length old)) (ap says_checked (sym (first_fine to.checked own e).1) ∙ says)
+  module _ (x : State) (fine : to ≡ Ok x) (own : Checked) (says : Says own (settle_fault budget (length old))) where
+    pub settle-refuses : (q : Refusal) → own ≡ Err q → SettleAfterCall t p budget old old (Err q)
+    settle-refuses q e = refused-with q (not-there t p to leads from x fine own (settle_fault budget (length old)) says own_first q e)
 
-    pub settle-room : budget ≤ length old
-    settle-room = (trace-faultless budget (length old)).0 (or_else_none (budget_fault budget) (trace_fault budget (length old)) no-fault).1
+    pub settle-there : Arrived t p x
+    settle-there = arrived t p to leads x fine
 
-    goes : settle_after_on t p budget old ≡ answered (settle (urgent_step (model_of t)) budget (parts_of to.state))
-    unfolding settle_from
-    goes =
-        let at = settle-there in
-        on-path ∙ ap (after_path from) at.walked ∙ ap (λ o. unless o (settle (urgent_step (model_of t)) budget at.there)) no-fault
-        ∙ ap (λ s. answered (settle (urgent_step (model_of t)) budget s)) (sym at.parts)
+    module _ (e : own ≡ (Ok tt)) where
+      no-fault : settle_fault budget (length old) ≡ none
+      no-fault = fine-none (settle_fault budget (length old)) (ap says_checked (sym e) ∙ says)
 
-    pub settle-done : (r : Settled) (new : List ℕ) → SettleGives (model_of t) budget to.state r → TraceHolds (model_of t) budget to.state old new
-        → SettleAfterCall t p budget old new r
-    settle-done r new g tr =
-        let at = settle-there in
-        let k = at.ready in
-        let d = settle (urgent_step (model_of t)) budget (parts_of to.state) in
-        let well = well-formed t k.standing.image in
-        let w = settled-within (model_of t) well k.conforming k.joinable (parts_of to.state) k.standing.within budget in
-        record {
-          answer = subst (λ (u : Answer (Settling (List ℕ))). AfterAnswers u r) (sym goes) (gives_after t p to.state at r d w g);
-          trace = tr ∙ sym (ap (λ u. trace_after u old) goes);
-        }
+      pub settle-room : budget ≤ length old
+      settle-room = (trace-faultless budget (length old)).0 (or_else_none (budget_fault budget) (trace_fault budget (length old)) no-fault).1
+
+      goes : settle_after_on t p budget old ≡ answered (settle (urgent_step (model_of t)) budget (parts_of x))
+      unfolding settle_from
+      goes =
+          let at = settle-there in
+          on-path ∙ ap (after_path from) at.walked ∙ ap (λ o. unless o (settle (urgent_step (model_of t)) budget at.there)) no-fault
+          ∙ ap (λ s. answered (settle (urgent_step (model_of t)) budget s)) (sym at.parts)
+
+      pub settle-done : (r : Settled) (new : List ℕ) → SettleGives (model_of t) budget x r → TraceHolds (model_of t) budget x old new
+          → SettleAfterCall t p budget old new (Ok r)
+      settle-done r new g tr =
+          let at = settle-there in
+          let k = at.ready in
+          let d = settle (urgent_step (model_of t)) budget (parts_of x) in
+          let well = well-formed t k.standing.image in
+          let w = settled-within (model_of t) well k.conforming k.joinable (parts_of x) k.standing.within budget in
+          record {
+            answer = subst (λ (u : Answer (Settling (List ℕ))). AfterAnswers u (Ok r)) (sym goes) (gives_after t p x at d w r g);
+            trace = tr ∙ sym (ap (λ u. trace_after u old) goes);
+          }
 
 -- ---- by a list
-module _ (t p l : List ℕ) (to : Arrival) (leads : LeadsTo (walked_on t p) to) (own : Checked) (says : Says own (budget_fault (length l))) where
+module _ (t p l : List ℕ) (to : Result State Refusal) (leads : Walks (walked_on t p) to) where
   abbrev list-from : List ℕ → Answer (Settling (List ℕ))
   list-from s = list_from (model_of t) l s
 
@@ -165,30 +166,33 @@ module _ (t p l : List ℕ) (to : Arrival) (leads : LeadsTo (walked_on t p) to) 
   unfolding settle_list_after_of
   list-on-path = after_on t p (λ m. list_from m l)
 
-  pub list-refuses : (q : Refusal) → first_of to.checked own ≡ Refused q → (r : Settled) → r ≡ refused_settling q → SettleListAfterCall t p l r
-  list-refuses q e r k =
-      let w = refuses-by t p to leads own (budget_fault (length l)) says list-from list-first q e in
-      record {
-        answer = subst (λ (u : Answer (Settling (List ℕ))). AfterAnswers u r) (sym (list-on-path ∙ w.answer))
-            (rw k (refuses-settling q w.fault no_state w.tells));
-      }
+  list-refused-with : (q : Refusal) → Refuses t p to leads list-from q → SettleListAfterCall t p l (Err q)
+  list-refused-with q w =
+      record { answer = subst (λ (u : Answer (Settling (List ℕ))). AfterAnswers u (Err q)) (sym (list-on-path ∙ w.answer)) w.tells }
 
-  module _ (e : first_of to.checked own ≡ Fine) where
-    pub list-there : Arrived t p to.state
-    list-there = arrived t p to leads (first_fine to.checked own e).0
+  pub list-nowhere : (q : Refusal) → to ≡ Err q → SettleListAfterCall t p l (Err q)
+  list-nowhere q e = list-refused-with q (nowhere t p to leads list-from q e)
 
-    list-goes : settle_list_after_on t p l ≡ play (model_of t) 0 l (parts_of to.state)
-    unfolding list_from
-    list-goes =
-        let at = list-there in
-        let none = fine-none (budget_fault (length l)) (ap says_checked (sym (first_fine to.checked own e).1) ∙ says) in
-        list-on-path ∙ ap (after_path list-from) at.walked ∙ ap (pick at.there) none ∙ ap (play (model_of t) 0 l) (sym at.parts)
+  module _ (x : State) (fine : to ≡ Ok x) (own : Checked) (says : Says own (budget_fault (length l))) where
+    pub list-refuses : (q : Refusal) → own ≡ Err q → SettleListAfterCall t p l (Err q)
+    list-refuses q e = list-refused-with q (not-there t p to leads list-from x fine own (budget_fault (length l)) says list-first q e)
 
-    pub list_done : (r : Settled) → SettleAnswers (play (model_of t) 0 l (parts_of to.state)) to.state r → SettleListAfterCall t p l r
-    list_done r g =
-        let at = list-there in
-        let k = at.ready in
-        let v = play (model_of t) 0 l (parts_of to.state) in
-        let w : (d : Settling (List ℕ)) → v ≡ answered d → Within (model_of t) d.state =
-        played-within (model_of t) (well-formed t k.standing.image) k.conforming k.joinable (parts_of to.state) k.standing.within l in
-        record { answer = subst (λ (u : Answer (Settling (List ℕ))). AfterAnswers u r) (sym list-goes) (answers-after t p to.state at r v w g) }
+    pub list-there : Arrived t p x
+    list-there = arrived t p to leads x fine
+
+    module _ (e : own ≡ (Ok tt)) where
+      list-goes : settle_list_after_on t p l ≡ play (model_of t) 0 l (parts_of x)
+      unfolding list_from
+      list-goes =
+          let at = list-there in
+          let none = fine-none (budget_fault (length l)) (ap says_checked (sym e) ∙ says) in
+          list-on-path ∙ ap (after_path list-from) at.walked ∙ ap (pick at.there) none ∙ ap (play (model_of t) 0 l) (sym at.parts)
+
+      pub list_done : (r : Result Settled Refusal) → SettleAnswers (play (model_of t) 0 l (parts_of x)) x r → SettleListAfterCall t p l r
+      list_done r g =
+          let at = list-there in
+          let k = at.ready in
+          let v = play (model_of t) 0 l (parts_of x) in
+          let w : (d : Settling (List ℕ)) → v ≡ answered d → Within (model_of t) d.state =
+          played-within (model_of t) (well-formed t k.standing.image) k.conforming k.joinable (parts_of x) k.standing.within l in
+          record { answer = subst (λ (u : Answer (Settling (List ℕ))). AfterAnswers u r) (sym list-goes) (answers-after t p x at v w r g) }

@@ -1,28 +1,25 @@
 -- Where a path leads on a table: the checks in their order, then the walk; and what stands ready where it led.
 use mathlib.Core.Path.{◌≡◌, refl, sym, ◌∙◌, ap, ap₂, subst}
-use mathlib.Core.Logic.{◌⊎◌, inl, inr}
 use mathlib.Core.Bool.{Bool, true, false}
-use mathlib.Core.Option.{Option, none, some, some_inj}
+use mathlib.Core.Option.{Option, none, some}
 use mathlib.Core.List.{List, [], ◌∷◌}
 use Prim.Native.Nat.{ℕ}
 use native.Mathlib.Omega.{arith}
 use Rattle.laws.specs.Search.{or_else}
-use Rattle.laws.proofs.SearchLaws.{no-some, or_else_none}
-use Rattle.answer.specs.Limits.{no_state}
-use Rattle.answer.specs.Told.{Told, told, Answer, answered, refused, as_refused, says_checked}
+use Rattle.laws.proofs.SearchLaws.{or_else_none}
+use Rattle.answer.specs.Told.{Told, told, Answer, answered, refused, says_checked}
 use Rattle.answer.specs.State.{parts_of}
 use Rattle.answer.specs.declared.State.{State}
-use Rattle.answer.specs.declared.Checked.{Checked}
-use Rattle.answer.specs.declared.Checked.TheVariants.{Fine, Refused}
+use Rattle.answer.specs.Told.{Checked}
+use Rattle.std.specs.Prelude.{Result, Ok, Err}
 use Rattle.answer.specs.declared.Refusal.{Refusal}
-use Rattle.answer.proofs.SaysFixes.{tells}
 use Rattle.model.specs.Model.{Model}
 use Rattle.model.specs.WellFormed.{WellFormed}
 use Rattle.iosa.specs.Automaton.{Conforming, Joinable}
 use Rattle.iosa.specs.Product.{Within}
 use Rattle.iosa.specs.Checks.{accept_of}
 use Rattle.iosa.specs.Start.{start_all}
-use Rattle.iosa.proofs.Settling.Called.{no_answer, same-refusal, answers-exactly}
+use Rattle.iosa.proofs.Settling.Called.{no_answer, answers-exactly}
 use Rattle.iosa.proofs.Settling.Parts.{within-length}
 use Rattle.layout.specs.Image.{Image, model_of}
 use Rattle.layout.proofs.RowsOfRange.{well-formed}
@@ -41,13 +38,10 @@ use Rattle.orderly.specs.Calls.{MayWalk}
 use Rattle.orderly.proofs.Exactly.{walk_fine}
 use Rattle.paths.specs.Path.{walk, long_path}
 use Rattle.paths.proofs.Walked.{walked-exactly}
-use Rattle.walking.specs.declared.Way.TheVariants.{Through, Stops}
-use Rattle.walking.specs.declared.Walked.{Walked}
-use Rattle.walking.specs.Walks.{stop_of, Walks}
-use Rattle.after.specs.declared.Arrival.{Arrival}
+use Rattle.walking.specs.Walks.{Walks}
 use Rattle.after.specs.After.{path_fault, walk_of}
-use Rattle.after.specs.Calls.{first_of, not_possible_at, walked_on, LeadsTo}
-use Rattle.after.proofs.Order.{first_fine, first-refused, refused-fault}
+use Rattle.after.specs.Calls.{walked_on}
+use Rattle.after.proofs.Order.{refused-fault}
 
 -- ---- of a model, refusal by refusal
 module _ (m : Model) (p : List ℕ) where
@@ -72,48 +66,34 @@ module _ (m : Model) (p : List ℕ) where
       let a = (answers-exactly (or_else (entry_of m) (long_path p)) (walk m 0 p (start_all m)) s).0 e in
       ((or_else_none (entry_of m) (long_path p) a.0).0, a.1)
 
--- ---- the walk's own answer
-pub walked_through : (v : Answer (List ℕ)) (w : Walked) → Walks v w → w.way ≡ Through → LeadsTo v (record { checked = Fine; state = w.state })
-walked_through (answered s) w h e = (refl, h.1)
-walked_through (refused f) w h e = absurd (no-some (ap stop_of e) h.0)
-
-pub walked-stops : (v : Answer (List ℕ)) (w : Walked) (i : ℕ) → Walks v w → w.way ≡ Stops i → (q : Refusal) → q ≡ not_possible_at i
-    → LeadsTo v (record { checked = Refused q; state = w.state })
-unfolding says_checked told
-walked-stops (answered s) w i h e q k = absurd (no-some (ap stop_of h.0) (ap stop_of e))
-walked-stops (refused f) w i h e q k =
-    (ap (λ x. says_checked (Refused x)) k ∙ ap (λ x. some (refused x)) (some_inj.0 (sym (ap stop_of e) ∙ h.0)), h.1)
-
 -- ---- the checks, then the walk
-leads-nowhere : (v : Answer (List ℕ)) (q : Refusal) (f : Told) → told q ≡ some f → v ≡ refused f → LeadsTo v (record { checked = Refused q; state = no_state })
-unfolding says_checked
-leads-nowhere v q f t e = subst (λ (u : Answer (List ℕ)). LeadsTo u (record { checked = Refused q; state = no_state })) (sym e) (ap as_refused t, refl)
+leads-nowhere : (v : Answer (List ℕ)) (q : Refusal) (f : Told) → told q ≡ some f → v ≡ refused f → Walks v (Err q)
+leads-nowhere v q f t e = subst (λ (u : Answer (List ℕ)). Walks u (Err q)) (sym e) t
 
-module _ (t p : List ℕ) (a b : Checked) (may : MayWalk t a) (short : Says b (long_path p)) where
+module _ (t p : List ℕ) (a : Checked) (may : MayWalk t a) where
   abbrev call : Model → Answer (List ℕ)
   call m = walk_of m p
 
-  pub lead-refused : (q : Refusal) → first_of a b ≡ Refused q → (x : State) → x ≡ no_state → LeadsTo (walked_on t p) (record { checked = Refused q; state = x })
-  lead-refused q e x k = subst (λ (y : State). LeadsTo (walked_on t p) (record { checked = Refused q; state = y })) (sym k) (go (first-refused a b q e))
-    where
-      go : (a ≡ Refused q) ⊎ ((a ≡ Fine) × (b ≡ Refused q)) → LeadsTo (walked_on t p) (record { checked = Refused q; state = no_state })
-      go (inl x) =
-          let y = refused-tells t entry_of q (ap says_checked (sym x) ∙ may) in
-          leads-nowhere (walked_on t p) q y.0 y.1 (call-refuses t entry_of call (λ m f e. walk_first m p f e) y.0 y.2)
-      go (inr x) =
-          let ok = fine-passes t entry_of (ap says_checked (sym x.0) ∙ may) in
-          let z = refused-fault q (long_path p) (ap says_checked (sym x.1) ∙ short) in
-          leads-nowhere (walked_on t p) q z.0 z.1 (on-image t call ok.0 ∙ walk-long (model_of t) p z.0 ok.1 z.2)
+  pub lead-unfit : (q : Refusal) → a ≡ Err q → Walks (walked_on t p) (Err q)
+  lead-unfit q e =
+      let y = refused-tells t entry_of q (ap says_checked (sym e) ∙ may) in
+      leads-nowhere (walked_on t p) q y.0 y.1 (call-refuses t entry_of call (λ m f e. walk_first m p f e) y.0 y.2)
 
-  pub lead-begins : first_of a b ≡ Fine → Image t × (accept_of (model_of t) ≡ none)
-  lead-begins e = let k = walk_fine t (ap says_checked (sym (first_fine a b e).0) ∙ may) in (k.image, k.accepted)
+  module _ (fine : a ≡ (Ok tt)) (b : Checked) (short : Says b (long_path p)) where
+    pub lead-long : (q : Refusal) → b ≡ Err q → Walks (walked_on t p) (Err q)
+    lead-long q e =
+        let ok = fine-passes t entry_of (ap says_checked (sym fine) ∙ may) in
+        let z = refused-fault q (long_path p) (ap says_checked (sym e) ∙ short) in
+        leads-nowhere (walked_on t p) q z.0 z.1 (on-image t call ok.0 ∙ walk-long (model_of t) p z.0 ok.1 z.2)
 
-  pub lead-goes : first_of a b ≡ Fine → (r : Arrival) → LeadsTo (walk (model_of t) 0 p (start_all (model_of t))) r → LeadsTo (walked_on t p) r
-  lead-goes e r h =
-      let x = first_fine a b e in
-      let ok = fine-passes t entry_of (ap says_checked (sym x.0) ∙ may) in
-      let few = fine-none (long_path p) (ap says_checked (sym x.1) ∙ short) in
-      subst (λ (v : Answer (List ℕ)). LeadsTo v r) (sym (on-image t call ok.0 ∙ walk-goes (model_of t) p ok.1 few)) h
+    pub lead-goes : b ≡ (Ok tt) → (r : Result State Refusal) → Walks (walk (model_of t) 0 p (start_all (model_of t))) r → Walks (walked_on t p) r
+    lead-goes e r h =
+        let ok = fine-passes t entry_of (ap says_checked (sym fine) ∙ may) in
+        let few = fine-none (long_path p) (ap says_checked (sym e) ∙ short) in
+        subst (λ (v : Answer (List ℕ)). Walks v r) (sym (on-image t call ok.0 ∙ walk-goes (model_of t) p ok.1 few)) h
+
+  pub lead-begins : a ≡ (Ok tt) → Image t × (accept_of (model_of t) ≡ none)
+  lead-begins e = let k = walk_fine t (ap says_checked (sym e) ∙ may) in (k.image, k.accepted)
 
 -- ---- where it led
 walk-within : (m : Model) → WellFormed m → Conforming m → Joinable m → (p s : List ℕ) → walk m 0 p (start_all m) ≡ answered s → Within m s
@@ -127,12 +107,11 @@ pub record Arrived (t p : List ℕ) (x : State) : Type 0 where
   pub parts : parts_of x ≡ there
   pub zeros : x ≡ state_of (parts_of x)
 
-module _ (t p : List ℕ) (r : Arrival) (leads : LeadsTo (walked_on t p) r) where
-  pub arrived : r.checked ≡ Fine → Arrived t p r.state
-  unfolding says_checked
-  arrived fine = go (walked_on t p) refl leads
+module _ (t p : List ℕ) (r : Result State Refusal) (leads : Walks (walked_on t p) r) where
+  pub arrived : (x : State) → r ≡ Ok x → Arrived t p x
+  arrived x fine = go (walked_on t p) refl (subst (Walks (walked_on t p)) fine leads)
     where
-      here : (s : List ℕ) → walked_on t p ≡ answered s → r.state ≡ state_of s → (b : Bool) → is_image t ≡ b → Arrived t p r.state
+      here : (s : List ℕ) → walked_on t p ≡ answered s → x ≡ state_of s → (b : Bool) → is_image t ≡ b → Arrived t p x
       here s e q false h = absurd (no_answer (sym (on-no-image t (λ m. walk_of m p) h) ∙ e))
       here s e q true h =
           let m = model_of t in
@@ -141,7 +120,7 @@ module _ (t p : List ℕ) (r : Arrival) (leads : LeadsTo (walked_on t p) r) wher
           let a = walk-answered m p s (sym (on-image t (λ m. walk_of m p) h) ∙ e) in
           let k = (entry-exactly m well).0 a.0 in
           let w = walk-within m well k.conforms k.joins p s a.1 in
-          let parts : parts_of r.state ≡ s = ap parts_of q ∙ state-numbers s (omega (arith, within-length m s w, well.components)) in
+          let parts : parts_of x ≡ s = ap parts_of q ∙ state-numbers s (omega (arith, within-length m s w, well.components)) in
           record {
             there = s;
             walked = e;
@@ -150,21 +129,19 @@ module _ (t p : List ℕ) (r : Arrival) (leads : LeadsTo (walked_on t p) r) wher
             zeros = q ∙ ap state_of (sym parts);
           }
 
-      go : (v : Answer (List ℕ)) → walked_on t p ≡ v → LeadsTo v r → Arrived t p r.state
-      go (answered s) e h = here s e h.1 (is_image t) refl
-      go (refused f) e h =
-          let x : ◌≡◌ {A = Option (Answer (Unit {0}))} (some (answered tt)) (some (refused f)) = ap says_checked (sym fine) ∙ h.0 in
-          absurd (no_answer (sym (some_inj.0 x)))
+      same : (s : List ℕ) → ◌≡◌ {A = Result State Refusal} (Ok x) (Ok (state_of s)) → x ≡ state_of s
+      same s e = cc
 
-  pub led-nowhere : (q : Refusal) → r.checked ≡ Refused q → (f : Told) × (told q ≡ some f) × (walked_on t p ≡ refused f)
-  unfolding says_checked
-  led-nowhere q e = go (walked_on t p) refl leads
+      go : (v : Answer (List ℕ)) → walked_on t p ≡ v → Walks v (Ok x) → Arrived t p x
+      go (answered s) e h = here s e (same s h) (is_image t) refl
+      go (refused f) e h = absurd h
+
+  pub led-nowhere : (q : Refusal) → r ≡ Err q → (f : Told) × (told q ≡ some f) × (walked_on t p ≡ refused f)
+  led-nowhere q e = go (walked_on t p) refl (subst (Walks (walked_on t p)) e leads)
     where
-      go : (v : Answer (List ℕ)) → walked_on t p ≡ v → LeadsTo v r → (f : Told) × (told q ≡ some f) × (walked_on t p ≡ refused f)
-      go (answered s) w h = let z : ◌≡◌ {A = ℕ} 0 1 = never (sym e ∙ h.0) in absurd (omega arith)
-        where
-          never : Refused q ≡ Fine → ◌≡◌ {A = ℕ} 0 1
-          never x = cc
-      go (refused f) w h =
-          let x = tells q (refused f) (ap says_checked (sym e) ∙ h.0) in
-          (x.0, x.1, w ∙ ap refused (same-refusal x.2))
+      never : (s : List ℕ) → ◌≡◌ {A = Result State Refusal} (Err q) (Ok (state_of s)) → ◌≡◌ {A = ℕ} 0 1
+      never s x = cc
+
+      go : (v : Answer (List ℕ)) → walked_on t p ≡ v → Walks v (Err q) → (f : Told) × (told q ≡ some f) × (walked_on t p ≡ refused f)
+      go (answered s) w h = let z : ◌≡◌ {A = ℕ} 0 1 = never s h in absurd (omega arith)
+      go (refused f) w h = (f, h, w)

@@ -1,41 +1,23 @@
--- Two checks in order: what the first that refuses says of both.
-use mathlib.Core.Path.{◌≡◌, refl, sym, ◌∙◌, ap}
-use mathlib.Core.Logic.{◌⊎◌, inl, inr}
+-- The checks one by one and in order: what the first that refuses says of both.
+use mathlib.Core.Path.{◌≡◌, sym, ap}
 use mathlib.Core.Option.{Option, none, some}
 use mathlib.Core.List.{List, [], ◌∷◌}
 use Prim.Native.Nat.{ℕ, ◌*◌, ◌≤◌, ◌<◌}
 use lib.ListN.{length}
 use borrow.Author.Tests.{lt-ltb, le-ltb}
-use Rattle.laws.specs.Search.{when, or_else}
+use Rattle.laws.specs.Search.{when}
 use Rattle.answer.specs.Limits.{max_budget}
 use Rattle.answer.specs.Told.{Told, tell, told, Answer, refused, says_checked}
-use Rattle.answer.specs.declared.Checked.{Checked}
-use Rattle.answer.specs.declared.Checked.TheVariants.{Fine, Refused}
+use Rattle.std.specs.Prelude.{Ok, Err}
 use Rattle.answer.specs.declared.Refusal.{Refusal}
 use Rattle.answer.proofs.SaysFixes.{tells}
 use Rattle.iosa.specs.Step.{unless}
 use Rattle.iosa.specs.Settle.{budget_fault, trace_fault}
 use Rattle.iosa.proofs.Settling.Called.{no_answer, same-refusal, budget-faultless, trace-faultless}
 use Rattle.parts.specs.Faults.{Says}
-use Rattle.parts.proofs.Saying.{says-fine, says-refused, refused-first, fine-next, not-fine}
+use Rattle.parts.proofs.Saying.{says-fine, says-refused}
 use Rattle.paths.specs.Path.{long_path}
 use Rattle.run.specs.Refusals.{whole_at, bytes_at}
-use Rattle.after.specs.Calls.{first_of}
-
-pub first_fine : (a b : Checked) → first_of a b ≡ Fine → (a ≡ Fine) × (b ≡ Fine)
-first_fine Fine b e = (refl, e)
-first_fine (Refused q) b e = absurd (not-fine (Refused q) q refl e)
-
-pub first-refused : (a b : Checked) (q : Refusal) → first_of a b ≡ Refused q → (a ≡ Refused q) ⊎ ((a ≡ Fine) × (b ≡ Refused q))
-first-refused Fine b q e = inr (refl, e)
-first-refused (Refused p) b q e = inl e
-
-pub first_says : (k a b : Checked) → k ≡ first_of a b → (o p : Option Told) → Says a o → Says b p → Says k (or_else o p)
-first_says k a b e o p f g = ap says_checked e ∙ go a f
-  where
-    go : (a : Checked) → Says a o → Says (first_of a b) (or_else o p)
-    go Fine f = fine-next Fine b o p f refl g
-    go (Refused q) f = refused-first (Refused q) o p f (λ z. not-fine (Refused q) q refl z)
 
 -- ---- the checks one by one
 module _ (n : ℕ) where
@@ -43,30 +25,30 @@ module _ (n : ℕ) where
   unfolding told
   tells-22 q k = ap told k
 
-  pub steps-over : max_budget < n → (q : Refusal) → q ≡ whole_at 22 → Says (Refused q) (budget_fault n)
+  pub steps-over : max_budget < n → (q : Refusal) → q ≡ whole_at 22 → Says (Err q) (budget_fault n)
   unfolding budget_fault
   steps-over h q k = says-refused q (tell 22 (0 ∷ [])) (budget_fault n) (tells-22 q k) (ap (λ b. when b (tell 22 (0 ∷ []))) (lt-ltb max_budget n h))
 
-  pub steps-fit : n ≤ max_budget → Says Fine (budget_fault n)
+  pub steps-fit : n ≤ max_budget → Says (Ok tt) (budget_fault n)
   steps-fit h = says-fine (budget_fault n) ((budget-faultless n).1 h)
 
-  pub room-short : (room : ℕ) → room < n → (q : Refusal) → q ≡ bytes_at n → Says (Refused q) (trace_fault n room)
+  pub room-short : (room : ℕ) → room < n → (q : Refusal) → q ≡ bytes_at n → Says (Err q) (trace_fault n room)
   unfolding trace_fault told
   room-short room h q k = says-refused q (tell 24 (n ∷ [])) (trace_fault n room) (ap told k) (ap (λ b. when b (tell 24 (n ∷ []))) (lt-ltb room n h))
 
-  pub room_fits : (room : ℕ) → n ≤ room → Says Fine (trace_fault n room)
+  pub room_fits : (room : ℕ) → n ≤ room → Says (Ok tt) (trace_fault n room)
   room_fits room h = says-fine (trace_fault n room) ((trace-faultless n room).1 h)
 
-pub path-over : (p : List ℕ) → 2 * max_budget < length p → (q : Refusal) → q ≡ whole_at 22 → Says (Refused q) (long_path p)
+pub path-over : (p : List ℕ) → 2 * max_budget < length p → (q : Refusal) → q ≡ whole_at 22 → Says (Err q) (long_path p)
 unfolding long_path
 path-over p h q k = says-refused q (tell 22 (0 ∷ [])) (long_path p) (tells-22 0 q k) (ap (λ b. when b (tell 22 (0 ∷ []))) (lt-ltb (2 * max_budget) (length p) h))
 
-pub path-fits : (p : List ℕ) → length p ≤ 2 * max_budget → Says Fine (long_path p)
+pub path-fits : (p : List ℕ) → length p ≤ 2 * max_budget → Says (Ok tt) (long_path p)
 unfolding long_path
 path-fits p h = says-fine (long_path p) (ap (λ b. when b (tell 22 (0 ∷ []))) (le-ltb (2 * max_budget) (length p) h))
 
 -- what a check that refused tells
-pub refused-fault : (q : Refusal) (o : Option Told) → Says (Refused q) o → (f : Told) × (told q ≡ some f) × (o ≡ some f)
+pub refused-fault : (q : Refusal) (o : Option Told) → Says (Err q) o → (f : Told) × (told q ≡ some f) × (o ≡ some f)
 unfolding says_checked
 refused-fault q o e = let x = tells q (unless o tt) e in (x.0, x.1, stands o x.0 x.2)
   where

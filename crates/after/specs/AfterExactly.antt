@@ -1,7 +1,8 @@
 -- What `settle_after` and `settle_list_after` answer, said of the product of the model that the table holds: every refusal with its reason, in order.
-use Rattle.std.specs.Prelude.{◌≡◌, List, [], ◌∷◌, ℕ, ◌*◌, ◌≤◌, length}
+use Rattle.std.specs.Prelude.{◌≡◌, List, [], ◌∷◌, ℕ, ◌*◌, ◌≤◌, length, Result}
 use Rattle.answer.specs.Limits.{max_budget}
 use Rattle.answer.specs.Told.{tell, Answer, refused}
+use Rattle.answer.specs.declared.Refusal.{Refusal}
 use Rattle.answer.specs.declared.Settled.{Settled}
 use Rattle.model.specs.Model.{Comp}
 use Rattle.iosa.specs.Product.{product, state_of, Within}
@@ -32,12 +33,12 @@ abbrev pub SettleListAfterAnswer : Comp → List Comp → List ℕ → List ℕ 
 SettleListAfterAnswer c cs p l = WalkAnswer c cs p (λ s. needs 22 (length l ≤ max_budget) ▹ ListAnswer c cs s l)
 
 -- the answer, and the actions at the front of the trace
-pub record AfterLeaves (old new : List ℕ) (r : Settled) (a : Answer (Settling (List ℕ))) : Type 0 where
+pub record AfterLeaves (old new : List ℕ) (r : Result Settled Refusal) (a : Answer (Settling (List ℕ))) : Type 0 where
   pub answer : AfterAnswers a r
   pub trace : new ≡ trace_after a old
 
-abbrev pub SettleAfterExactly : List ℕ → List ℕ → ℕ → List ℕ → List ℕ → Settled → Type 0
+abbrev pub SettleAfterExactly : List ℕ → List ℕ → ℕ → List ℕ → List ℕ → Result Settled Refusal → Type 0
 SettleAfterExactly t p budget old new r = Leaves (OnImage t (λ c cs. SettleAfterAnswer c cs p budget (length old))) (AfterLeaves old new r)
 
-abbrev pub SettleListAfterExactly : List ℕ → List ℕ → List ℕ → Settled → Type 0
+abbrev pub SettleListAfterExactly : List ℕ → List ℕ → List ℕ → Result Settled Refusal → Type 0
 SettleListAfterExactly t p l r = Leaves (OnImage t (λ c cs. SettleListAfterAnswer c cs p l)) (λ a. AfterAnswers a r)

@@ -1,21 +1,15 @@
 -- What a refusal tells: its number and the values of its place, as paper 01 prints them ("Refusal numbers").
 use Rattle.std.proofs.Math.Option.{Option, none, some}
-use Rattle.std.specs.Prelude.{List, [], ◌∷◌, Bool, true, false, ℕ, get_or}
+use Rattle.std.specs.Prelude.{◌≡◌, List, [], ◌∷◌, Bool, true, false, ℕ, get_or, Result, Ok, Err, IsErrAnd}
 use Rattle.answer.specs.declared.Place.{Place}
 use Rattle.answer.specs.declared.Place.TheVariants.{Whole, Line, Row, Bytes, Index, Clock, Component, Cell, Clash, SharedAction, SharedClock, Spot, Condition, Action}
 use Rattle.answer.specs.declared.Refusal.{Refusal}
-use Rattle.answer.specs.declared.Checked.{Checked}
-use Rattle.answer.specs.declared.Checked.TheVariants as OfChecked
-use Rattle.answer.specs.declared.Written.{Written}
-use Rattle.answer.specs.declared.Written.TheVariants as OfWritten
 use Rattle.answer.specs.declared.Outcome.{Outcome}
 use Rattle.answer.specs.declared.Outcome.TheVariants as OfOutcome
 use Rattle.answer.specs.declared.Verdict.{Verdict}
 use Rattle.answer.specs.declared.Verdict.TheVariants as OfVerdict
 use Rattle.answer.specs.declared.Firing.{Firing}
 use Rattle.answer.specs.declared.Firing.TheVariants as OfFiring
-use Rattle.answer.specs.declared.Ended.{Ended}
-use Rattle.answer.specs.declared.Ended.TheVariants as OfEnded
 
 -- a refusal's number and the values of its place
 pub record Told : Type 0 where
@@ -97,41 +91,47 @@ abbrev pub as_refused : {A : Type 0} → Option Told → Option (Answer A)
 as_refused none = none
 as_refused (some t) = some (refused t)
 
+-- what a call's result says: its value as f has it, or what its refusal tells
+abbrev pub says : {A B : Type 0} → (A → B) → Result A Refusal → Option (Answer B)
+says f (Ok x) = some (answered (f x))
+says f (Err q) = as_refused (told q)
+
+-- the result of a call that is done or refused, and of one that gives a number: how many bytes
+abbrev pub Checked : Type 0
+Checked = Result (Unit {0}) Refusal
+
+abbrev pub Written : Type 0
+Written = Result ℕ Refusal
+
 unfoldable pub says_checked : Checked → Option (Answer (Unit {0}))
-says_checked OfChecked.Fine = some (answered tt)
-says_checked (OfChecked.Refused r) = as_refused (told r)
+says_checked r = says (λ _. tt) r
 
 unfoldable pub says_written : Written → Option (Answer ℕ)
-says_written (OfWritten.Length n) = some (answered n)
-says_written (OfWritten.Refused r) = as_refused (told r)
+says_written r = says (λ n. n) r
 
 -- "Each step's outcome is one of moved, stable or refused, carrying action and resets, nothing, or number and place"
 pub data Step : Type 0 where
   moved : ℕ → ℕ → Step
   stable : Step
 
-unfoldable pub says_outcome : Outcome → Option (Answer Step)
-says_outcome (OfOutcome.Moved a r) = some (answered (moved a r))
-says_outcome OfOutcome.Stable = some (answered stable)
-says_outcome (OfOutcome.Refused r) = as_refused (told r)
+abbrev pub step_said : Outcome → Step
+step_said (OfOutcome.Moved a r) = moved a r
+step_said OfOutcome.Stable = stable
 
 -- "answers stable or unsettled"
-unfoldable pub says_verdict : Verdict → Option (Answer Bool)
-says_verdict OfVerdict.Stable = some (answered true)
-says_verdict OfVerdict.Unsettled = some (answered false)
-says_verdict (OfVerdict.Refused r) = as_refused (told r)
+abbrev pub stable_said : Verdict → Bool
+stable_said OfVerdict.Stable = true
+stable_said OfVerdict.Unsettled = false
 
 -- "The answer gives v, action, resets", or "the answer is quiet"
 pub data Shot : Type 0 where
   fired : ℕ → ℕ → ℕ → Shot
   quiet : Shot
 
-unfoldable pub says_firing : Firing → Option (Answer Shot)
-says_firing (OfFiring.Fired v a r) = some (answered (fired v a r))
-says_firing OfFiring.Quiet = some (answered quiet)
-says_firing (OfFiring.Refused r) = as_refused (told r)
+abbrev pub shot_said : Firing → Shot
+shot_said (OfFiring.Fired v a r) = fired v a r
+shot_said OfFiring.Quiet = quiet
 
--- "It answers later rounds done" (02, 4/13)
-unfoldable pub says_ended : Ended → Option (Answer ℕ)
-says_ended (OfEnded.Rounds n) = some (answered n)
-says_ended (OfEnded.Refused r) = as_refused (told r)
+-- "A refusal returns its number and place": a result is refused, and with what it tells
+abbrev pub RefusedWith : {A : Type 0} → Told → Result A Refusal → Type 0
+RefusedWith f r = IsErrAnd r (λ q. told q ≡ some f)

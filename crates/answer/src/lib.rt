@@ -1,4 +1,4 @@
-// What the engine answers: limits, composed states, refusals with their places, and an answer for each kind of call.
+// What the engine answers: limits, composed states, refusals with their places, and what each kind of call gives where it is not refused.
 #![tactic(auto)]
 
 ghost use Rattle.std.specs.Prelude.{◌≡◌};
@@ -98,44 +98,28 @@ pub struct Refusal {
     pub place: Place,
 }
 
-// The answer of reading, checking and merging.
-#[derive(Drop)]
-pub enum Checked {
-    Fine,
-    Refused(Refusal),
-}
-
-// The answer of writing: how many bytes.
-#[derive(Drop)]
-pub enum Written {
-    Length(usize),
-    Refused(Refusal),
-}
-
-// One step's outcome.
+// What one step did.
 #[derive(Clone, Copy)]
 pub enum Outcome {
     Moved { action: u64, resets: u64 },
     Stable,
-    Refused(Refusal),
 }
 
-// An outcome holds no array, so the state stands beside it.
-#[derive(Drop)]
+// What one step did, and the state after it.
+#[derive(Clone, Copy)]
 pub struct Stepped {
     pub outcome: Outcome,
     pub state: State,
 }
 
 // What settling says of the state reached.
-#[derive(Drop)]
+#[derive(Clone, Copy)]
 pub enum Verdict {
     Stable,
     Unsettled,
-    Refused(Refusal),
 }
 
-#[derive(Drop)]
+#[derive(Clone, Copy)]
 pub struct Settled {
     pub verdict: Verdict,
     pub steps: usize,
@@ -144,7 +128,7 @@ pub struct Settled {
 }
 
 // What the timed step did.
-#[derive(Drop)]
+#[derive(Clone, Copy)]
 pub enum Firing {
     Fired {
         ticks: u64,
@@ -152,25 +136,19 @@ pub enum Firing {
         resets: u64,
     },
     Quiet,
-    Refused(Refusal),
 }
 
-#[derive(Drop)]
+// What the timed step did, and the state after it.
+#[derive(Clone, Copy)]
 pub struct Timed {
     pub firing: Firing,
     pub state: State,
 }
 
-// How a simulation ended: later rounds done, or the refusal.
+// How far a simulation came: the later rounds done, and the state after the last.
 #[derive(Clone, Copy)]
-pub enum Ended {
-    Rounds(usize),
-    Refused(Refusal),
-}
-
-#[derive(Drop)]
 pub struct Simulated {
-    pub ended: Ended,
+    pub rounds: usize,
     pub state: State,
 }
 
@@ -192,7 +170,7 @@ pub fn bounds() -> Limits
     }
 }
 
-// No state: what stands beside a refusal.
+// No state: no component has a place in it.
 pub fn no_state() -> State
     ensures { result ≡ no_state }
 {

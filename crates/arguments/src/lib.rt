@@ -1,37 +1,25 @@
 // The words of the command line that are numbers.
 #![tactic(auto)]
 
-use fields::{Cursor, NumberScan};
+use fields::Cursor;
 use std::env::FillError;
 use std::rt::Env;
 
 // The whole of a word is a number of at most five digits, as in the texts; or it is not.
-#[derive(Drop)]
-pub enum Asked {
-    Number(usize),
-    Wrong,
-}
-
-fn number_in(word: &[u8]) -> Asked {
-    match fields::number(word, Cursor { at: 0 }) {
-        NumberScan::Is(c, n) => {
-            if c.at == word.len() {
-                Asked::Number(n as usize)
-            } else {
-                Asked::Wrong
-            }
-        }
-        NumberScan::Missing(_, _) => Asked::Wrong,
+fn number_in(word: &[u8]) -> Option<usize> {
+    let (end, n) = fields::number(word, Cursor { at: 0 }).ok()?;
+    if end.at == word.len() {
+        Some(n as usize)
+    } else {
+        None
     }
 }
 
 // Argument i, counted from 1. One that is missing or longer than any number is none.
-pub fn number_at(env: &impl Env, i: usize) -> Asked {
+pub fn number_at(env: &impl Env, i: usize) -> Option<usize> {
     let mut word = io::buffer();
-    match env.arg(i, &mut word) {
-        Ok(n) => number_in(&word[..n]),
-        Err(_) => Asked::Wrong,
-    }
+    let n = env.arg(i, &mut word).ok()?;
+    number_in(&word[..n])
 }
 
 // Whether there is an argument i.
@@ -54,10 +42,10 @@ pub fn count(env: &impl Env) -> usize {
 }
 
 // The one argument that there is.
-pub fn only_number(env: &impl Env) -> Asked {
+pub fn only_number(env: &impl Env) -> Option<usize> {
     if count(env) == 2 {
         number_at(env, 1)
     } else {
-        Asked::Wrong
+        None
     }
 }

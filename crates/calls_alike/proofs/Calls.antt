@@ -1,18 +1,17 @@
 -- Merging does not matter, of the calls: on a table and on the one that `merge` wrote, `accept` and `confluent` pass, and `settle` and `settle_list`
 -- answer the same; and three are merged either way into one image.
 use mathlib.Core.Path.{◌≡◌, refl, sym, ◌∙◌, ap, subst}
-use mathlib.Core.Bool.{Bool}
 use mathlib.Core.Option.{Option, none, some}
 use mathlib.Core.List.{List, ◌∷◌}
 use Prim.Native.Nat.{ℕ, suc}
-use native.Mathlib.Omega.{arith}
 use lib.ListN.{length, take}
-use Rattle.answer.specs.Told.{Told, Answer, answered, refused, says_checked, says_verdict}
+use Rattle.answer.specs.Told.{Told, Answer, answered, says_checked}
 use Rattle.answer.specs.State.{parts_of}
 use Rattle.answer.specs.declared.State.{State}
 use Rattle.answer.specs.declared.Settled.{Settled}
-use Rattle.answer.specs.declared.Checked.TheVariants.{Fine}
-use Rattle.answer.proofs.SaysFixes.{verdict-fixed}
+use Rattle.std.specs.Prelude.{Result, Ok, Err}
+use Rattle.answer.specs.declared.Refusal.{Refusal}
+use Rattle.answer.proofs.SaysFixes.{verdict-fixed, refused-fixed}
 use Rattle.answer.proofs.StateLaws.{parts-length, with-parts}
 use Rattle.model.specs.Model.{Comp, Model}
 use Rattle.model.specs.WellFormed.{WellFormed}
@@ -45,7 +44,7 @@ use Rattle.alike.specs.Alike.{MergedInto, SameAnswer, both_settle, both-refuse}
 use Rattle.alike.proofs.Models.{known, either_way}
 use Rattle.alike.proofs.Confluence.{merging-keeps-confluence}
 use Rattle.alike.proofs.Whole.{the-settling-stays, the-listing-stays}
-use Rattle.calls_alike.specs.CallsAlike.{SameSettled}
+use Rattle.calls_alike.specs.CallsAlike.{SameSettled, SameAgain}
 use Rattle.calls_alike.proofs.Merged.{one-held, Written, merge-writes}
 
 -- what computes of a table is what computes of the model that it holds
@@ -53,22 +52,22 @@ on-held : {A : Type 0} (t : List ℕ) (m : Model) → Holds t m → (f : Model �
 on-held t m h f = on-image t f ((image-exactly t).1 (holds-image h)) ∙ ap f (held-model t m h)
 
 -- ---- 10 to 17, and 18
-module _ (t : List ℕ) (i : ℕ) (was into : List ℕ) (g : Merging t i was Fine into) where
+module _ (t : List ℕ) (i : ℕ) (was into : List ℕ) (g : Merging t i was (Ok tt) into) where
   w : Written t i into
   w = merge-writes t i was into g
 
-  passing : (check : Model → Option Told) → check w.after ≡ none → says_checked Fine ≡ some (check_on into check)
+  passing : (check : Model → Option Told) → check w.after ≡ none → says_checked (Ok tt) ≡ some (check_on into check)
   unfolding says_checked
   passing check e = ap some (sym (on-held into w.after w.holds-again (λ n. unless (check n) tt) ∙ ap (λ o. unless o tt) e))
 
   -- "gives one that passes too"
-  pub merged-table-is-accepted : Accepted into Fine
+  pub merged-table-is-accepted : Accepted into (Ok tt)
   merged-table-is-accepted =
       let k = known w.before i w.after w.holds.well w.conforming w.joinable w.merged-into in
       passing accept_of ((accepted-exactly w.after k.exact.well-formed).1 (k.conforming, k.joinable))
 
   -- "Where it passed 18 before, so does the merged one"
-  pub merged-table-is-confluent : Confluently t Fine → Confluently into Fine
+  pub merged-table-is-confluent : Confluently t (Ok tt) → Confluently into (Ok tt)
   merged-table-is-confluent e =
       let k = known w.before i w.after w.holds.well w.conforming w.joinable w.merged-into in
       let passed : confluent_of w.before ≡ none = subst (λ m. confluent_of m ≡ none) (held-model t w.before w.holds) (fine-passes t confluent_of e).1 in
@@ -82,25 +81,22 @@ module _ (t : List ℕ) (i : ℕ) (was into : List ℕ) (g : Merging t i was Fin
       subst (λ x. MergedInto m i x) f (subst (λ x. MergedInto x i w.after) e w.merged-into)
 
 -- ---- what two answers leave
-module _ (m : Model) (i : ℕ) (x y : State) (r q : Settled) where
+module _ (m : Model) (i : ℕ) (x y : State) where
   alike : {a b : Answer (Settling (List ℕ))} → SameAnswer m i a b → ((d : Settling (List ℕ)) → a ≡ answered d → length d.state ≡ x.count)
-      → ((d : Settling (List ℕ)) → b ≡ answered d → length d.state ≡ y.count) → SettleAnswers a x r → SettleAnswers b y q → SameSettled m i r q
-  alike (both_settle {d = d} {e = e} s) f h u v = record {
-    verdict = verdict-fixed q.verdict r.verdict (answered d.stable) (v.verdict ∙ ap (λ z. some (answered z)) s.verdict) u.verdict;
+      → ((d : Settling (List ℕ)) → b ≡ answered d → length d.state ≡ y.count) → (r q : Result Settled Refusal) → SettleAnswers a x r → SettleAnswers b y q
+      → SameSettled m i r q
+  alike (both_settle {d = d} {e = e} s) f h (Ok r) (Ok q) u v = record {
+    verdict = verdict-fixed q.verdict r.verdict (v.verdict ∙ s.verdict ∙ sym u.verdict);
     count = v.steps ∙ s.count ∙ sym u.steps;
     resets = v.resets ∙ s.resets ∙ sym u.resets;
-    end = λ z p.
+    end =
         ap parts_of v.state ∙ with-parts y e.state (h e refl) ∙ s.end
         ∙ ap (paired_at m i) (sym (ap parts_of u.state ∙ with-parts x d.state (f d refl)));
   }
-  alike (both-refuse {t = t}) f h u v = record {
-    verdict = verdict-fixed q.verdict r.verdict (refused t) v.0 u.0;
-    count = v.1 ∙ sym u.1;
-    resets = v.2 ∙ sym u.2;
-    end = λ b p.
-        let z : ◌≡◌ {A = Option (Answer Bool)} (some (answered b)) (some (refused t)) = sym p ∙ u.0 in
-        let o : ◌≡◌ {A = ℕ} 0 1 = cc in absurd (omega arith);
-  }
+  alike (both_settle s) f h (Ok r) (Err q) u v = absurd v
+  alike (both_settle s) f h (Err r) q u v = absurd u
+  alike (both-refuse {t = t}) f h (Ok r) q u v = absurd u
+  alike (both-refuse {t = t}) f h (Err r) q u v = refused-fixed q (Err r) t v u
 
 traces-alike : (m : Model) (i : ℕ) (old : List ℕ) {a b : Answer (Settling (List ℕ))} → SameAnswer m i a b → trace_after b old ≡ trace_after a old
 traces-alike m i old (both_settle s) = ap (λ l. traced l old) s.trace
@@ -128,7 +124,7 @@ Long f = (c : Comp) (cs : List Comp) → WellFormed (c ∷ cs) → (z : State) (
     → length d.state ≡ z.count
 
 -- ---- "settling from a composed state that both accept": of the table from x, and of the one that `merge` wrote from y, which has the pairs of x
-module _ (t : List ℕ) (i : ℕ) (was into : List ℕ) (g : Merging t i was Fine into) (x y : State) (before : SettledFrom t x) (after : SettledFrom into y)
+module _ (t : List ℕ) (i : ℕ) (was into : List ℕ) (g : Merging t i was (Ok tt) into) (x y : State) (before : SettledFrom t x) (after : SettledFrom into y)
     (pairs : parts_of y ≡ paired_at (before.first ∷ before.others) i (parts_of x)) where
   abbrev m : Model
   m = before.first ∷ before.others
@@ -156,14 +152,16 @@ module _ (t : List ℕ) (i : ℕ) (was into : List ℕ) (g : Merging t i was Fin
     same-on = subst (λ a. SameAnswer m i a (on_table into (λ z. f z (parts_of y)))) (sym on-first)
         (subst (SameAnswer m i (f m (parts_of x))) (sym (on-second ∙ ap (f n) pairs)) stays)
 
-    tables-alike : (r q : Settled) → SettleAnswers (on_table t (λ z. f z (parts_of x))) x r → SettleAnswers (on_table into (λ z. f z (parts_of y))) y q
+    tables-alike : (r q : Result Settled Refusal) → SettleAnswers (on_table t (λ z. f z (parts_of x))) x r
+        → SettleAnswers (on_table into (λ z. f z (parts_of y))) y q
         → SameSettled (before.first ∷ before.others) i r q
-    tables-alike r q p v = alike m i x y r q same-on
+    tables-alike r q p v = alike m i x y same-on
         (λ d z. long before.first before.others before.holds.well x d (sym on-first ∙ z))
-        (λ d z. long after.first after.others after.holds.well y d (sym on-second ∙ z)) p v
+        (λ d z. long after.first after.others after.holds.well y d (sym on-second ∙ z)) r q p v
 
   -- the same verdict, count, resets and trace; and 22 and 24 likewise
-  pub settle-is-alike : (budget : ℕ) (old new late : List ℕ) (r q : Settled) → SettleCall t x budget old new r → SettleCall into y budget old late q
+  pub settle-is-alike : (budget : ℕ) (old new late : List ℕ) (r q : Result Settled Refusal) → SettleCall t x budget old new r
+      → SettleCall into y budget old late q
       → SameSettled (before.first ∷ before.others) i r q × (late ≡ new)
   settle-is-alike budget old new late r q p v =
       let f : Model → List ℕ → Answer (Settling (List ℕ)) = λ z s. settle_of z s budget (length old) in
@@ -177,7 +175,7 @@ module _ (t : List ℕ) (i : ℕ) (was into : List ℕ) (g : Merging t i was Fin
       (tables-alike f long stays r q p.answer v.answer, v.trace ∙ traces-alike m i old (same-on f long stays) ∙ sym p.trace)
 
   -- by list: the same verdict, count and resets, or 23 at the same index
-  pub settle-list-is-alike : (l : List ℕ) (r q : Settled) → SettleListCall t x l r → SettleListCall into y l q
+  pub settle-list-is-alike : (l : List ℕ) (r q : Result Settled Refusal) → SettleListCall t x l r → SettleListCall into y l q
       → SameSettled (before.first ∷ before.others) i r q
   settle-list-is-alike l r q p v =
       let f : Model → List ℕ → Answer (Settling (List ℕ)) = λ z s. settle_list_of z s l in
@@ -190,8 +188,8 @@ module _ (t : List ℕ) (i : ℕ) (was into : List ℕ) (g : Merging t i was Fin
       tables-alike f (λ c cs w z d e. listed-length c cs w z l d e) stays r q p.answer v.answer
 
 -- ---- "Merging (first, second), third and first, (second, third)": t is merged at i to n and n at i to p, or t at i+1 to k and k at i to q
-pub merged-either-way : (t : List ℕ) (i : ℕ) (was₁ n was₂ p was₃ k was₄ q : List ℕ) → Merging t i was₁ Fine n → Merging n i was₂ Fine p
-    → Merging t (suc i) was₃ Fine k → Merging k i was₄ Fine q → take image_words p ≡ take image_words q
+pub merged-either-way : (t : List ℕ) (i : ℕ) (was₁ n was₂ p was₃ k was₄ q : List ℕ) → Merging t i was₁ (Ok tt) n → Merging n i was₂ (Ok tt) p
+    → Merging t (suc i) was₃ (Ok tt) k → Merging k i was₄ (Ok tt) q → take image_words p ≡ take image_words q
 merged-either-way t i was₁ n was₂ p was₃ k was₄ q a b d e =
     let x = merge-writes t i was₁ n a in
     let y = merge-writes n i was₂ p b in
@@ -205,8 +203,9 @@ merged-either-way t i was₁ n was₂ p was₃ k was₄ q a b d e =
     (held-into k i was₄ q e z.after v.after z.holds-again v.holds-again) in
     y.holds-again.front ∙ ap image_of one ∙ sym v.holds-again.front
 
--- ---- of one answer there is one that is the same merged: verdict, steps, resets and the numbers of its state
-pub one-settled-again : (m : Model) (i : ℕ) (r q p : Settled) → SameSettled m i r q → SameSettled m i r p
-    → (q.verdict ≡ p.verdict) × (q.steps ≡ p.steps) × (q.resets ≡ p.resets)
-    × ((b : Bool) → says_verdict r.verdict ≡ some (answered b) → parts_of q.state ≡ parts_of p.state)
-one-settled-again m i r q p u v = (u.verdict ∙ sym v.verdict, u.count ∙ sym v.count, u.resets ∙ sym v.resets, λ b e. u.end b e ∙ sym (v.end b e))
+-- ---- of one answer there is one that is the same merged
+pub one-settled-again : (m : Model) (i : ℕ) (r q p : Result Settled Refusal) → SameSettled m i r q → SameSettled m i r p → SameAgain q p
+one-settled-again m i (Ok r) (Ok q) (Ok p) u v = (u.verdict ∙ sym v.verdict, u.count ∙ sym v.count, u.resets ∙ sym v.resets, u.end ∙ sym v.end)
+one-settled-again m i (Ok r) (Ok q) (Err f) u v = absurd v
+one-settled-again m i (Ok r) (Err f) p u v = absurd u
+one-settled-again m i (Err f) q p u v = subst (λ (z : Result Settled Refusal). SameAgain z p) (sym u) v

@@ -7,7 +7,7 @@ use native.Mathlib.Omega.{arith}
 use lib.ListN.{take, drop}
 use lib.Seq.{take_at}
 use Rattle.answer.specs.Told.{Told, Answer, refused, says_checked, done_of}
-use Rattle.answer.specs.declared.Checked.TheVariants.{Fine}
+use Rattle.std.specs.Prelude.{Ok}
 use Rattle.model.specs.Model.{Model}
 use Rattle.iosa.specs.Automaton.{Conforming, Joinable}
 use Rattle.iosa.specs.InOrder.{refuses, passes}
@@ -38,12 +38,12 @@ pub record Written (t : List ℕ) (i : ℕ) (into : List ℕ) : Type 0 where
   pub joinable : Joinable before
   pub merged-into : MergedInto before i after
 
-never {ℓ} : {P : Type ℓ} {f : Told} → says_checked Fine ≡ some (done_of {A = Model} (refused f)) → P
+never {ℓ} : {P : Type ℓ} {f : Told} → says_checked (Ok tt) ≡ some (done_of {A = Model} (refused f)) → P
 unfolding says_checked
 never e = let z : ◌≡◌ {A = ℕ} 0 1 = cc in absurd (omega arith)
 
 module _ (t : List ℕ) (i : ℕ) (was into : List ℕ) where
-  written : {a : Answer Model} → OnImage t (λ c cs. MergeCallAnswer c cs i image_bytes (bytes_of was)) a → FillsTable was into Fine a → Written t i into
+  written : {a : Answer Model} → OnImage t (λ c cs. MergeCallAnswer c cs i image_bytes (bytes_of was)) a → FillsTable was into (Ok tt) a → Written t i into
   written (is20 n) l = never l.answer
   written (of-model h (refuses q)) l = never l.answer
   written (of-model h (passes k (refuses q))) l = never l.answer
@@ -63,5 +63,5 @@ module _ (t : List ℕ) (i : ℕ) (was into : List ℕ) where
         merged-into = x;
       }
 
-  pub merge-writes : Merging t i was Fine into → Written t i into
-  merge-writes g = let e = (merge-answers-exactly t i was Fine into).0 g in written e.right e.left
+  pub merge-writes : Merging t i was (Ok tt) into → Written t i into
+  merge-writes g = let e = (merge-answers-exactly t i was (Ok tt) into).0 g in written e.right e.left

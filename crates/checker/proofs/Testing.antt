@@ -5,8 +5,8 @@ use mathlib.Core.List.{List}
 use Prim.Native.Nat.{ℕ}
 use Rattle.answer.specs.Told.{Told, told, answered, refused, says_checked}
 use Rattle.answer.specs.declared.Refusal.{Refusal}
-use Rattle.answer.specs.declared.Checked.{Checked}
-use Rattle.answer.specs.declared.Checked.TheVariants.{Fine, Refused}
+use Rattle.answer.specs.Told.{Checked}
+use Rattle.std.specs.Prelude.{Ok, Err}
 use Rattle.model.specs.Model.{Model}
 use Rattle.model.specs.Reading.{read_of}
 use Rattle.iosa.specs.Step.{unless}
@@ -35,26 +35,26 @@ module _ (t : List ℕ) (im : Image t) (check : Model → Option Told) (r : Chec
   says : Says r (check (model_of t))
   says = e ∙ ap some (on-image t (λ m. unless (check m) tt) ((image-exactly t).1 im))
 
-  passes : r ≡ Fine → check (model_of t) ≡ none
+  passes : r ≡ (Ok tt) → check (model_of t) ≡ none
   passes f = fine-none (check (model_of t)) (rw f at says)
 
-  refuses : (q : Refusal) → r ≡ Refused q → (u : Told) × (told q ≡ some u) × (check (model_of t) ≡ some u)
+  refuses : (q : Refusal) → r ≡ Err q → (u : Told) × (told q ≡ some u) × (check (model_of t) ≡ some u)
   refuses q f = refused-fault q (check (model_of t)) (rw f at says)
 
 module _ (t : List ℕ) (im : Image t) (r : Checked) where
-  pub is-orderly : says_checked r ≡ some (check_on t orderly_of) → r ≡ Fine → orderly_text ≡ else_text (model_of t)
+  pub is-orderly : says_checked r ≡ some (check_on t orderly_of) → r ≡ (Ok tt) → orderly_text ≡ else_text (model_of t)
   unfolding else_text
   is-orderly e f = let p = passes t im orderly_of r e f in rw (p, else_text)
 
-  pub is-neither : says_checked r ≡ some (check_on t orderly_of) → (q : Refusal) → r ≡ Refused q
+  pub is-neither : says_checked r ≡ some (check_on t orderly_of) → (q : Refusal) → r ≡ Err q
       → (u : Told) × (told q ≡ some u) × (else_text (model_of t) ≡ refused_line u)
   unfolding else_text
   is-neither e q f = let p = refuses t im orderly_of r e q f in (p.0, p.1, rw (p.2, else_text))
 
-  pub is-confluent : says_checked r ≡ some (check_on t confluent_of) → r ≡ Fine → confluent_text ≡ tested_text (model_of t)
+  pub is-confluent : says_checked r ≡ some (check_on t confluent_of) → r ≡ (Ok tt) → confluent_text ≡ tested_text (model_of t)
   unfolding tested_text
   is-confluent e f = let p = passes t im confluent_of r e f in rw (p, tested_text)
 
-  pub is-not : says_checked r ≡ some (check_on t confluent_of) → (q : Refusal) → r ≡ Refused q → else_text (model_of t) ≡ tested_text (model_of t)
+  pub is-not : says_checked r ≡ some (check_on t confluent_of) → (q : Refusal) → r ≡ Err q → else_text (model_of t) ≡ tested_text (model_of t)
   unfolding tested_text
   is-not e q f = let p = refuses t im confluent_of r e q f in rw (p.2, tested_text)

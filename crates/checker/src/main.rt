@@ -9,18 +9,14 @@ ghost use Rattle.steplines.specs.Run.{most_bytes};
 ghost use Rattle.printout.specs.Printed.{Printed, Filled};
 ghost use Rattle.checker.specs.Tested.{else_text, tested_text, checked_text};
 
-use answer::Checked;
-use stream::Moved;
-
 // The second test, of a model that is not confluent alone.
 fn put_else(t: &[u64], out: &mut [u8]) -> usize
     requires { Image t.now × (most_bytes ≤ length out.old) }
     ensures { Printed (else_text (model_of t.now)) out.old out.new result }
 {
-    let checked = orderly::orderly(t);
-    match checked {
-        Checked::Refused(f) => printout::put_refusal(f, out),
-        Checked::Fine => print::put_word(out, 0, b"orderly\n"),
+    match orderly::orderly(t) {
+        Err(f) => printout::put_refusal(f, out),
+        Ok(()) => print::put_word(out, 0, b"orderly\n"),
     }
 }
 
@@ -28,10 +24,9 @@ fn put_tested(t: &[u64], out: &mut [u8]) -> usize
     requires { Image t.now × (most_bytes ≤ length out.old) }
     ensures { Printed (tested_text (model_of t.now)) out.old out.new result }
 {
-    let checked = admit::confluent(t);
-    match checked {
-        Checked::Refused(_) => put_else(t, out),
-        Checked::Fine => print::put_word(out, 0, b"confluent\n"),
+    match admit::confluent(t) {
+        Err(_) => put_else(t, out),
+        Ok(()) => print::put_word(out, 0, b"confluent\n"),
     }
 }
 
@@ -40,10 +35,9 @@ fn put_checked(input: &[u8], out: &mut [u8]) -> usize
     ensures { Printed (checked_text input.now) out.old out.new result }
 {
     let mut table = [0u64; layout::WORDS];
-    let checked = text::read(input, &mut table);
-    match checked {
-        Checked::Refused(f) => printout::put_refusal(f, out),
-        Checked::Fine => put_tested(&table, out),
+    match text::read(input, &mut table) {
+        Err(f) => printout::put_refusal(f, out),
+        Ok(()) => put_tested(&table, out),
     }
 }
 
@@ -58,7 +52,7 @@ fn filled(input: &[u8], out: &mut [u8]) -> usize
 fn answer(rt: &HostRuntime, input: &[u8]) {
     let mut out = printout::empty_out();
     let k = filled(input, &mut out);
-    if let Moved::Failed(e) = stream::write(rt, &mut rt.stdout(), &out[..k]) {
+    if let Err(e) = stream::write(rt, &mut rt.stdout(), &out[..k]) {
         failing::say(rt, b"check: the answer could not be written whole", e);
     }
 }
@@ -66,7 +60,7 @@ fn answer(rt: &HostRuntime, input: &[u8]) {
 fn main(rt: HostRuntime) {
     let mut input = printout::empty_input();
     match stream::read(&rt, &mut rt.stdin(), &mut input) {
-        Moved::Bytes(n) => answer(&rt, &input[..n]),
-        Moved::Failed(e) => failing::say(&rt, b"check: standard input could not be read", e),
+        Ok(n) => answer(&rt, &input[..n]),
+        Err(e) => failing::say(&rt, b"check: standard input could not be read", e),
     }
 }

@@ -10,7 +10,7 @@ use Rattle.answer.specs.Told.{Told, tell, told, Answer, answered, refused, says_
 use Rattle.answer.specs.declared.Refusal.{Refusal}
 use Rattle.answer.specs.declared.Place.{Place}
 use Rattle.answer.specs.declared.Place.TheVariants.{Clash as ClashAt}
-use Rattle.answer.specs.declared.Checked.TheVariants.{Fine, Refused}
+use Rattle.std.specs.Prelude.{Ok, Err}
 use Rattle.answer.proofs.SaysFixes.{tells}
 use Rattle.answer.proofs.ToldFixes.{told-fixes}
 use Rattle.model.specs.Model.{Comp, Model, comp_at}
@@ -50,7 +50,7 @@ module _ (t : List ℕ) (im : Image t) (ok : accept_of (model_of t) ≡ none) wh
   unfolding explain_model
   explained-as = ap (explain_accepted m) ok
 
-  pub says-confluent : Says Fine (clash_among 0 m) → confluent_line ≡ explain_model m
+  pub says-confluent : Says (Ok tt) (clash_among 0 m) → confluent_line ≡ explain_model m
   unfolding says_checked
   says-confluent e = sym (explained-as ∙ ap (explain_meeting m) (passes (clash_among 0 m) e))
 
@@ -87,7 +87,7 @@ module _ (t : List ℕ) (im : Image t) (ok : accept_of (model_of t) ≡ none) wh
         sym (explained-as ∙ ap (explain_meeting m) c),
       )
 
-  pub says-clash : (q : Refusal) → Says (Refused q) (clash_among 0 m) → Shown q
+  pub says-clash : (q : Refusal) → Says (Err q) (clash_among 0 m) → Shown q
   unfolding says_checked
   says-clash q e =
       let w = well-formed t im in

@@ -11,7 +11,7 @@ ghost use Rattle.whys.specs.Explanation.{confluent_line, explain_at, explain_mod
 ghost use Rattle.explaining.specs.Longest.{explanation_bytes};
 ghost use Rattle.clashing.specs.Placed.{ClashPlace};
 
-use answer::{Checked, Place};
+use answer::Place;
 use fields::Sign;
 
 fn put_confluent(out: &mut [u8]) -> usize
@@ -34,7 +34,7 @@ fn put_place(t: &[u64], p: Place, out: &mut [u8]) -> usize
         higher,
     } = p
     else {
-        return 0;
+        unreachable!()
     };
     explaining::put_explanation(out, t, component, state, lower, higher)
 }
@@ -44,12 +44,8 @@ pub fn put_model(t: &[u64], out: &mut [u8]) -> usize
     requires { Image t.now × (accept_of (model_of t.now) ≡ none) × (explanation_bytes ≤ length out.old) }
     ensures { Put out.old 0 (explain_model (model_of t.now)) out.new result }
 {
-    let checked = admit::check_meeting(t);
-    match checked {
-        Checked::Refused(f) => {
-            let p = f.place;
-            put_place(t, p, out)
-        },
-        Checked::Fine => put_confluent(out),
+    match admit::check_meeting(t) {
+        Err(f) => put_place(t, f.place, out),
+        Ok(()) => put_confluent(out),
     }
 }

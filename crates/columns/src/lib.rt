@@ -6,7 +6,7 @@ ghost use Rattle.model.specs.Reading.{stop_column};
 ghost use Rattle.columns.specs.Columns.{member_of, guard_out, wide_guard, numbers_out, resets_out, row_column, value_column};
 
 use answer::Model;
-use fields::{Cursor, Guard, NumberScan, Sign};
+use fields::{Cursor, Guard, Sign};
 use lines::Line;
 
 // What a line's values may be: how many states there are, which actions and which clocks.
@@ -46,7 +46,7 @@ pub fn column_at(text: &[u8], at: usize, stop: Cursor) -> usize
 pub fn is_in(set: u64, n: u64) -> bool
     ensures { result ≡ member_of set n }
 {
-    if n < WORD { sets::has(set, n) } else { false }
+    n < WORD && sets::has(set, n)
 }
 
 fn guard_out(clocks: u64, g: Guard) -> bool
@@ -58,7 +58,8 @@ fn guard_out(clocks: u64, g: Guard) -> bool
     }
 }
 
-fn guard_width(g: Guard) -> usize
+// How wide a guard stands in a line.
+pub fn guard_width(g: Guard) -> usize
     ensures { result ≡ wide_guard g }
 {
     match g {
@@ -74,24 +75,20 @@ fn numbers_out(text: &[u8], at: usize, set: u64) -> Cursor
 {
     let mut i = at;
     while i < text.len() {
-        match fields::number(text, Cursor { at: i }) {
-            NumberScan::Is(next, n) => {
-                if !is_in(set, n) {
-                    return Cursor { at: i };
-                }
-                let end = next.at;
-                if text.len() <= end {
-                    return Cursor { at: end };
-                }
-                if text[end] != Sign::COMMA {
-                    return Cursor { at: end + 1 };
-                }
-                i = end + 1;
-            }
-            NumberScan::Missing(_, _) => {
-                return Cursor { at: i };
-            }
+        let Ok((next, n)) = fields::number(text, Cursor { at: i }) else {
+            return Cursor { at: i };
+        };
+        if !is_in(set, n) {
+            return Cursor { at: i };
         }
+        let end = next.at;
+        if text.len() <= end {
+            return Cursor { at: end };
+        }
+        if text[end] != Sign::COMMA {
+            return Cursor { at: end + 1 };
+        }
+        i = end + 1;
     }
     Cursor { at: i }
 }
@@ -138,10 +135,7 @@ pub fn value_column(text: &[u8], at: usize, a: Allowed, l: Line) -> usize
 {
     match l {
         Line::Comp { states, start: _ } => {
-            if states < 1 {
-                return 6;
-            }
-            if (Model::STATES as u64) < states {
+            if states < 1 || (Model::STATES as u64) < states {
                 return 6;
             }
             7 + measure::width(states)

@@ -12,8 +12,8 @@ use Rattle.laws.proofs.SearchLaws.{no-some}
 use Rattle.answer.specs.Limits.{max_bytes}
 use Rattle.answer.specs.Told.{Told, told, tell, Answer, answered, refused, as_refused, says_written}
 use Rattle.answer.specs.declared.Refusal.{Refusal}
-use Rattle.answer.specs.declared.Written.{Written}
-use Rattle.answer.specs.declared.Written.TheVariants.{Length, Refused}
+use Rattle.answer.specs.Told.{Written}
+use Rattle.std.specs.Prelude.{Ok, Err}
 use Rattle.answering.specs.Report.{refused_line}
 use Rattle.print.specs.Put.{laid, Put}
 use Rattle.printout.specs.Printed.{Printed}
@@ -54,11 +54,11 @@ pub record RefusedAs (o : Answer (List ℕ)) (old new : List ℕ) (f : Refusal) 
   pub same : new ≡ old
 
 pub data Goes (o : Answer (List ℕ)) (old new : List ℕ) : Written → Type 0 where
-  is-length : {k : ℕ} → Printed (converted_text o) old new k → Goes o old new (Length k)
-  is-refused : {f : Refusal} → RefusedAs o old new f → Goes o old new (Refused f)
+  is-length : {k : ℕ} → Printed (converted_text o) old new k → Goes o old new (Ok k)
+  is-refused : {f : Refusal} → RefusedAs o old new f → Goes o old new (Err f)
 
 module _ (x : Answer (List ℕ)) (old new : List ℕ) (h : most_bytes ≡ length old) where
-  refused-told : (f : Refusal) (τ : Told) → says_written (Refused f) ≡ some (refused τ) → told f ≡ some τ
+  refused-told : (f : Refusal) (τ : Told) → says_written (Err f) ≡ some (refused τ) → told f ≡ some τ
   unfolding says_written
   refused-told f τ e = go (told f) e
     where
@@ -66,11 +66,11 @@ module _ (x : Answer (List ℕ)) (old new : List ℕ) (h : most_bytes ≡ length
       go none e = absurd (no-some refl e)
       go (some σ) e = cc
 
-  not-both : (k : ℕ) (τ : Told) → says_written (Length k) ≡ some (refused τ) → ⊥
+  not-both : (k : ℕ) (τ : Told) → says_written (Ok k) ≡ some (refused τ) → ⊥
   unfolding says_written
   not-both k τ e = let z : ◌≡◌ {A = ℕ} 0 1 = cc in omega arith
 
-  not-refused : (f : Refusal) (n : ℕ) → says_written (Refused f) ≡ some (answered n) → ⊥
+  not-refused : (f : Refusal) (n : ℕ) → says_written (Err f) ≡ some (answered n) → ⊥
   unfolding says_written
   not-refused f n e = go (told f) e
     where
@@ -78,7 +78,7 @@ module _ (x : Answer (List ℕ)) (old new : List ℕ) (h : most_bytes ≡ length
       go none e = no-some refl e
       go (some σ) e = let z : ◌≡◌ {A = ℕ} 0 1 = cc in omega arith
 
-  one-length : (k n : ℕ) → says_written (Length k) ≡ some (answered n) → k ≡ n
+  one-length : (k n : ℕ) → says_written (Ok k) ≡ some (answered n) → k ≡ n
   unfolding says_written
   one-length k n e = cc
 
@@ -88,16 +88,16 @@ module _ (x : Answer (List ℕ)) (old new : List ℕ) (h : most_bytes ≡ length
 
   by_answer : (r : Written) (o : Answer (List ℕ)) → x ≡ o → says_written r ≡ some (written_by (length old) o) → new ≡ left_by (written_by (length old) o) o old
       → Goes x old new r
-  by_answer (Length k) (refused τ) e a b = absurd (not-both k τ a)
-  by_answer (Refused f) (refused τ) e a b = is-refused (record { tells = τ; says = refused-told f τ a; line = text-refused x τ e; same = b })
+  by_answer (Ok k) (refused τ) e a b = absurd (not-both k τ a)
+  by_answer (Err f) (refused τ) e a b = is-refused (record { tells = τ; says = refused-told f τ a; line = text-refused x τ e; same = b })
   by_answer r (answered t) e a b = go r (fitted (length old) t) refl a b
     where
       go : (r : Written) (v : Answer ℕ) → fitted (length old) t ≡ v → says_written r ≡ some v → new ≡ left_by v (answered t) old → Goes x old new r
-      go (Length k) (refused τ) w a b = absurd (not-both k τ a)
-      go (Refused f) (refused τ) w a b =
+      go (Ok k) (refused τ) w a b = absurd (not-both k τ a)
+      go (Err f) (refused τ) w a b =
           is-refused (record { tells = τ; says = refused-told f τ a; line = text-unfit x t τ e (ap (λ n. fitted n t) h ∙ w); same = b })
-      go (Refused f) (answered n) w a b = absurd (not-refused f n a)
-      go (Length k) (answered n) w a b =
+      go (Err f) (answered n) w a b = absurd (not-refused f n a)
+      go (Ok k) (answered n) w a b =
           let q = fits (length old) t n w in
           is-length (subst (λ u. Printed u old new k) (sym (text-fit x t n e (ap (λ n. fitted n t) h ∙ w))) (record {
             put = put-there t n k q.0
@@ -108,8 +108,8 @@ module _ (x : Answer (List ℕ)) (old new : List ℕ) (h : most_bytes ≡ length
   pub goes : (r : Written) → Converts x old new r → Goes x old new r
   goes r c = by_answer r x refl c.answer c.buffer
 
-pub length-printed : (o : Answer (List ℕ)) (old new : List ℕ) (k : ℕ) → Goes o old new (Length k) → Printed (converted_text o) old new k
+pub length-printed : (o : Answer (List ℕ)) (old new : List ℕ) (k : ℕ) → Goes o old new (Ok k) → Printed (converted_text o) old new k
 length-printed o old new k (is-length p) = p
 
-pub refusal-there : (o : Answer (List ℕ)) (old new : List ℕ) (f : Refusal) → Goes o old new (Refused f) → RefusedAs o old new f
+pub refusal-there : (o : Answer (List ℕ)) (old new : List ℕ) (f : Refusal) → Goes o old new (Err f) → RefusedAs o old new f
 refusal-there o old new f (is-refused p) = p

@@ -8,15 +8,15 @@ ghost use Rattle.printout.specs.Printed.{Printed};
 ghost use Rattle.named.specs.Converted.{Converts};
 ghost use Rattle.converting.specs.Converting.{converted_text};
 
-use answer::Written;
+use answer::Refusal;
 
 // The text that the call wrote stands there already; of a refusal, its line.
-pub fn put_converted(r: Written, out: &mut [u8]) -> usize
+pub fn put_converted(r: Result<usize, Refusal>, out: &mut [u8]) -> usize
     requires { most_bytes ≡ length out.old }
     ensures { (o : Answer (List ℕ)) (old : List ℕ) → most_bytes ≡ length old → Converts o old out.old r → Printed (converted_text o) old out.new result }
 {
     match r {
-        Written::Length(k) => k,
-        Written::Refused(f) => printout::put_refusal(f, out),
+        Ok(k) => k,
+        Err(f) => printout::put_refusal(f, out),
     }
 }

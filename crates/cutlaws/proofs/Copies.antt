@@ -1,7 +1,7 @@
 -- The old lines of a text, cut by cut: how many bytes they are, and that they are copied.
 use mathlib.Core.Path.{◌≡◌, refl, sym, ◌∙◌, ap}
 use mathlib.Core.Option.{Option, none, some}
-use mathlib.Core.Bool.{Bool, true, false}
+use Rattle.std.specs.Prelude.{Some, None}
 use mathlib.Core.List.{List, [], ◌∷◌, ◌++◌}
 use Prim.Native.Nat.{ℕ, zero, suc, ◌+◌, ◌-◌, ◌*◌, ◌≤◌, ◌<◌}
 use native.Mathlib.Omega.{arith}
@@ -14,7 +14,7 @@ use Rattle.named.specs.NamedText.{Name, Line, line, lines_text}
 use Rattle.named.specs.ReadNamed.{resolve_by}
 use Rattle.named.proofs.Onward.{line-shortens}
 use Rattle.laws.proofs.SearchLaws.{no-some, map-some}
-use Rattle.namefields.specs.NameFields.{number_by}
+use Rattle.namefields.specs.NameFields.{number_by, Found}
 use Rattle.namelaws.specs.OldLines.{old_of, old_from, old_lines}
 use Rattle.namelaws.proofs.OldLaws.{old-next}
 use Rattle.cutlaws.specs.Cutting.{number_part, cut_bytes, CutIs}
@@ -72,29 +72,29 @@ module _ (t P : List ℕ) (at : ℕ) where
       ∙ old-next f (length (drop at t)) (drop at t) e (drop next t) h
       ∙ ap {B = List Entry} (λ x. e ∷ x) (old-bound f (length (drop at t)) (length (drop next t)) (drop next t) (omega arith) (le_refl _))
 
-  module _ (stop go next : ℕ) (named : Bool) (a : ℕ) (c : CutIs t P at stop go next named a) where
-    pub lines_cut : lines_text (old_lines t P at) ≡ cut_bytes t at stop go next named a ++ lines_text (old_lines t P next)
+  module _ (stop go next : ℕ) (a : Found) (c : CutIs t P at stop go next a) where
+    pub lines_cut : lines_text (old_lines t P at) ≡ cut_bytes t at stop go next a ++ lines_text (old_lines t P next)
     unfolding lines_text
     lines_cut = ap lines_text (lines-old next c.old c.read) ∙ ap (λ (x : List ℕ). x ++ lines_text (old_lines t P next)) (sym c.bytes)
 
-    number-most : (b : Bool) → length (number_part b a) ≤ 5
-    number-most true = width-most a
-    number-most false = omega arith
+    number-most : (b : Found) → length (number_part b) ≤ 5
+    number-most (Some b) = width-most b
+    number-most None = omega arith
 
-    pub cut-length : length (cut_bytes t at stop go next named a) ≡ (stop - at) + length (number_part named a) + (next - go)
+    pub cut-length : length (cut_bytes t at stop go next a) ≡ (stop - at) + length (number_part a) + (next - go)
     cut-length =
         let o = c.ordered in
         let h : stop ≤ length t = omega (arith, o.name, o.last, o.inside) in
         omega (
           arith,
-          length-append (slice at stop t ++ number_part named a) (slice go next t),
-          length-append (slice at stop t) (number_part named a),
+          length-append (slice at stop t ++ number_part a) (slice go next t),
+          length-append (slice at stop t) (number_part a),
           length-slice at stop t h,
           length-slice go next t o.inside,
         )
 
-    pub cut_most : length (cut_bytes t at stop go next named a) + 6 * at ≤ 6 * next
-    cut_most = let o = c.ordered in omega (arith, cut-length, number-most named, o.first, o.name, o.last, o.more)
+    pub cut_most : length (cut_bytes t at stop go next a) + 6 * at ≤ 6 * next
+    cut_most = let o = c.ordered in omega (arith, cut-length, number-most a, o.first, o.name, o.last, o.more)
 
 -- ---- how long they are: the loop
 pub record Measured (t P : List ℕ) (from at sum : ℕ) : Type 0 where
@@ -112,11 +112,11 @@ module _ (t P : List ℕ) (from at sum : ℕ) (m : Measured t P from at sum) whe
   pub measured-over : length t ≤ at → sum ≡ length (lines_text (old_lines t P from))
   measured-over h = omega (arith, m.same, ap length (lines-over t P at h))
 
-  pub measured-next : (stop go next : ℕ) (named : Bool) (a sum' : ℕ) → CutIs t P at stop go next named a
-      → sum' ≡ sum + (stop - at) + length (number_part named a) + (next - go)
+  pub measured-next : (stop go next : ℕ) (a : Found) (sum' : ℕ) → CutIs t P at stop go next a
+      → sum' ≡ sum + (stop - at) + length (number_part a) + (next - go)
       → Measured t P from next sum'
-  measured-next stop go next named a sum' c e =
-      let l = cut-length t P at stop go next named a c in
+  measured-next stop go next a sum' c e =
+      let l = cut-length t P at stop go next a c in
       record {
         same =
             omega (
@@ -124,9 +124,9 @@ module _ (t P : List ℕ) (from at sum : ℕ) (m : Measured t P from at sum) whe
               m.same,
               e,
               l,
-              ap length (lines_cut t P at stop go next named a c),
-              length-append (cut_bytes t at stop go next named a) (lines_text (old_lines t P next)),
+              ap length (lines_cut t P at stop go next a c),
+              length-append (cut_bytes t at stop go next a) (lines_text (old_lines t P next)),
             );
-        most = omega (arith, m.most, e, l, cut_most t P at stop go next named a c);
+        most = omega (arith, m.most, e, l, cut_most t P at stop go next a c);
         inside = c.ordered.inside;
       }

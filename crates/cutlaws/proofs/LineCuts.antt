@@ -1,7 +1,7 @@
 -- A line of the second form, cut at its name, is the old line.
 use mathlib.Core.Path.{◌≡◌, refl, sym, ◌∙◌, ap}
 use mathlib.Core.Option.{Option, none, some}
-use mathlib.Core.Bool.{true, false}
+use Rattle.std.specs.Prelude.{Some, None}
 use mathlib.Core.List.{List, [], ◌∷◌, ◌++◌, append_assoc, append-nil}
 use Prim.Native.Nat.{ℕ, ◌+◌, ◌≤◌, ◌<◌}
 use native.Mathlib.Omega.{arith}
@@ -68,7 +68,7 @@ module _ (t P : List ℕ) (at next : ℕ) (l : Line) (read : line (drop at t) �
   nothing-old h = ap (old_of (number_by t P)) read ∙ ap (map_some (λ x. record { value = x; rest = drop next t })) h
 
   -- a line without a name is itself
-  pub plain-cut : (e : Entry) → l ≡ plain-line e → CutIs t P at next next next false 0
+  pub plain-cut : (e : Entry) → l ≡ plain-line e → CutIs t P at next next next None
   plain-cut e z = record {
     old = e;
     read = old-is e (ap (resolve_by (number_by t P)) z);
@@ -81,7 +81,7 @@ module _ (t P : List ℕ) (at next : ℕ) (l : Line) (read : line (drop at t) �
   -- a line with a name
   name-cut : (e : Entry) (a stop go : ℕ) (w : Name) → Named l e a w → resolve_by (number_by t P) l ≡ some e
       → stop ≡ at + before_name (code_of l) → name_from t stop ≡ w
-      → go ≡ stop + length (name_from t stop) → CutIs t P at stop go next true a
+      → go ≡ stop + length (name_from t stop) → CutIs t P at stop go next (Some a)
   name-cut e a stop go w n h p name q =
       let F = n.front in
       let R = n.back in
@@ -105,7 +105,7 @@ module _ (t P : List ℕ) (at next : ℕ) (l : Line) (read : line (drop at t) �
 
 -- ---- by the line that the code has
 module _ (t P : List ℕ) (at next : ℕ) (start : at ≤ length t) (end : next ≤ length t) where
-  pub cut-plain : (x : Line) → line (drop at t) ≡ got x (drop next t) → IsPlain (code_of x) → CutIs t P at next next next false 0
+  pub cut-plain : (x : Line) → line (drop at t) ≡ got x (drop next t) → IsPlain (code_of x) → CutIs t P at next next next None
   cut-plain form-line read h = absurd h
   cut-plain (name-line n w) read h = absurd h
   cut-plain (act-line w k) read h = absurd h
@@ -136,7 +136,7 @@ module _ (t P : List ℕ) (at next : ℕ) (start : at ≤ length t) (end : next 
     cut-unknown (plain-line e) read h p f = absurd h
 
     pub cut-named : (a go : ℕ) (x : Line) → line (drop at t) ≡ got x (drop next t) → HasName (code_of x) → Stands x → number_by t P (name_from t stop) ≡ some a
-        → go ≡ stop + length (name_from t stop) → CutIs t P at stop go next true a
+        → go ≡ stop + length (name_from t stop) → CutIs t P at stop go next (Some a)
     cut-named a go form-line read h p f q = absurd h
     cut-named a go (name-line n w) read h p f q = absurd h
     cut-named a go (act-line w k) read h p f q =

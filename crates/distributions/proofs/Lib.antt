@@ -1,4 +1,3 @@
-pub mod FoundLaws
 pub mod HexLaws
 pub mod FormLaws
 pub mod LineLaws

@@ -1,7 +1,7 @@
 -- A line, by the clock's number in front of it.
-use mathlib.Core.Path.{◌≡◌, sym, ◌∙◌, ap}
+use mathlib.Core.Path.{◌≡◌, ◌∙◌, ap}
 use mathlib.Core.Bool.{cond}
-use mathlib.Core.Option.{none, some}
+use mathlib.Core.Option.{none}
 use mathlib.Core.List.{List, []}
 use Prim.Native.Nat.{ℕ, ◌≤◌}
 use borrow.Author.Tests.{eq-eqb, ne_eqb}
@@ -16,28 +16,28 @@ use Rattle.drawing.specs.File.{form_at, law_at, line_at}
 use Rattle.distributions.specs.Found.{found, value_in, law_in, LineIs}
 
 module _ (x : ℕ) (t : List ℕ) (at : ℕ) where
-  pub line-none : (cs : List ℕ) → stops cs ≡ number (drop at t) → found (line_at x (drop at t)) ≡ none
+  pub line-none : {cs : List ℕ} → number (drop at t) ≡ stops cs → line_at x (drop at t) ≡ stops cs
   unfolding line_at
-  line-none cs e = ap found (then-stops (λ y cs. cond (eqb y x) (law_at cs) (stops (drop at t))) (sym e))
+  line-none e = then-stops (λ y cs. cond (eqb y x) (law_at cs) (stops (drop at t))) e
 
-  module _ (n b : ℕ) (e : got n (drop b t) ≡ number (drop at t)) where
+  module _ (n b : ℕ) (e : number (drop at t) ≡ got n (drop b t)) where
     line-is : line_at x (drop at t) ≡ cond (eqb n x) (law_at (drop b t)) (stops (drop at t))
     unfolding line_at
-    line-is = then_is (λ y cs. cond (eqb y x) (law_at cs) (stops (drop at t))) (sym e)
+    line-is = then_is (λ y cs. cond (eqb y x) (law_at cs) (stops (drop at t))) e
 
-    pub line_other : (n ≡ x → ⊥) → found (line_at x (drop at t)) ≡ none
-    line_other h = ap found line-is ∙ rw (ne_eqb n x h)
+    pub line_other : (n ≡ x → ⊥) → line_at x (drop at t) ≡ stops (drop at t)
+    line_other h = line-is ∙ rw (ne_eqb n x h)
 
     module _ (h : n ≡ x) where
       here : line_at x (drop at t) ≡ law_at (drop b t)
       here = line-is ∙ rw (eq-eqb n x h)
 
-      pub line-bad : none ≡ found (law_at (drop b t)) → found (line_at x (drop at t)) ≡ none
-      line-bad q = ap found here ∙ sym q
+      pub line-bad : {cs : List ℕ} → law_at (drop b t) ≡ stops cs → line_at x (drop at t) ≡ stops cs
+      line-bad q = here ∙ q
 
-      pub line-good : (l : Law) (f : ℕ) → some (record { value = l; rest = drop f t }) ≡ found (law_at (drop b t)) → LineIs x t at b f
+      pub line-good : (l : Law) (f : ℕ) → law_at (drop b t) ≡ got l (drop f t) → LineIs x t at b f
       unfolding law_in
-      line-good l f q = record { law = l; line = ap found here ∙ sym q; stands = ap value_in (sym q) }
+      line-good l f q = record { law = l; line = here ∙ q; stands = ap (λ s. value_in (found s)) q }
 
 -- no distribution stands at the text's end
 law-nil : law_at [] ≡ stops []

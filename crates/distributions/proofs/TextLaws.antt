@@ -2,7 +2,7 @@
 use mathlib.Core.Path.{◌≡◌, refl, sym, ◌∙◌, ap, subst}
 use mathlib.Core.Logic.{by_cases}
 use mathlib.Core.Bool.{true}
-use mathlib.Core.Option.{Option, none, some, some_inj}
+use mathlib.Core.Option.{Option, none, some}
 use mathlib.Core.List.{List, [], ◌∷◌, ◌++◌, append-nil}
 use Prim.Native.Nat.{ℕ, suc, ◌+◌, ◌-◌, ◌≤◌, ◌<◌}
 use native.Mathlib.Decide.{ℕ_discrete}
@@ -11,29 +11,19 @@ use native.Mathlib.Omega.{arith}
 use lib.ListN.{length, get_or, drop, set, length-set, length-append, get_or-append, drop_of_length-le}
 use lib.Seq.{append_snoc, get_or-append-add, get_or-set_same, get_or-set_other}
 use Rattle.laws.specs.Sets.{has}
-use Rattle.laws.proofs.SearchLaws.{no-some}
 use Rattle.answer.specs.Limits.{max_clocks}
 use Rattle.answer.specs.Told.{tell, told, Answer, answered, refused, says_checked}
-use Rattle.answer.specs.declared.Checked.{Checked}
-use Rattle.answer.specs.declared.Checked.TheVariants as OfChecked
-use Rattle.model.specs.Reading.{Scan, is, stops, got}
+use Rattle.answer.specs.Told.{Checked}
+use Rattle.std.specs.Prelude.{Ok, Err}
+use Rattle.model.specs.Reading.{stops}
 use Rattle.fields.proofs.ScanLaws.{front}
 use Rattle.simulation.specs.Simulate.{and_then}
 use Rattle.draw.specs.declared.Law.{Law}
 use Rattle.drawing.specs.File.{line_at, laws_from, laws_of}
 use Rattle.drawing.proofs.ReadExactly.{not-declared, good-line, bad-line}
 use Rattle.distributions.specs.declared.Spot.{Spot}
-use Rattle.distributions.specs.Found.{found, law_in}
+use Rattle.distributions.specs.Found.{law_in}
 use Rattle.distributions.specs.Text.{Begun, in-line, no_line, bad_line, Scans}
-
--- a scan by what is found
-scan-is : {A : Type 0} (o : Scan A) (x : A) (bs : List ℕ) → found o ≡ some (record { value = x; rest = bs }) → o ≡ got x bs
-scan-is (is g) x bs e = ap is (some_inj.0 e)
-scan-is (stops cs) x bs e = absurd (no-some refl e)
-
-scan-stops : {A : Type 0} (o : Scan A) → found o ≡ none → (cs : List ℕ) × (o ≡ stops cs)
-scan-stops (is g) e = absurd (no-some refl (sym e))
-scan-stops (stops cs) e = (cs, refl)
 
 no-clock : (d n x k : ℕ) → n ≡ 0 → laws_from d n x k [] ≡ answered []
 unfolding laws_from
@@ -124,30 +114,29 @@ module _ (t : List ℕ) (d : ℕ) (at : List ℕ) (p : Spot) (x : ℕ) (w : Betw
       let n = max_clocks - (x + 1) in
       let l = line.law in
       more h b (some l) line.stands q (omega (arith, w.line, s))
-      (good-line d n x p.line (drop p.at t) l (drop q.at t) e (scan-is (line_at x (drop p.at t)) l (drop q.at t) line.line)
+      (good-line d n x p.line (drop p.at t) l (drop q.at t) e line.line
       ∙ ap (λ k. and_then (laws_from d n (suc x) k (drop q.at t)) (λ ms. answered (some l ∷ ms))) (sym s))
 
   -- ---- the end
-  told-49 : (r : Checked) → r ≡ bad_line p.line → refused (tell 49 (p.line ∷ [])) ≡ laws_of d t → Scans (laws_of d t) t r at
+  told-49 : (r : Checked) → r ≡ Err (bad_line p.line) → refused (tell 49 (p.line ∷ [])) ≡ laws_of d t → Scans (laws_of d t) t r at
   unfolding says_checked told
   told-49 r e s = subst (λ a. Scans a t r at) s (ap says_checked e)
 
-  pub bad-here : x < max_clocks → has d x ≡ true → found (line_at x (drop p.at t)) ≡ none → (r : Checked) → r ≡ bad_line p.line
+  pub bad-here : x < max_clocks → has d x ≡ true → (cs : List ℕ) → line_at x (drop p.at t) ≡ stops cs → (r : Checked) → r ≡ Err (bad_line p.line)
       → Scans (laws_of d t) t r at
-  bad-here h e l r q =
+  bad-here h e cs l r q =
       let o : max_clocks - x ≡ suc (max_clocks - (x + 1)) = omega arith in
-      let s = scan-stops (line_at x (drop p.at t)) l in
       told-49 r q (sym (ap (after w.laws) (ap (λ n. laws_from d n x p.line (drop p.at t)) o
-      ∙ bad-line d (max_clocks - (x + 1)) x p.line (drop p.at t) s.0 e s.1)) ∙ w.same)
+      ∙ bad-line d (max_clocks - (x + 1)) x p.line (drop p.at t) cs e l)) ∙ w.same)
 
-  pub bad-behind : max_clocks ≤ x → p.at < length t → (r : Checked) → r ≡ bad_line p.line → Scans (laws_of d t) t r at
+  pub bad-behind : max_clocks ≤ x → p.at < length t → (r : Checked) → r ≡ Err (bad_line p.line) → Scans (laws_of d t) t r at
   bad-behind h k r q =
       let z : max_clocks - x ≡ 0 = omega arith in
       let s : laws_from d (max_clocks - x) x p.line (drop p.at t) ≡ refused (tell 49 (p.line ∷ []))
       = ap (laws_from d (max_clocks - x) x p.line) (front t p.at k) ∙ byte-too-many d (max_clocks - x) x p.line (get_or t p.at 0) (drop (p.at + 1) t) z in
       told-49 r q (sym (ap (after w.laws) s) ∙ w.same)
 
-  pub all-good : max_clocks ≤ x → length t ≤ p.at → (r : Checked) → r ≡ OfChecked.Fine → Scans (laws_of d t) t r at
+  pub all-good : max_clocks ≤ x → length t ≤ p.at → (r : Checked) → r ≡ (Ok tt) → Scans (laws_of d t) t r at
   unfolding says_checked
   all-good h k r q =
       let z : max_clocks - x ≡ 0 = omega arith in

@@ -1,18 +1,12 @@
--- What the scans of a file of distributions find: the value and the bytes behind it, or nothing.
-use Rattle.std.specs.Prelude.{◌≡◌, cond, List, ℕ, ◌+◌, ◌-◌, drop, Float}
+-- What the scans of a file of distributions find: the value and the bytes behind it, or the bytes from where it stopped.
+use Rattle.std.specs.Prelude.{◌≡◌, cond, List, ℕ, ◌+◌, ◌-◌, drop, Float, Result, Ok, Err}
 use Rattle.std.proofs.Math.Option.{Option, none, some}
 use Rattle.model.specs.Text.{byte0}
-use Rattle.model.specs.Reading.{Got, Scan, is, stops, is_digit}
+use Rattle.model.specs.Reading.{Got, Scan, is, stops, got, is_digit}
+use Rattle.fields.specs.declared.Cursor.{Cursor}
+use Rattle.fields.specs.Fields.{scanned}
 use Rattle.draw.specs.declared.Law.{Law}
 use Rattle.drawing.specs.File.{byte_a, is_letter, Range, law_at, line_at}
-use Rattle.distributions.specs.declared.RealScan.{RealScan}
-use Rattle.distributions.specs.declared.RealScan.TheVariants as OfReal
-use Rattle.distributions.specs.declared.RangeScan.{RangeScan}
-use Rattle.distributions.specs.declared.RangeScan.TheVariants as OfRange
-use Rattle.distributions.specs.declared.LawScan.{LawScan}
-use Rattle.distributions.specs.declared.LawScan.TheVariants as OfLaw
-use Rattle.distributions.specs.declared.Line.{Line}
-use Rattle.distributions.specs.declared.Line.TheVariants as OfLine
 
 -- what a byte is as a digit, or 16
 unfoldable pub digit_of : ℕ → ℕ
@@ -23,17 +17,17 @@ abbrev pub found : {A : Type 0} → Scan A → Option (Got A)
 found (is g) = some g
 found (stops cs) = none
 
-abbrev pub got_real : List ℕ → RealScan → Option (Got Float)
-got_real t (OfReal.Is c x) = some (record { value = x; rest = drop c.at t })
-got_real t OfReal.Missing = none
+abbrev pub got_real : List ℕ → Result (Cursor × Float) Cursor → Scan Float
+got_real t r = scanned (λ x. x) t r
 
-abbrev pub got_range : List ℕ → RangeScan → Option (Got Range)
-got_range t (OfRange.Is c a b) = some (record { value = record { lower = a; upper = b }; rest = drop c.at t })
-got_range t OfRange.Missing = none
+abbrev pub range_of : Float × Float → Range
+range_of p = record { lower = p.0; upper = p.1 }
 
-abbrev pub got_law : List ℕ → LawScan → Option (Got Law)
-got_law t (OfLaw.Is c l) = some (record { value = l; rest = drop c.at t })
-got_law t OfLaw.Missing = none
+abbrev pub got_range : List ℕ → Result (Cursor × (Float × Float)) Cursor → Scan Range
+got_range t r = scanned range_of t r
+
+abbrev pub got_law : List ℕ → Result (Cursor × Law) Cursor → Scan Law
+got_law t r = scanned (λ l. l) t r
 
 -- the distribution at a cursor, if there is one
 abbrev pub value_in : Option (Got Law) → Option Law
@@ -46,9 +40,9 @@ law_in t at = value_in (found (law_at (drop at t)))
 -- a good line: its distribution stands at b, and the next line begins at e; or a bad one
 pub record LineIs (x : ℕ) (t : List ℕ) (at b e : ℕ) : Type 0 where
   pub law : Law
-  pub line : found (line_at x (drop at t)) ≡ some (record { value = law; rest = drop e t })
+  pub line : line_at x (drop at t) ≡ got law (drop e t)
   pub stands : law_in t b ≡ some law
 
-abbrev pub LineGives : ℕ → List ℕ → ℕ → Line → Type 0
-LineGives x t at (OfLine.Is b e) = LineIs x t at b.at e.at
-LineGives x t at OfLine.Missing = found (line_at x (drop at t)) ≡ none
+abbrev pub LineGives : ℕ → List ℕ → ℕ → Result (Cursor × Cursor) Cursor → Type 0
+LineGives x t at (Ok p) = LineIs x t at p.1.at p.0.at
+LineGives x t at (Err e) = line_at x (drop at t) ≡ stops (drop e.at t)

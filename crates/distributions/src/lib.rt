@@ -6,13 +6,12 @@ ghost use Rattle.answer.specs.Limits.{max_clocks};
 ghost use Rattle.model.specs.Reading.{field};
 ghost use Rattle.fields.specs.Fields.{got_number};
 ghost use Rattle.drawing.specs.File.{hex_digits, is_letter, hex_at, real_at, range_at, ended as ended_by, uni_at, mix_at, form_at, law_at, laws_of};
-ghost use Rattle.distributions.specs.Found.{digit_of, found, got_real, got_range, got_law, LineGives};
+ghost use Rattle.distributions.specs.Found.{digit_of, got_real, got_range, got_law, LineGives};
 ghost use Rattle.distributions.specs.Text.{TurnGives, bad_line, Scans};
 
-use answer::{Checked, Model, Place, Refusal};
-use bits::Real;
+use answer::{Model, Place, Refusal};
 use draw::Law;
-use fields::{Cursor, NumberScan, Sign, Step};
+use fields::{Cursor, Scan, Sign};
 
 // The byte of the first letter that is a digit, and the digits of 64 bits.
 const A: u8 = 97;
@@ -39,179 +38,120 @@ fn digit_of(b: u8) -> u64
 }
 
 // 16 digits.
-fn hex(text: &[u8], c: Cursor) -> NumberScan
+fn hex(text: &[u8], c: Cursor) -> Scan<u64>
     ensures { got_number text.now result ≡ hex_at hex_digits (drop c.at text.now) }
 {
     let mut n = 0u64;
     let mut at = c.at;
-    let mut k = 0usize;
-    while k < DIGITS {
+    for k in 0..DIGITS {
         if text.len() <= at {
-            return NumberScan::Missing(Cursor { at }, 0);
+            return Err(Cursor { at });
         }
         let d = digit_of(text[at]);
         if 16 <= d {
-            return NumberScan::Missing(Cursor { at }, 0);
+            return Err(Cursor { at });
         }
         n = n * 16 + d;
         at += 1;
-        k += 1;
     }
-    NumberScan::Is(Cursor { at }, n)
-}
-
-#[derive(Drop)]
-pub enum RealScan {
-    Is(Cursor, f64),
-    Missing,
+    Ok((Cursor { at }, n))
 }
 
 // A number by its bits.
-fn bits_at(text: &[u8], c: Cursor) -> RealScan
-    ensures { got_real text.now result ≡ found (real_at (drop c.at text.now)) }
+fn bits_at(text: &[u8], c: Cursor) -> Scan<f64>
+    ensures { got_real text.now result ≡ real_at (drop c.at text.now) }
 {
-    match hex(text, c) {
-        NumberScan::Is(d, n) => match bits::real_of(n) {
-            Real::Number(x) => RealScan::Is(d, x),
-            Real::NotANumber => RealScan::Missing,
-        },
-        NumberScan::Missing(_, _) => RealScan::Missing,
+    let (d, n) = hex(text, c)?;
+    match bits::real_of(n) {
+        Some(x) => Ok((d, x)),
+        None => Err(c),
     }
 }
 
 // A number by its bits, behind a tab.
-fn real(text: &[u8], c: Cursor) -> RealScan
-    ensures { got_real text.now result ≡ found (field real_at (drop c.at text.now)) }
+fn real(text: &[u8], c: Cursor) -> Scan<f64>
+    ensures { got_real text.now result ≡ field real_at (drop c.at text.now) }
 {
-    match fields::byte(text, c, Sign::TAB) {
-        Step::Past(d) => bits_at(text, d),
-        Step::Missing(_) => RealScan::Missing,
-    }
-}
-
-#[derive(Drop)]
-pub enum RangeScan {
-    Is(Cursor, f64, f64),
-    Missing,
+    let d = fields::byte(text, c, Sign::TAB)?;
+    bits_at(text, d)
 }
 
 // The lower and the upper end.
-fn range(text: &[u8], c: Cursor) -> RangeScan
-    ensures { got_range text.now result ≡ found (range_at (drop c.at text.now)) }
+fn range(text: &[u8], c: Cursor) -> Scan<(f64, f64)>
+    ensures { got_range text.now result ≡ range_at (drop c.at text.now) }
 {
-    match real(text, c) {
-        RealScan::Is(d, a) => match real(text, d) {
-            RealScan::Is(e, b) => RangeScan::Is(e, a, b),
-            RealScan::Missing => RangeScan::Missing,
-        },
-        RealScan::Missing => RangeScan::Missing,
-    }
-}
-
-#[derive(Drop)]
-pub enum LawScan {
-    Is(Cursor, Law),
-    Missing,
+    let (d, a) = real(text, c)?;
+    let (e, b) = real(text, d)?;
+    Ok((e, (a, b)))
 }
 
 // The line ends here.
-fn ended(text: &[u8], c: Cursor, law: Law) -> LawScan
-    ensures { got_law text.now result ≡ found (ended_by law (drop c.at text.now)) }
+fn ended(text: &[u8], c: Cursor, law: Law) -> Scan<Law>
+    ensures { got_law text.now result ≡ ended_by law (drop c.at text.now) }
 {
-    match fields::byte(text, c, Sign::LF) {
-        Step::Past(d) => LawScan::Is(d, law),
-        Step::Missing(_) => LawScan::Missing,
-    }
+    let d = fields::byte(text, c, Sign::LF)?;
+    Ok((d, law))
 }
 
 // Behind `uni`.
-fn uniform(text: &[u8], c: Cursor) -> LawScan
-    ensures { got_law text.now result ≡ found (uni_at (drop c.at text.now)) }
+fn uniform(text: &[u8], c: Cursor) -> Scan<Law>
+    ensures { got_law text.now result ≡ uni_at (drop c.at text.now) }
 {
-    match range(text, c) {
-        RangeScan::Is(d, a, b) => ended(text, d, Law::Uniform(a, b)),
-        RangeScan::Missing => LawScan::Missing,
-    }
+    let (d, (a, b)) = range(text, c)?;
+    ended(text, d, Law::Uniform(a, b))
 }
 
 // Behind `mix`.
-fn mixture(text: &[u8], c: Cursor) -> LawScan
-    ensures { got_law text.now result ≡ found (mix_at (drop c.at text.now)) }
+fn mixture(text: &[u8], c: Cursor) -> Scan<Law>
+    ensures { got_law text.now result ≡ mix_at (drop c.at text.now) }
 {
-    let RealScan::Is(d, w) = real(text, c) else {
-        return LawScan::Missing;
-    };
-    let RangeScan::Is(e, a, b) = range(text, d) else {
-        return LawScan::Missing;
-    };
-    let RangeScan::Is(f, p, q) = range(text, e) else {
-        return LawScan::Missing;
-    };
+    let (d, w) = real(text, c)?;
+    let (e, (a, b)) = range(text, d)?;
+    let (f, (p, q)) = range(text, e)?;
     ended(text, f, Law::Mixture(w, a, b, p, q))
 }
 
 // One word or the other, and what stands behind it.
-fn form(text: &[u8], c: Cursor) -> LawScan
-    ensures { got_law text.now result ≡ found (form_at (drop c.at text.now)) }
+fn form(text: &[u8], c: Cursor) -> Scan<Law>
+    ensures { got_law text.now result ≡ form_at (drop c.at text.now) }
 {
-    match fields::word(text, c, b"uni") {
-        Step::Past(d) => uniform(text, d),
-        Step::Missing(_) => match fields::word(text, c, b"mix") {
-            Step::Past(e) => mixture(text, e),
-            Step::Missing(_) => LawScan::Missing,
-        },
+    if let Ok(d) = fields::word(text, c, b"uni") {
+        return uniform(text, d);
     }
+    let d = fields::word(text, c, b"mix")?;
+    mixture(text, d)
 }
 
 // The same behind a tab.
-fn form_field(text: &[u8], c: Cursor) -> LawScan
-    ensures { got_law text.now result ≡ found (field form_at (drop c.at text.now)) }
+fn form_field(text: &[u8], c: Cursor) -> Scan<Law>
+    ensures { got_law text.now result ≡ field form_at (drop c.at text.now) }
 {
-    match fields::byte(text, c, Sign::TAB) {
-        Step::Past(d) => form(text, d),
-        Step::Missing(_) => LawScan::Missing,
-    }
+    let d = fields::byte(text, c, Sign::TAB)?;
+    form(text, d)
 }
 
 // The distribution that stands behind a clock's number.
-pub fn law_at(text: &[u8], c: Cursor) -> LawScan
-    ensures { got_law text.now result ≡ found (law_at (drop c.at text.now)) }
+pub fn law_at(text: &[u8], c: Cursor) -> Scan<Law>
+    ensures { got_law text.now result ≡ law_at (drop c.at text.now) }
 {
-    match form_field(text, c) {
-        LawScan::Is(d, law) => {
-            if draw::is_lawful(law) {
-                LawScan::Is(d, law)
-            } else {
-                LawScan::Missing
-            }
-        }
-        LawScan::Missing => LawScan::Missing,
+    let (d, law) = form_field(text, c)?;
+    if draw::is_lawful(law) {
+        Ok((d, law))
+    } else {
+        Err(c)
     }
 }
 
-// Where the distribution of a line stands, and where the next line does.
-#[derive(Drop)]
-pub enum Line {
-    Is(Cursor, Cursor),
-    Missing,
-}
-
-// The line of clock x.
-fn line_of(text: &[u8], x: u64, c: Cursor) -> Line
+// The line of clock x: where the next line begins, and where its distribution stands.
+fn line_of(text: &[u8], x: u64, c: Cursor) -> Scan<Cursor>
     ensures { LineGives x text.now c.at result }
 {
-    match fields::number(text, c) {
-        NumberScan::Is(d, n) => {
-            if n == x {
-                match law_at(text, d) {
-                    LawScan::Is(e, _) => Line::Is(d, e),
-                    LawScan::Missing => Line::Missing,
-                }
-            } else {
-                Line::Missing
-            }
-        }
-        NumberScan::Missing(_, _) => Line::Missing,
+    let (begin, n) = fields::number(text, c)?;
+    if n == x {
+        let (end, _) = law_at(text, begin)?;
+        Ok((end, begin))
+    } else {
+        Err(c)
     }
 }
 
@@ -222,66 +162,49 @@ pub struct Spot {
     pub line: usize,
 }
 
-// Where the distribution of a clock stands, and where the next line is looked for; or the line is bad.
-#[derive(Drop)]
-pub enum Turn {
-    Begins(usize, Spot),
-    Bad,
-}
-
-// The turn of clock x of those in d: a clock that is not declared has no line, and no distribution stands at the text's end.
-fn turn_of(text: &[u8], d: u64, x: u64, p: Spot) -> Turn
+// The turn of clock x of those in d: where the next line is looked for, and where its distribution stands. A clock that is not declared has no line, and no distribution stands at the text's end.
+fn turn_of(text: &[u8], d: u64, x: u64, p: Spot) -> Result<(Spot, usize), Cursor>
     requires { (x < max_clocks) × (p.line ≤ max_clocks) }
     ensures { TurnGives d x text.now p result }
 {
-    if sets::has(d, x) {
-        match line_of(text, x, Cursor { at: p.at }) {
-            Line::Is(b, e) => {
-                let at = e.at;
-                Turn::Begins(
-                    b.at,
-                    Spot {
-                        at,
-                        line: p.line + 1,
-                    },
-                )
-            }
-            Line::Missing => Turn::Bad,
-        }
-    } else {
-        Turn::Begins(text.len(), p)
+    if !sets::has(d, x) {
+        return Ok((p, text.len()));
     }
+    let (end, begin) = line_of(text, x, Cursor { at: p.at })?;
+    Ok((
+        Spot {
+            at: end.at,
+            line: p.line + 1,
+        },
+        begin.at,
+    ))
 }
 
 // 49 at a line.
-fn bad_line(line: usize) -> Checked
+fn bad_line(line: usize) -> Refusal
     ensures { result ≡ bad_line line }
 {
-    Checked::Refused(Refusal {
+    Refusal {
         number: 49,
         place: Place::Line(line),
-    })
+    }
 }
 
 // The whole file in one pass: 49, or where the distribution of each clock stands, into the places that the caller lends; d are the declared clocks.
-pub fn scan(text: &[u8], d: u64, at: &mut [usize; Model::CLOCKS]) -> Checked
+pub fn scan(text: &[u8], d: u64, at: &mut [usize; Model::CLOCKS]) -> Result<(), Refusal>
     requires { length at.old ≡ max_clocks }
     ensures { Scans (laws_of d text.now) text.now result at.new }
 {
     let mut p = Spot { at: 0, line: 1 };
     for x in 0..Model::CLOCKS {
-        match turn_of(text, d, x as u64, p) {
-            Turn::Begins(begin, next) => {
-                at[x] = begin;
-                p = next;
-            }
-            Turn::Bad => {
-                return bad_line(p.line);
-            }
-        }
+        let Ok((next, begin)) = turn_of(text, d, x as u64, p) else {
+            return Err(bad_line(p.line));
+        };
+        at[x] = begin;
+        p = next;
     }
     if p.at < text.len() {
-        return bad_line(p.line);
+        return Err(bad_line(p.line));
     }
-    Checked::Fine
+    Ok(())
 }

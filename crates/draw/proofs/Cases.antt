@@ -24,21 +24,6 @@ module _ (l : Law) (w a b c d : Float) (e : l ≡ Mixture w a b c d) where
     pub of-second : T (ranged c d)
     of-second = and_r (weighed w && ranged a b) (ranged c d) both
 
-  -- ---- whether it is lawful, test by test
-  module _ (x : Bool) (p : x ≡ weighed w) where
-    pub no-weight : x ≡ false → false ≡ lawful l
-    unfolding lawful
-    no-weight f = rw (e, sym p ∙ f)
-
-    module _ (t : x ≡ true) (y : Bool) (q : y ≡ ranged a b) where
-      pub no-range : y ≡ false → false ≡ lawful l
-      unfolding lawful
-      no-range f = rw (e, sym p ∙ t, sym q ∙ f)
-
-      pub all_three : y ≡ true → (z : Bool) → z ≡ ranged c d → z ≡ lawful l
-      unfolding lawful
-      all_three u z r = rw (e, sym p ∙ t, sym q ∙ u) r
-
 -- ---- what is drawn: the ticks of every draw from a lawful distribution lie between 1 and the upper end
 pub law-between : (l : Law) (m n : ℕ) → T (lawful l) → Between (end_of l m) (drawn l m n)
 unfolding drawn end_of

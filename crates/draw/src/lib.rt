@@ -2,7 +2,7 @@
 #![tactic(auto)]
 
 ghost use Rattle.std.specs.Prelude.{◌≡◌, T};
-ghost use Rattle.draw.specs.Draw.{unit, held, ticks, drawn, end_of, within, ranged, weighed, lawful, Between};
+ghost use Rattle.draw.specs.Draw.{unit, ticks, drawn, end_of, within, ranged, weighed, lawful, Between};
 
 // A distribution: a range by its lower and its upper end; or a weight and two ranges.
 #[derive(Clone, Copy)]
@@ -19,20 +19,7 @@ fn unit_of(n: u64) -> f64
     (top as f64) / 9007199254740992.0
 }
 
-// Held within the two ends.
-fn hold(lower: f64, upper: f64, v: f64) -> f64
-    ensures { result ≡ held lower upper v }
-{
-    if v < lower {
-        lower
-    } else if upper < v {
-        upper
-    } else {
-        v
-    }
-}
-
-// A draw from a range: three operations, each rounded once.
+// A draw from a range: three operations, each rounded once, and held within the two ends.
 fn ticks_of(lower: f64, upper: f64, n: u64) -> u64
     requires { T (ranged lower upper) }
     ensures { result ≡ ticks lower upper n }
@@ -41,7 +28,7 @@ fn ticks_of(lower: f64, upper: f64, n: u64) -> u64
     let width = upper - lower;
     let part = u * width;
     let v = lower + part;
-    let h = hold(lower, upper, v);
+    let h = v.clamp(lower, upper);
     std::num::truncating_f64_to_u64(h)
 }
 
@@ -69,20 +56,14 @@ fn is_within(x: f64) -> bool
     1.0 <= x && x <= 1099511627776.0
 }
 
+#[tactic(auto, unfolding(crate::specs::Draw::ranged))]
 fn is_ranged(lower: f64, upper: f64) -> bool
     ensures { result ≡ ranged lower upper }
 {
-    if is_within(lower) {
-        if is_within(upper) {
-            lower <= upper
-        } else {
-            false
-        }
-    } else {
-        false
-    }
+    is_within(lower) && is_within(upper) && lower <= upper
 }
 
+#[tactic(auto, unfolding(crate::specs::Draw::weighed))]
 fn is_weight(w: f64) -> bool
     ensures { result ≡ weighed w }
 {
@@ -90,21 +71,12 @@ fn is_weight(w: f64) -> bool
 }
 
 // Whether every end is within 1 to 2^40, the ends are in order, and the weight is within 0 to 1.
+#[tactic(auto, unfolding(crate::specs::Draw::lawful))]
 pub fn is_lawful(law: Law) -> bool
     ensures { result ≡ lawful law }
 {
     match law {
         Law::Uniform(a, b) => is_ranged(a, b),
-        Law::Mixture(w, a, b, c, d) => {
-            if is_weight(w) {
-                if is_ranged(a, b) {
-                    is_ranged(c, d)
-                } else {
-                    false
-                }
-            } else {
-                false
-            }
-        }
+        Law::Mixture(w, a, b, c, d) => is_weight(w) && is_ranged(a, b) && is_ranged(c, d),
     }
 }

@@ -2,7 +2,6 @@
 #![tactic(auto)]
 
 ghost use Rattle.std.specs.Prelude.{◌≡◌, ℕ, ◌+◌, ◌*◌, ◌/◌, ◌%◌, ◌≤◌, ◌<◌};
-ghost use Rattle.std.proofs.Math.Option.{none};
 ghost use Rattle.sets.specs.Members.{or_end};
 ghost use Rattle.answer.specs.Limits.{max_clocks, max_elements, max_inputs};
 ghost use Rattle.trees.specs.Modules.{place_of};
@@ -63,41 +62,30 @@ fn place_of(i: Inputs, v: u64) -> usize
     count
 }
 
-fn nowhere() -> Move
-    ensures { move_is result ≡ none }
-{
-    Move {
-        there: false,
-        guard: 0,
-        resets: 0,
-        target: 0,
-    }
-}
-
 // A basic element knows its own signals only.
-fn be_part(number: u64, k: u64, s: u64, of: u64, signal: Signal) -> Move
+fn be_part(number: u64, k: u64, s: u64, of: u64, signal: Signal) -> Option<Move>
     requires { (2 * k + 1 < max_clocks) × (s < max_elements) }
     ensures { move_is result ≡ be_move_by number k s (meant_as of signal) }
 {
     if of == number {
         roles::be_move(k, s, signal)
     } else {
-        nowhere()
+        None
     }
 }
 
-fn be_kind_part(number: u64, of: u64, signal: Signal) -> Kind
+fn be_kind_part(number: u64, of: u64, signal: Signal) -> Option<Kind>
     ensures { kind_is result ≡ be_kind_by number (meant_as of signal) }
 {
     if of == number {
-        roles::be_kind(signal)
+        Some(roles::be_kind(signal))
     } else {
-        Kind::None
+        None
     }
 }
 
 // A box knows the signals of its inputs.
-fn box_part(i: Inputs, s: u64, of: u64, signal: Signal) -> Move
+fn box_part(i: Inputs, s: u64, of: u64, signal: Signal) -> Option<Move>
     requires { i.count ≤ max_inputs }
     ensures { move_is result ≡ box_move_by (ins_in i) s (meant_as of signal) }
 {
@@ -105,23 +93,23 @@ fn box_part(i: Inputs, s: u64, of: u64, signal: Signal) -> Move
     if p < i.count {
         roles::box_move(i.count as u64, s, signal, p as u64)
     } else {
-        nowhere()
+        None
     }
 }
 
-fn box_kind_part(i: Inputs, of: u64, signal: Signal) -> Kind
+fn box_kind_part(i: Inputs, of: u64, signal: Signal) -> Option<Kind>
     ensures { kind_is result ≡ box_kind_by (ins_in i) (meant_as of signal) }
 {
     let p = place_of(i, of);
     if p < i.count {
         roles::box_kind(signal)
     } else {
-        Kind::None
+        None
     }
 }
 
 // Where the action of word w leads from state s; k basic elements stand before.
-pub fn move_of(e: Element, k: u64, s: u64, w: u64) -> Move
+pub fn move_of(e: Element, k: u64, s: u64, w: u64) -> Option<Move>
     requires { Fit e × (2 * k + 1 < max_clocks) × (s < max_elements) }
     ensures { move_is result ≡ move_by (element_of e) k s (meaning_at w) }
 {
@@ -141,7 +129,7 @@ pub fn move_of(e: Element, k: u64, s: u64, w: u64) -> Move
 }
 
 // What kind the action of word w is to the element.
-pub fn kind_of(e: Element, w: u64) -> Kind
+pub fn kind_of(e: Element, w: u64) -> Option<Kind>
     requires { Fit e }
     ensures { kind_is result ≡ kind_by (element_of e) (meaning_at w) }
 {

@@ -5,8 +5,8 @@ use mathlib.Core.Option.{none, some}
 use mathlib.Core.List.{List, [], ◌∷◌}
 use Prim.Native.Nat.{ℕ}
 use Rattle.answer.specs.Told.{Told, tell, told}
-use Rattle.answer.specs.declared.Checked.{Checked}
-use Rattle.answer.specs.declared.Checked.TheVariants.{Fine, Refused}
+use Rattle.answer.specs.Told.{Checked}
+use Rattle.std.specs.Prelude.{Ok, Err}
 use Rattle.answer.specs.declared.Place.TheVariants.{Whole, Component}
 use Rattle.model.specs.Model.{Model}
 use Rattle.iosa.specs.Product.{Within}
@@ -26,14 +26,14 @@ module _ (m : Model) (s : List ℕ) where
   not-reached w f e = rw ((state-faultless m s).1 w, e)
 
   -- ---- what is answered
-  pub says-21 : (r : Checked) → r ≡ Refused (record { number = 21; place = Whole }) → in_range m s ≡ false → Says r (begin_fault m s)
+  pub says-21 : (r : Checked) → r ≡ Err (record { number = 21; place = Whole }) → in_range m s ≡ false → Says r (begin_fault m s)
   unfolding told
   says-21 r e h = rw e (says-refused _ (tell 21 (0 ∷ [])) (begin_fault m s) refl (is_out_of_range h))
 
-  pub says-19 : (r : Checked) (i : ℕ) → r ≡ Refused (record { number = 19; place = Component i }) → Within m s → reach_fault m s ≡ some (tell 19 (i ∷ []))
+  pub says-19 : (r : Checked) (i : ℕ) → r ≡ Err (record { number = 19; place = Component i }) → Within m s → reach_fault m s ≡ some (tell 19 (i ∷ []))
       → Says r (begin_fault m s)
   unfolding told
   says-19 r i e w f = rw e (says-refused _ (tell 19 (i ∷ [])) (begin_fault m s) refl (not-reached w (tell 19 (i ∷ [])) f))
 
-  pub says-begins : Within m s → reach_fault m s ≡ none → Says Fine (begin_fault m s)
+  pub says-begins : Within m s → reach_fault m s ≡ none → Says (Ok tt) (begin_fault m s)
   says-begins w e = says-fine (begin_fault m s) ((begin-faultless m s).1 (w, e))

@@ -9,9 +9,8 @@ use borrow.Author.Tests.{lt-ltb, le-ltb}
 use Rattle.answer.specs.Told.{Told, tell, told, Answer, answered, refused, as_refused, says_checked, says_written}
 use Rattle.answer.specs.declared.Refusal.{Refusal}
 use Rattle.answer.specs.declared.Place.TheVariants.{Bytes}
-use Rattle.answer.specs.declared.Written.{Written}
-use Rattle.answer.specs.declared.Written.TheVariants as W
-use Rattle.answer.specs.declared.Checked.TheVariants.{Refused}
+use Rattle.answer.specs.Told.{Written}
+use Rattle.std.specs.Prelude.{Ok, Err}
 use Rattle.model.specs.Model.{Model}
 use Rattle.model.specs.Reading.{read_of}
 use Rattle.iosa.specs.Step.{unless}
@@ -30,7 +29,7 @@ use Rattle.clashing.proofs.Meeting.{stands}
 use Rattle.explain.specs.Explain.{in_room, explain_in, text_explained, table_explained, length_in, buffer_with, Puts}
 
 -- ---- the two ways in which a buffer is left
-refused-puts : (a : Answer (List ℕ)) (old : List ℕ) (q : Refusal) (f : Told) → told q ≡ some f → a ≡ refused f → Puts a old old (W.Refused q)
+refused-puts : (a : Answer (List ℕ)) (old : List ℕ) (q : Refusal) (f : Told) → told q ≡ some f → a ≡ refused f → Puts a old old (Err q)
 unfolding says_written
 refused-puts a old q f e x = record { answer = ap as_refused e ∙ ap (λ y. some (length_in y)) (sym x); buffer = sym (ap (λ y. buffer_with y old) x) }
 
@@ -39,14 +38,14 @@ unfolding laid
 at-the-front old bytes = let e : 0 + length bytes ≡ length bytes = omega arith in ap (λ n. bytes ++ drop n old) e
 
 module _ (old bytes : List ℕ) where
-  pub too_short_lem : (r : Written) → length old < explanation_bytes → r ≡ W.Refused (record { number = 24; place = Bytes explanation_bytes })
+  pub too_short_lem : (r : Written) → length old < explanation_bytes → r ≡ Err (record { number = 24; place = Bytes explanation_bytes })
       → Puts (in_room (length old) bytes) old old r
   unfolding in_room told
   too_short_lem r h e =
       subst (Puts (in_room (length old) bytes) old old) (sym e)
       (refused-puts (in_room (length old) bytes) old _ (tell 24 (explanation_bytes ∷ [])) refl (rw (lt-ltb (length old) explanation_bytes h)))
 
-  pub filled : (new : List ℕ) (n : ℕ) → explanation_bytes ≤ length old → Put old 0 bytes new n → Puts (in_room (length old) bytes) old new (W.Length n)
+  pub filled : (new : List ℕ) (n : ℕ) → explanation_bytes ≤ length old → Put old 0 bytes new n → Puts (in_room (length old) bytes) old new (Ok n)
   unfolding in_room says_written
   filled new n h p =
       let x : in_room (length old) bytes ≡ answered bytes = rw (le-ltb (length old) explanation_bytes h) in
@@ -71,7 +70,7 @@ read-lines text m h = sym (ap explain_read h)
 
 -- ---- a table
 module _ (t : List ℕ) where
-  pub unaccepted-line : Image t → (q : Refusal) → says_checked (Refused q) ≡ some (check_on t accept_of) → refused_text q ≡ explain_model (model_of t)
+  pub unaccepted-line : Image t → (q : Refusal) → says_checked (Err q) ≡ some (check_on t accept_of) → refused_text q ≡ explain_model (model_of t)
   unfolding explain_model
   unaccepted-line im q e =
       let p = refused-tells t accept_of q e in
@@ -83,7 +82,7 @@ module _ (t : List ℕ) where
     unfolding explain_in
     follows m f e = rw (e, explain_in)
 
-    pub refused-before : (q : Refusal) → says_checked (Refused q) ≡ some (check_on t accept_of) → Puts (table_explained t old) old old (W.Refused q)
+    pub refused-before : (q : Refusal) → says_checked (Err q) ≡ some (check_on t accept_of) → Puts (table_explained t old) old old (Err q)
     unfolding table_explained
     refused-before q e =
         let p = refused-tells t accept_of q e in

@@ -3,7 +3,7 @@ use mathlib.Core.Path.{◌≡◌, sym, ◌∙◌}
 use mathlib.Core.List.{List}
 use Prim.Native.Nat.{ℕ}
 use Rattle.answer.specs.Told.{Answer}
-use Rattle.answer.specs.declared.Written.{Written}
+use Rattle.answer.specs.Told.{Written}
 use Rattle.answer.proofs.SaysFixes.{written-fixed}
 use Rattle.explain.specs.Explain.{text_explained, table_explained, length_in, Puts, ExplainCall, ExplainTableCall}
 

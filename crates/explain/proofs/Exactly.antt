@@ -9,7 +9,7 @@ use lib.ListN.{length}
 use lib.Dec.{ltb}
 use Rattle.laws.specs.Search.{when}
 use Rattle.answer.specs.Told.{Told, tell, Answer, answered, refused}
-use Rattle.answer.specs.declared.Written.{Written}
+use Rattle.answer.specs.Told.{Written}
 use Rattle.model.specs.Model.{Comp}
 use Rattle.model.specs.WellFormed.{WellFormed}
 use Rattle.model.specs.Text.{text_of}

@@ -2,7 +2,7 @@
 use Rattle.std.specs.Prelude.{◌≡◌, cond, List, [], ◌∷◌, ◌++◌, ℕ, length, drop, ltb}
 use Rattle.std.proofs.Math.Option.{none, some}
 use Rattle.answer.specs.Told.{Answer, answered, refused, tell, says_written}
-use Rattle.answer.specs.declared.Written.{Written}
+use Rattle.answer.specs.Told.{Written}
 use Rattle.model.specs.Model.{Model}
 use Rattle.iosa.specs.Checks.{accept_of}
 use Rattle.table.specs.OnTable.{on_table}

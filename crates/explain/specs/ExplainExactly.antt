@@ -1,7 +1,7 @@
 -- What `explain` and `explain_table` answer, said of what is printed of a text (whys specs, Explanation), and what they leave in the lent buffer.
 use Rattle.std.specs.Prelude.{List, ◌∷◌, ℕ, length}
 use Rattle.answer.specs.Told.{Answer}
-use Rattle.answer.specs.declared.Written.{Written}
+use Rattle.answer.specs.Told.{Written}
 use Rattle.model.specs.Model.{Comp}
 use Rattle.model.specs.Text.{text_of}
 use Rattle.iosa.specs.InOrder.{◌▹◌, Gives, Leaves, accepted, room}

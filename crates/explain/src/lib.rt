@@ -1,10 +1,9 @@
 // Why a model is not confluent (02, 5/13): what the program `why` prints for a text, and the same of the model in a lent table.
 #![tactic(auto)]
 
-ghost use Rattle.std.specs.Prelude.{◌≡◌, ◌≤◌, length};
+ghost use Rattle.std.specs.Prelude.{◌≡◌, ◌≤◌, length, Err};
 ghost use Rattle.std.proofs.Math.Option.{none};
 ghost use Rattle.answer.specs.declared.Place.TheVariants as Place;
-ghost use Rattle.answer.specs.declared.Written.TheVariants as Written;
 ghost use Rattle.iosa.specs.Checks.{accept_of};
 ghost use Rattle.layout.specs.Image.{Image, model_of};
 ghost use Rattle.print.specs.Put.{Put};
@@ -12,12 +11,12 @@ ghost use Rattle.whys.specs.Explanation.{explain_model, explanation_of};
 ghost use Rattle.explaining.specs.Longest.{explanation_bytes};
 ghost use Rattle.explain.specs.Explain.{Puts, in_room, ExplainCall, ExplainTableCall};
 
-use answer::{Checked, Place, Refusal, Written};
+use answer::{Place, Refusal};
 
-fn too_short() -> Written
-    ensures { result ≡ Written.Refused (record { number = 24; place = Place.Bytes explanation_bytes }) }
+fn too_short() -> Result<usize, Refusal>
+    ensures { result ≡ Err (record { number = 24; place = Place.Bytes explanation_bytes }) }
 {
-    Written::Refused(Refusal {
+    Err(Refusal {
         number: 24,
         place: Place::Bytes(explaining::EXPLANATION),
     })
@@ -28,10 +27,9 @@ fn put_table(t: &[u64], out: &mut [u8]) -> usize
     requires { Image t.now × (explanation_bytes ≤ length out.old) }
     ensures { Put out.old 0 (explain_model (model_of t.now)) out.new result }
 {
-    let checked = admit::accept(t);
-    match checked {
-        Checked::Refused(f) => tell::put_refused(out, 0, f),
-        Checked::Fine => clashing::put_model(t, out),
+    match admit::accept(t) {
+        Err(f) => tell::put_refused(out, 0, f),
+        Ok(()) => clashing::put_model(t, out),
     }
 }
 
@@ -41,41 +39,37 @@ fn put_text(text: &[u8], out: &mut [u8]) -> usize
     ensures { Put out.old 0 (explanation_of text.now) out.new result }
 {
     let mut table = [0u64; layout::WORDS];
-    let checked = text::read(text, &mut table);
-    match checked {
-        Checked::Refused(f) => tell::put_refused(out, 0, f),
-        Checked::Fine => put_table(&table, out),
+    match text::read(text, &mut table) {
+        Err(f) => tell::put_refused(out, 0, f),
+        Ok(()) => put_table(&table, out),
     }
 }
 
 // Fills a lent buffer with what the program prints for this text.
-pub fn explain(text: &[u8], out: &mut [u8]) -> Written
+pub fn explain(text: &[u8], out: &mut [u8]) -> Result<usize, Refusal>
     ensures { ExplainCall text.now out.old out.new result }
 {
     if out.len() < explaining::EXPLANATION {
         return too_short();
     }
-    Written::Length(put_text(text, out))
+    Ok(put_text(text, out))
 }
 
 // 24, and else what is printed, of an accepted table.
-fn explained(t: &[u64], out: &mut [u8]) -> Written
+fn explained(t: &[u64], out: &mut [u8]) -> Result<usize, Refusal>
     requires { Image t.now × (accept_of (model_of t.now) ≡ none) }
     ensures { Puts (in_room (length out.old) (explain_model (model_of t.now))) out.old out.new result }
 {
     if out.len() < explaining::EXPLANATION {
         return too_short();
     }
-    Written::Length(clashing::put_model(t, out))
+    Ok(clashing::put_model(t, out))
 }
 
 // As `accept`, then 24; else `confluent`, or the clash that 18 names with the path to it and both orders.
-pub fn explain_table(table: &[u64], out: &mut [u8]) -> Written
+pub fn explain_table(table: &[u64], out: &mut [u8]) -> Result<usize, Refusal>
     ensures { ExplainTableCall table.now out.old out.new result }
 {
-    let checked = admit::accept(table);
-    match checked {
-        Checked::Refused(f) => Written::Refused(f),
-        Checked::Fine => explained(table, out),
-    }
+    admit::accept(table)?;
+    explained(table, out)
 }

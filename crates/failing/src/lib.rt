@@ -29,5 +29,5 @@ pub fn say(rt: &HostRuntime, what: &[u8], error: i32)
 {
     let mut line = [0u8; LINE];
     let end = put_failure(&mut line, what, error);
-    stream::write(rt, &mut rt.stderr(), &line[..end]);
+    let _ = stream::write(rt, &mut rt.stderr(), &line[..end]);
 }

@@ -8,14 +8,11 @@ use Rattle.draw.specs.declared.Law.{Law}
 use Rattle.draw.specs.declared.Law.TheVariants.{Uniform, Mixture}
 use Rattle.drawing.specs.Draws.{lent as numbers_of, draw_at, draw_of}
 use Rattle.distributions.specs.Found.{law_in}
-use Rattle.sampling.specs.declared.Draw.{Draw}
-use Rattle.sampling.specs.declared.Draw.TheVariants as OfDraw
-use Rattle.sampling.specs.Sampling.{from_law, takes_of, DrawIs, DrawGives}
+use Rattle.std.specs.Prelude.{Some, None}
+use Rattle.sampling.specs.Sampling.{from_law, takes_of}
 use Rattle.feed.specs.declared.Source.{Source}
 use Rattle.feed.specs.declared.Source.TheVariants.{Draws}
-use Rattle.feed.specs.declared.Taking.{Taking}
-use Rattle.feed.specs.declared.Taking.TheVariants.{Takes, Lacks}
-use Rattle.feed.specs.Supply.{lent, InFile, DrawTakes, Gives, Small, TakeCall}
+use Rattle.feed.specs.Supply.{lent, InFile, DrawTakes, Taking, Gives, Small, TakeCall}
 
 by-used : (o : Option Law) (f : ℕ → Option ℕ) (k : ℕ) → draw_of o f k ≡ from_law o f (takes_of o * k)
 unfolding draw_at
@@ -29,27 +26,19 @@ one_more (some (Mixture w a b c d)) k used u e f = omega arith
 
 module _ (t ns : List ℕ) (x at used : ℕ) where
   gives-drawn : (r : Taking) → DrawTakes t ns x at used r → (g : ℕ → Option ℕ) (k : ℕ) → InFile t ns x at used g k → Gives (lent Draws t ns) x g k r
-  gives-drawn (Takes n a u) e g k s =
+  gives-drawn (Some v) e g k s =
       let o = law_in t at in
       record {
         next = s.each k ∙ by-used o (numbers_of ns x) k ∙ ap (from_law o (numbers_of ns x)) (sym s.taken) ∙ e.1.ticks;
-        stands = subst (λ i. InFile t ns x i u g (suc k)) (sym e.0) (record { taken = one_more o k used u s.taken e.1.used; each = s.each });
+        stands = subst (λ i. InFile t ns x i v.used g (suc k)) (sym e.0) (record { taken = one_more o k used v.used s.taken e.1.used; each = s.each });
       }
-  gives-drawn (Lacks n a u) e g k s =
+  gives-drawn None e g k s =
       let o = law_in t at in
       s.each k ∙ by-used o (numbers_of ns x) k ∙ ap (from_law o (numbers_of ns x)) (sym s.taken) ∙ e
 
   small-drawn : (r : Taking) → DrawTakes t ns x at used r → Small r
-  small-drawn (Takes n a u) e = e.1.most
-  small-drawn (Lacks n a u) e = tt
+  small-drawn (Some v) e = e.1.most
+  small-drawn None e = tt
 
   pub takes-drawn : (from : Source) → from ≡ Draws → (r : Taking) → DrawTakes t ns x at used r → TakeCall (lent from t ns) x at used r
   takes-drawn from q r e = subst (λ s. TakeCall (lent s t ns) x at used r) (sym q) (record { small = small-drawn r e; gives = gives-drawn r e })
-
--- ---- by what is drawn
-module _ (o : Option Law) (f : ℕ → Option ℕ) (u : ℕ) (r : Draw) (draw : DrawGives o f u r) where
-  pub is-drawn : (v w : ℕ) → r ≡ OfDraw.Ticks v w → DrawIs o f u v w
-  is-drawn v w e = subst (DrawGives o f u) e draw
-
-  pub not-drawn : r ≡ OfDraw.Lacks → from_law o f u ≡ none
-  not-drawn e = subst (DrawGives o f u) e draw

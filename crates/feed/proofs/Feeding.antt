@@ -21,9 +21,9 @@ use Rattle.members.proofs.Walk.{Front, Rest, none_left}
 use Rattle.ticks.specs.Ticks.{Tick, Ticking}
 use Rattle.simulation.specs.Simulate.{Supply, each_from, taken_by, lacks, sampled, fed_at, counted_at}
 use Rattle.simulation.proofs.Each.{each-length, each_at}
-use Rattle.feed.specs.declared.Taking.{Taking}
-use Rattle.feed.specs.declared.Taking.TheVariants.{Takes, Lacks}
-use Rattle.feed.specs.Supply.{Lent, Stands, Supplies, Gives, TakeCall}
+use Rattle.std.specs.Prelude.{Some, None}
+use Rattle.feed.specs.declared.Taken.{Taken}
+use Rattle.feed.specs.Supply.{Lent, Stands, Supplies, Taking, Gives, TakeCall}
 use Rattle.feed.specs.Feeding.{Fed, FedCall}
 
 -- clock x of those in w: it has taken a sample, or waits or is due none
@@ -88,14 +88,14 @@ module _ (l : Lent) (w : ℕ) (at₀ used₀ : List ℕ) (was : List ℤ) where
 
     module _ (x : ℕ) (i : Front left x) where
       -- it has none left
-      pub walking-lacks : (r : Taking) → TakeCall l x (get_or at x 0) (get_or used x 0) r → (n a u : ℕ) → r ≡ Lacks n a u
-          → FedCall l w at₀ used₀ was x at used vs
-      walking-lacks r c n a u e = record {
+      pub walking-lacks : (r : Taking) → TakeCall l x (get_or at x 0) (get_or used x 0) r → r ≡ None
+          → FedCall l w at₀ used₀ was (Some x) at used vs
+      walking-lacks r c e = record {
         at_count = k.at_count;
         used-count = k.used-count;
         count = k.count;
         ticking = k.ticking;
-        fed = λ p ts s. subst (λ o. Fed o l p w ts was x at used vs) (sym (found p ts s)) refl;
+        fed = λ p ts s. subst (λ o. Fed o l p w ts was (Some x) at used vs) (sym (found p ts s)) refl;
       }
         where
           found : (p : Supply) (ts : List ℕ) → Supplies l p ts at₀ used₀ → least (lacks p w ts) max_clocks ≡ some x
@@ -105,22 +105,22 @@ module _ (l : Lent) (w : ℕ) (at₀ used₀ : List ℕ) (was : List ℤ) where
             before = λ y h. not_left p ts s y (omega (arith, i.below)) (i.first y h);
           })
             where
-              here : One l p w left ts was x (get_or at x 0) (get_or used x 0) (value_of vs x) → (q : Taking) → q ≡ Lacks n a u
+              here : One l p w left ts was x (get_or at x 0) (get_or used x 0) (value_of vs x) → (q : Taking) → q ≡ None
                   → (Stands l x (get_or at x 0) (get_or used x 0) (p.sample x) (taken_by ts x) → Gives l x (p.sample x) (taken_by ts x) q)
                   → lacks p w ts x ≡ true
               here (has-taken m j o z v st) q f g = absurd (true≢false (sym i.member ∙ o))
-              here (waits f z st) (Lacks n' a' u') h g = lacks-none p w ts x (k.within x i.member) (g st)
-              here (waits f z st) (Takes n' a' u') h g = let y : ◌≡◌ {A = ℕ} 0 1 = cc in absurd (omega arith)
+              here (waits f z st) None h g = lacks-none p w ts x (k.within x i.member) (g st)
+              here (waits f z st) (Some s) h g = let y : ◌≡◌ {A = ℕ} 0 1 = cc in absurd (omega arith)
 
       -- it takes one
-      module _ (n a u : ℕ) (c : TakeCall l x (get_or at x 0) (get_or used x 0) (Takes n a u)) where
-        taking : (v : ℤ) → v ≡ pos n → (t : ℕ) → Rest left x t
-            → Walking l w at₀ used₀ was t (set at x a) (set used x u) (set vs x v)
+      module _ (o : Taken) (c : TakeCall l x (get_or at x 0) (get_or used x 0) (Some o)) where
+        taking : (v : ℤ) → v ≡ pos o.ticks → (t : ℕ) → Rest left x t
+            → Walking l w at₀ used₀ was t (set at x o.at) (set used x o.used) (set vs x v)
         taking v ev t r = record {
           fits = r.fits;
           within = λ y h. k.within y (sym (r.same y (λ q. true≢false (sym h ∙ ap (has t) q ∙ r.gone))) ∙ h);
-          at_count = length-set at x a ∙ k.at_count;
-          used-count = length-set used x u ∙ k.used-count;
+          at_count = length-set at x o.at ∙ k.at_count;
+          used-count = length-set used x o.used ∙ k.used-count;
           was-count = k.was-count;
           count = length-set vs x v ∙ k.count;
           ticking = λ d q. record { count = length-set vs x v ∙ k.count; each = λ y h. by_cases (ℕ_discrete y x) tick-here (λ m. rw (get_or-set_other vs x y v (pos 0) m) ((k.ticking d q).each y h)) };
@@ -128,32 +128,32 @@ module _ (l : Lent) (w : ℕ) (at₀ used₀ : List ℕ) (was : List ℤ) where
         }
           where
             tick-here : {y : ℕ} → y ≡ x → Tick (value_of (set vs x v) y)
-            tick-here {y} q = subst Tick (sym (ap (λ m. value_of (set vs x v) m) q ∙ get_or-set_same vs x v (pos 0) (omega (arith, k.count, i.below)) ∙ ev)) (count-tick n c.small)
+            tick-here {y} q = subst Tick (sym (ap (λ m. value_of (set vs x v) m) q ∙ get_or-set_same vs x v (pos 0) (omega (arith, k.count, i.below)) ∙ ev)) (count-tick o.ticks c.small)
 
             here : (p : Supply) (ts : List ℕ) → Supplies l p ts at₀ used₀ → {y : ℕ} → y ≡ x
-                → One l p w t ts was y (get_or (set at x a) y 0) (get_or (set used x u) y 0) (value_of (set vs x v) y)
+                → One l p w t ts was y (get_or (set at x o.at) y 0) (get_or (set used x o.used) y 0) (value_of (set vs x v) y)
             here p ts s {y} q =
-                rw (q, get_or-set_same at x a 0 (omega (arith, k.at_count, i.below)), get_or-set_same used x u 0 (omega (arith, k.used-count, i.below)), get_or-set_same vs x v (pos 0) (omega (arith, k.count, i.below)))
+                rw (q, get_or-set_same at x o.at 0 (omega (arith, k.at_count, i.below)), get_or-set_same used x o.used 0 (omega (arith, k.used-count, i.below)), get_or-set_same vs x v (pos 0) (omega (arith, k.count, i.below)))
                 (go (k.each p ts s x i.below))
               where
-                go : One l p w left ts was x (get_or at x 0) (get_or used x 0) (value_of vs x) → One l p w t ts was x a u v
-                go (has-taken m j o z w' st) = absurd (true≢false (sym i.member ∙ o))
+                go : One l p w left ts was x (get_or at x 0) (get_or used x 0) (value_of vs x) → One l p w t ts was x o.at o.used v
+                go (has-taken m j q' z w' st) = absurd (true≢false (sym i.member ∙ q'))
                 go (waits f z st) =
                     let g = c.gives (p.sample x) (taken_by ts x) st in
-                    has-taken n (k.within x i.member) r.gone g.next ev g.stands
+                    has-taken o.ticks (k.within x i.member) r.gone g.next ev g.stands
 
             other : (p : Supply) (ts : List ℕ) → Supplies l p ts at₀ used₀ → (y : ℕ) → y < max_clocks → (y ≡ x → ⊥)
                 → One l p w left ts was y (get_or at y 0) (get_or used y 0) (value_of vs y)
-                → One l p w t ts was y (get_or (set at x a) y 0) (get_or (set used x u) y 0) (value_of (set vs x v) y)
-            other p ts s y h m o = rw (get_or-set_other at x y a 0 m, get_or-set_other used x y u 0 m, get_or-set_other vs x y v (pos 0) m) (go o)
+                → One l p w t ts was y (get_or (set at x o.at) y 0) (get_or (set used x o.used) y 0) (value_of (set vs x v) y)
+            other p ts s y h m b = rw (get_or-set_other at x y o.at 0 m, get_or-set_other used x y o.used 0 m, get_or-set_other vs x y v (pos 0) m) (go b)
               where
                 go : One l p w left ts was y (get_or at y 0) (get_or used y 0) (value_of vs y) → One l p w t ts was y (get_or at y 0) (get_or used y 0) (value_of vs y)
                 go (has-taken m' j o' z w' st) = has-taken m' j (r.same y m ∙ o') z w' st
                 go (waits f z st) = waits (λ j. r.same y m ∙ f j) z st
 
-      pub walking-takes : (r : Taking) → TakeCall l x (get_or at x 0) (get_or used x 0) r → (n a u : ℕ) → r ≡ Takes n a u → (v : ℤ) → v ≡ pos n → (t : ℕ) → Rest left x t
-          → Walking l w at₀ used₀ was t (set at x a) (set used x u) (set vs x v)
-      walking-takes r c n a u e = taking n a u (subst (TakeCall l x (get_or at x 0) (get_or used x 0)) e c)
+      pub walking-takes : (r : Taking) → TakeCall l x (get_or at x 0) (get_or used x 0) r → (s : Taken) → r ≡ Some s → (v : ℤ) → v ≡ pos s.ticks → (t : ℕ) → Rest left x t
+          → Walking l w at₀ used₀ was t (set at x s.at) (set used x s.used) (set vs x v)
+      walking-takes r c s e = taking s (subst (TakeCall l x (get_or at x 0) (get_or used x 0)) e c)
 
     -- ---- nothing is left
     module _ (z : left ≡ 0) where
@@ -181,14 +181,14 @@ module _ (l : Lent) (w : ℕ) (at₀ used₀ : List ℕ) (was : List ℤ) where
           by (waits f e st) true q = absurd (true≢false (sym (f q) ∙ none_left left y z))
           by (waits f e st) false q = rw q st
 
-      pub walking-end : FedCall l w at₀ used₀ was max_clocks at used vs
+      pub walking-end : FedCall l w at₀ used₀ was None at used vs
       walking-end = record {
         at_count = k.at_count;
         used-count = k.used-count;
         count = k.count;
         ticking = k.ticking;
-        fed = λ p ts s. subst (λ o. Fed o l p w ts was max_clocks at used vs) (sym (none-lacks p ts s)) (record {
-          limit = refl;
+        fed = λ p ts s. subst (λ o. Fed o l p w ts was None at used vs) (sym (none-lacks p ts s)) (record {
+          none_lacks = refl;
           values =
               ext_get_or (pos 0) vs (each_from (fed_at p w ts) 0 was)
               (k.count ∙ sym (each-length (fed_at p w ts) (pos 0) 0 was ∙ k.was-count))

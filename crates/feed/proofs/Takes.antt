@@ -12,9 +12,9 @@ use Rattle.samples.specs.Lines.{Left, over, more}
 use Rattle.samples.proofs.SampleLaws.{field_is}
 use Rattle.feed.specs.declared.Source.{Source}
 use Rattle.feed.specs.declared.Source.TheVariants.{Lists}
-use Rattle.feed.specs.declared.Taking.{Taking}
-use Rattle.feed.specs.declared.Taking.TheVariants.{Takes, Lacks}
-use Rattle.feed.specs.Supply.{lent, InList, ListTakes, Gives, Small, TakeCall}
+use Rattle.std.specs.Prelude.{Some, None}
+use Rattle.feed.specs.Supply.{lent, InList, ListTakes, Taking, Gives, Small, TakeCall}
+use Rattle.feed.specs.declared.Taken.{Taken}
 
 abbrev rest_or : Scan ℕ → List ℕ
 rest_or (is g) = g.rest
@@ -39,8 +39,8 @@ none_of (more e l) cs f = let z : ◌≡◌ {A = ℕ} 0 1 = cc in absurd (omega 
 module _ (t ns : List ℕ) (x at used : ℕ) where
   gives-listed : (r : Taking) → ListTakes t at r → (g : ℕ → Option ℕ) (k : ℕ) → InList t at g k → Gives (lent Lists t ns) x g k r
   unfolding nth
-  gives-listed (Takes n a u) e g k s =
-      let f = first-of s.left n (drop a t) e in
+  gives-listed (Some v) e g k s =
+      let f = first-of s.left v.ticks (drop v.at t) e in
       let zero-on : k ≡ k + 0 = omega arith in
       record {
         next = ap g zero-on ∙ s.each 0 ∙ ap (λ l. nth l 0) f.1;
@@ -50,20 +50,20 @@ module _ (t ns : List ℕ) (x at used : ℕ) where
           each = λ j. let on : suc k + j ≡ k + suc j = omega arith in ap g on ∙ s.each (suc j) ∙ ap (λ l. nth l (suc j)) f.1;
         };
       }
-  gives-listed (Lacks n a u) e g k s =
+  gives-listed None e g k s =
       let zero-on : k ≡ k + 0 = omega arith in
-      ap g zero-on ∙ s.each 0 ∙ ap (λ l. nth l 0) (none_of s.left (drop a t) e)
+      ap g zero-on ∙ s.each 0 ∙ ap (λ l. nth l 0) (none_of s.left e.0 e.1)
 
   small-listed : (r : Taking) → ListTakes t at r → Small r
-  small-listed (Takes n a u) e = (field_is (drop at t) n (drop a t) e).most
-  small-listed (Lacks n a u) e = tt
+  small-listed (Some v) e = (field_is (drop at t) v.ticks (drop v.at t) e).most
+  small-listed None e = tt
 
   pub takes-listed : (from : Source) → from ≡ Lists → (r : Taking) → ListTakes t at r → TakeCall (lent from t ns) x at used r
   takes-listed from q r e = subst (λ s. TakeCall (lent s t ns) x at used r) (sym q) (record { small = small-listed r e; gives = gives-listed r e })
 
 -- a sample taken fits a clock's value
-pub takes-small : (r : Taking) → Small r → (n a u : ℕ) → r ≡ Takes n a u → n < 2 ^ 63
-takes-small r s n a u e = go (subst Small e s)
+pub takes-small : (r : Taking) → Small r → (s : Taken) → r ≡ Some s → s.ticks < 2 ^ 63
+takes-small r h s e = go (subst Small e h)
   where
-    go : n ≤ max_ticks → n < 2 ^ 63
+    go : s.ticks ≤ max_ticks → s.ticks < 2 ^ 63
     go h = omega arith

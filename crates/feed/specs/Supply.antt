@@ -1,5 +1,6 @@
 -- Where a simulation's samples stand: of each source what a clock takes next, and what is left then. Only here lists are told from other sources.
-use Rattle.std.specs.Prelude.{◌≡◌, List, ℕ, suc, ◌+◌, ◌*◌, ◌≤◌, ◌<◌, length, get_or, drop}
+use Rattle.std.specs.Prelude as Answered
+use Rattle.std.specs.Prelude.{Some, None, IfSome, ◌≡◌, List, ℕ, suc, ◌+◌, ◌*◌, ◌≤◌, ◌<◌, length, get_or, drop}
 use Rattle.std.proofs.Math.Option.{Option, none, some}
 use Rattle.answer.specs.Limits.{max_clocks, max_ticks}
 use Rattle.model.specs.Reading.{stops, got, field}
@@ -11,8 +12,7 @@ use Rattle.distributions.specs.Found.{law_in}
 use Rattle.sampling.specs.Sampling.{from_law, takes_of, DrawIs}
 use Rattle.feed.specs.declared.Source.{Source}
 use Rattle.feed.specs.declared.Source.TheVariants.{Lists, Draws}
-use Rattle.feed.specs.declared.Taking.{Taking}
-use Rattle.feed.specs.declared.Taking.TheVariants.{Takes, Lacks}
+use Rattle.feed.specs.declared.Taken.{Taken}
 
 -- what is lent of samples: their source, a text, and numbers
 pub record Lent : Type 0 where
@@ -52,30 +52,32 @@ pub record Supplies (l : Lent) (p : Supply) (ts at used : List ℕ) : Type 0 whe
   pub number : p.ran_out ≡ ran_out_of l.source
   pub each : (x : ℕ) → x < max_clocks → Stands l x (get_or at x 0) (get_or used x 0) (p.sample x) (taken_by ts x)
 
--- ---- one sample
+-- ---- one sample: what is taken, or nothing where none is left
+abbrev pub Taking : Type 0
+Taking = Answered.Option Taken
+
 -- of `listed`
 abbrev pub ListTakes : List ℕ → ℕ → Taking → Type 0
-ListTakes t at (Takes n a u) = field sample_at (drop at t) ≡ got n (drop a t)
-ListTakes t at (Lacks n a u) = field sample_at (drop at t) ≡ stops (drop a t)
+ListTakes t at (Some s) = field sample_at (drop at t) ≡ got s.ticks (drop s.at t)
+ListTakes t at None = (cs : List ℕ) × (field sample_at (drop at t) ≡ stops cs)
 
 -- of `drawn`
 abbrev pub DrawTakes : List ℕ → List ℕ → ℕ → ℕ → ℕ → Taking → Type 0
-DrawTakes t ns x at used (Takes n a u) = (a ≡ at) × DrawIs (law_in t at) (numbers_of ns x) used n u
-DrawTakes t ns x at used (Lacks n a u) = from_law (law_in t at) (numbers_of ns x) used ≡ none
+DrawTakes t ns x at used (Some s) = (s.at ≡ at) × DrawIs (law_in t at) (numbers_of ns x) used s.ticks s.used
+DrawTakes t ns x at used None = from_law (law_in t at) (numbers_of ns x) used ≡ none
 
 -- clock x, whose samples are g k, g (k + 1), .., takes the first of them
-pub record TakesNext (l : Lent) (x : ℕ) (g : ℕ → Option ℕ) (k n a u : ℕ) : Type 0 where
-  pub next : g k ≡ some n
-  pub stands : Stands l x a u g (suc k)
+pub record TakesNext (l : Lent) (x : ℕ) (g : ℕ → Option ℕ) (k : ℕ) (s : Taken) : Type 0 where
+  pub next : g k ≡ some s.ticks
+  pub stands : Stands l x s.at s.used g (suc k)
 
 abbrev pub Gives : Lent → ℕ → (ℕ → Option ℕ) → ℕ → Taking → Type 0
-Gives l x g k (Takes n a u) = TakesNext l x g k n a u
-Gives l x g k (Lacks n a u) = g k ≡ none
+Gives l x g k (Some s) = TakesNext l x g k s
+Gives l x g k None = g k ≡ none
 
 -- "samples are 1 to 2^40"
 abbrev pub Small : Taking → Type 0
-Small (Takes n a u) = n ≤ max_ticks
-Small (Lacks n a u) = Unit {0}
+Small r = IfSome r (λ s. s.ticks ≤ max_ticks)
 
 -- of `take`
 pub record TakeCall (l : Lent) (x at used : ℕ) (r : Taking) : Type 0 where

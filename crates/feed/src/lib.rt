@@ -7,8 +7,7 @@ ghost use Rattle.feed.specs.Supply.{lent, ListTakes, DrawTakes, TakeCall, ran_ou
 ghost use Rattle.feed.specs.Feeding.{FedCall};
 
 use answer::Model;
-use fields::{Cursor, NumberScan};
-use sampling::Draw;
+use fields::Cursor;
 
 // Where samples come from: the lists of a text, or draws from the distributions of a file by lent numbers.
 #[derive(Clone, Copy)]
@@ -17,11 +16,12 @@ pub enum Source {
     Draws,
 }
 
-// What a clock takes, where its next sample stands then, and how many numbers it has used; or it has none left.
-#[derive(Drop)]
-pub enum Taking {
-    Takes(u64, usize, usize),
-    Lacks(u64, usize, usize),
+// What a clock takes, where its next sample stands then, and how many numbers it has used.
+#[derive(Clone, Copy)]
+pub struct Taken {
+    pub ticks: u64,
+    pub at: usize,
+    pub used: usize,
 }
 
 // The number that says that samples ran out.
@@ -34,29 +34,31 @@ pub fn ran_out(from: Source) -> u8
     }
 }
 
-// The next sample of a list.
-fn listed(text: &[u8], at: usize, used: usize) -> Taking
+// The next sample of a list, if there is one left.
+fn listed(text: &[u8], at: usize, used: usize) -> Option<Taken>
     ensures { ListTakes text.now at result }
 {
     match samples::next(text, Cursor { at }) {
-        NumberScan::Is(d, n) => Taking::Takes(n, d.at, used),
-        NumberScan::Missing(d, n) => Taking::Lacks(n, d.at, used),
+        Ok((d, ticks)) => Some(Taken {
+            ticks,
+            at: d.at,
+            used,
+        }),
+        Err(_) => None,
     }
 }
 
 // The next draw of clock x: its distribution stays where it is.
-fn drawn(text: &[u8], numbers: &[u64], x: u64, at: usize, used: usize) -> Taking
+fn drawn(text: &[u8], numbers: &[u64], x: u64, at: usize, used: usize) -> Option<Taken>
     requires { x < max_clocks }
     ensures { DrawTakes text.now numbers.now x at used result }
 {
-    match sampling::draw_at(text, numbers, x, at, used) {
-        Draw::Ticks(n, u) => Taking::Takes(n, at, u),
-        Draw::Lacks => Taking::Lacks(0, at, used),
-    }
+    let (ticks, used) = sampling::draw_at(text, numbers, x, at, used)?;
+    Some(Taken { ticks, at, used })
 }
 
 // The next sample of clock x.
-fn take(from: Source, text: &[u8], numbers: &[u64], x: u64, at: usize, used: usize) -> Taking
+fn take(from: Source, text: &[u8], numbers: &[u64], x: u64, at: usize, used: usize) -> Option<Taken>
     requires { x < max_clocks }
     ensures { TakeCall (lent from text.now numbers.now) x at used result }
 {
@@ -66,7 +68,7 @@ fn take(from: Source, text: &[u8], numbers: &[u64], x: u64, at: usize, used: usi
     }
 }
 
-// Each clock of w, from the lowest on, takes its next sample; the first that has none left, or the limit.
+// Each clock of w, from the lowest on, takes its next sample; the first that has none left.
 pub fn fed(
     from: Source,
     text: &[u8],
@@ -75,7 +77,7 @@ pub fn fed(
     used: &mut [usize; Model::CLOCKS],
     w: u64,
     values: &mut [i64],
-) -> u64
+) -> Option<u64>
     requires { (length at.old ≡ max_clocks) × (length used.old ≡ max_clocks) × (length values.old ≡ max_clocks) }
     ensures { FedCall (lent from text.now numbers.now) w at.old used.old values.old result
         at.new used.new values.new }
@@ -85,17 +87,16 @@ pub fn fed(
         let x = sets::lowest(left);
         let i = x as usize;
         match take(from, text, numbers, x, at[i], used[i]) {
-            Taking::Takes(n, a, u) => {
-                let v = n as i64;
-                values[i] = v;
-                at[i] = a;
-                used[i] = u;
+            Some(s) => {
+                values[i] = s.ticks as i64;
+                at[i] = s.at;
+                used[i] = s.used;
             }
-            Taking::Lacks(_, _, _) => {
-                return x;
+            None => {
+                return Some(x);
             }
         }
         left = sets::minus(left, sets::single(x));
     }
-    Model::CLOCKS as u64
+    None
 }

@@ -8,8 +8,7 @@ use lib.ListN.{length, get_or, drop, length-drop}
 use Rattle.model.specs.Text.{comma}
 use Rattle.model.specs.Reading.{Scan, stops, got, number, more_numbers}
 use Rattle.fields.specs.declared.Cursor.{Cursor}
-use Rattle.fields.specs.declared.NumberScan.{NumberScan}
-use Rattle.fields.specs.declared.NumberScan.TheVariants as OfNumber
+use Rattle.std.specs.Prelude.{Result, Ok, Err}
 use Rattle.fields.specs.Fields.{got_number}
 use Rattle.fields.specs.Resets.{valued}
 use Rattle.fields.proofs.NumberLaws.{number-shortens, numbers-end, numbers-other, numbers-missing, numbers_more}
@@ -38,11 +37,11 @@ module _ {A : Type 0} (with : A → ℕ → A) (all : A → List ℕ → A) (not
       gathered-other e = sym (numbers-other with all nothing one t s at g.turns h e) ∙ g.same
 
       -- ---- behind a comma
-      module _ (e : get_or t at 0 ≡ comma) (r : NumberScan) (scan : got_number t r ≡ number (drop (at + 1) t)) where
-        pub gathered-missing : (m : Cursor) (n : ℕ) → r ≡ OfNumber.Missing m n → stops (drop m.at t) ≡ kept all t s₀ at₀
-        gathered-missing m n is = sym (numbers-missing with all nothing one t s at g.turns h e g.enough (sym scan ∙ ap (got_number t) is)) ∙ g.same
+      module _ (e : get_or t at 0 ≡ comma) (r : Result (Cursor × ℕ) Cursor) (scan : got_number t r ≡ number (drop (at + 1) t)) where
+        pub gathered-missing : (m : Cursor) → r ≡ Err m → stops (drop m.at t) ≡ kept all t s₀ at₀
+        gathered-missing m is = sym (numbers-missing with all nothing one t s at g.turns h e g.enough (sym scan ∙ ap (got_number t) is)) ∙ g.same
 
-        module _ (n : ℕ) (next : Cursor) (is : r ≡ OfNumber.Is next n) where
+        module _ (n : ℕ) (next : Cursor) (is : r ≡ Ok (next, n)) where
           read : number (drop (at + 1) t) ≡ got n (drop next.at t)
           read = sym scan ∙ ap (got_number t) is
 

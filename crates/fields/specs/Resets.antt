@@ -1,11 +1,11 @@
 -- What reading needs of the numbers of a resets field ("`-`, or clocks strictly ascending, joined by commas"), gathered from left to right.
-use Rattle.std.specs.Prelude.{true, false, ◌&&◌, cond, List, [], ◌∷◌, ℕ, drop, ltb}
+use Rattle.std.specs.Prelude.{true, false, ◌&&◌, cond, List, [], ◌∷◌, ℕ, ltb, Result}
 use Rattle.laws.specs.Sets.{◌∪◌, only}
 use Rattle.answer.specs.Limits.{max_clocks}
 use Rattle.model.specs.Reading.{Scan, is, stops, got}
 use Rattle.fields.specs.declared.Resets.{Resets}
-use Rattle.fields.specs.declared.ResetsScan.{ResetsScan}
-use Rattle.fields.specs.declared.ResetsScan.TheVariants as OfResets
+use Rattle.fields.specs.declared.Cursor.{Cursor}
+use Rattle.fields.specs.Fields.{scanned}
 
 abbrev pub none_yet : Resets
 none_yet = record { clocks = true; ascend = true; last = 0; set = 0 }
@@ -35,6 +35,5 @@ abbrev pub valued : {A B : Type 0} → (A → B) → Scan A → Scan B
 valued f (stops cs) = stops cs
 valued f (is g) = got (f g.value) g.rest
 
-abbrev pub got_resets : List ℕ → ResetsScan → Scan Resets
-got_resets t (OfResets.Is c s) = got s (drop c.at t)
-got_resets t (OfResets.Missing c) = stops (drop c.at t)
+abbrev pub got_resets : List ℕ → Result (Cursor × Resets) Cursor → Scan Resets
+got_resets t r = scanned (λ s. s) t r

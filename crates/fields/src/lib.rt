@@ -2,8 +2,8 @@
 #![tactic(auto)]
 
 ghost use Rattle.std.specs.Prelude.{◌≡◌, List, ℕ, ◌-◌, ◌≤◌, ◌<◌, length, drop};
-ghost use Rattle.model.specs.Reading.{is, shorter, exactly, the_byte, is_digit, more_digits, number as number_of, guard_or_dash, kind as kind_scan, more_numbers, numbers_or_dash, field};
-ghost use Rattle.fields.specs.Fields.{past, got_number, got_guard, got_kind};
+ghost use Rattle.model.specs.Reading.{shorter, exactly, the_byte, is_digit, more_digits, number as number_of, guard_or_dash, kind as kind_scan, more_numbers, numbers_or_dash, field};
+ghost use Rattle.fields.specs.Fields.{past, taken, got_number, got_guard, got_kind};
 ghost use Rattle.fields.specs.Resets.{got_resets, valued, first, with, with_all, summary};
 
 use answer::Model;
@@ -34,30 +34,14 @@ impl Sign {
 // "Numbers are decimal, 1 to 5 digits".
 pub const DIGITS: usize = 5;
 
-#[derive(Drop)]
-pub enum Step {
-    Past(Cursor),
-    Missing(Cursor),
-}
-
-// Where there is no number it is 0: with both cases alike in memory the compiler keeps them in registers, and a good text is read no slower for the cursor.
-#[derive(Drop)]
-pub enum NumberScan {
-    Is(Cursor, u64),
-    Missing(Cursor, u64),
-}
+// What a scan answers: the cursor behind what it took, with its value, or the cursor at which it stopped.
+pub type Scan<T> = Result<(Cursor, T), Cursor>;
 
 // "guard (a clock or `-`)".
 #[derive(Clone, Copy)]
 pub enum Guard {
     Dash,
     Clock(u64),
-}
-
-#[derive(Drop)]
-pub enum GuardScan {
-    Is(Cursor, Guard),
-    Missing(Cursor),
 }
 
 // "`in`, `out`, `uin` or `uout`".
@@ -69,12 +53,6 @@ pub enum Kind {
     Uout,
 }
 
-#[derive(Drop)]
-pub enum KindScan {
-    Is(Cursor, Kind),
-    Missing(Cursor),
-}
-
 // What reading needs of the numbers of a resets field: that all of them are clocks, that they ascend, the last one, and the set.
 #[derive(Clone, Copy)]
 pub struct Resets {
@@ -84,40 +62,29 @@ pub struct Resets {
     pub set: u64,
 }
 
-#[derive(Drop)]
-pub enum ResetsScan {
-    Is(Cursor, Resets),
-    Missing(Cursor),
-}
-
-pub fn byte(text: &[u8], c: Cursor, b: u8) -> Step
+pub fn byte(text: &[u8], c: Cursor, b: u8) -> Result<Cursor, Cursor>
     ensures { past text.now result ≡ the_byte b (drop c.at text.now) }
 {
     let at = c.at;
     if at < text.len() {
         if text[at] == b {
-            return Step::Past(Cursor { at: at + 1 });
+            return Ok(Cursor { at: at + 1 });
         }
     }
-    Step::Missing(c)
+    Err(c)
 }
 
-pub fn word(text: &[u8], c: Cursor, w: &[u8]) -> Step
+pub fn word(text: &[u8], c: Cursor, w: &[u8]) -> Result<Cursor, Cursor>
     ensures { past text.now result ≡ exactly w.now (drop c.at text.now) }
 {
     let mut at = c.at;
-    let mut i = 0;
-    while i < w.len() {
-        if text.len() <= at {
-            return Step::Missing(Cursor { at });
+    for b in w {
+        if text.len() <= at || *b != text[at] {
+            return Err(Cursor { at });
         }
-        if w[i] != text[at] {
-            return Step::Missing(Cursor { at });
-        }
-        i += 1;
         at += 1;
     }
-    Step::Past(Cursor { at })
+    Ok(Cursor { at })
 }
 
 pub fn is_digit(b: u8) -> bool
@@ -127,65 +94,59 @@ pub fn is_digit(b: u8) -> bool
 }
 
 // The digits behind the first of a number that has no more than `most`.
-pub fn more_digits(text: &[u8], first: u64, c: Cursor, most: usize) -> NumberScan
+pub fn more_digits(text: &[u8], first: u64, c: Cursor, most: usize) -> (Cursor, u64)
     requires { (first < 10) × (1 ≤ most) × (most ≤ 19) }
-    ensures { got_number text.now result ≡ is (more_digits (most - 1) first (drop c.at text.now)) }
+    ensures { taken text.now result ≡ more_digits (most - 1) first (drop c.at text.now) }
 {
     let mut n = first;
     let mut at = c.at;
-    let mut k = 1;
-    while k < most {
+    for k in 1..most {
         if text.len() <= at {
-            return NumberScan::Is(Cursor { at }, n);
+            return (Cursor { at }, n);
         }
         let b = text[at];
         if !is_digit(b) {
-            return NumberScan::Is(Cursor { at }, n);
+            return (Cursor { at }, n);
         }
         n = n * 10 + (b - Sign::ZERO) as u64;
         at += 1;
-        k += 1;
     }
-    NumberScan::Is(Cursor { at }, n)
+    (Cursor { at }, n)
 }
 
-pub fn number(text: &[u8], c: Cursor) -> NumberScan
+pub fn number(text: &[u8], c: Cursor) -> Scan<u64>
     ensures { got_number text.now result ≡ number_of (drop c.at text.now) }
 {
     let at = c.at;
     if text.len() <= at {
-        return NumberScan::Missing(c, 0);
+        return Err(c);
     }
     let b = text[at];
     if !is_digit(b) {
-        return NumberScan::Missing(c, 0);
+        return Err(c);
     }
     if b == Sign::ZERO {
-        return NumberScan::Is(Cursor { at: at + 1 }, 0);
+        return Ok((Cursor { at: at + 1 }, 0));
     }
-    more_digits(text, (b - Sign::ZERO) as u64, Cursor { at: at + 1 }, DIGITS)
+    Ok(more_digits(text, (b - Sign::ZERO) as u64, Cursor { at: at + 1 }, DIGITS))
 }
 
 // A number behind a tab.
-pub fn number_field(text: &[u8], c: Cursor) -> NumberScan
+pub fn number_field(text: &[u8], c: Cursor) -> Scan<u64>
     ensures { got_number text.now result ≡ field number_of (drop c.at text.now) }
 {
-    match byte(text, c, Sign::TAB) {
-        Step::Past(d) => number(text, d),
-        Step::Missing(e) => NumberScan::Missing(e, 0),
-    }
+    let d = byte(text, c, Sign::TAB)?;
+    number(text, d)
 }
 
-pub fn guard_of(text: &[u8], c: Cursor) -> GuardScan
+pub fn guard_of(text: &[u8], c: Cursor) -> Scan<Guard>
     ensures { got_guard text.now result ≡ guard_or_dash (drop c.at text.now) }
 {
-    if let Step::Past(d) = byte(text, c, Sign::DASH) {
-        return GuardScan::Is(d, Guard::Dash);
+    if let Ok(d) = byte(text, c, Sign::DASH) {
+        return Ok((d, Guard::Dash));
     }
-    match number(text, c) {
-        NumberScan::Is(end, n) => GuardScan::Is(end, Guard::Clock(n)),
-        NumberScan::Missing(e, _) => GuardScan::Missing(e),
-    }
+    let (end, n) = number(text, c)?;
+    Ok((end, Guard::Clock(n)))
 }
 
 // Of two places where scans of the same bytes stopped, the one further on.
@@ -196,18 +157,18 @@ pub fn further(a: Cursor, b: Cursor) -> Cursor
 }
 
 // Where none of the four words stands, the one that got furthest tells where it stops.
-pub fn kind_of(text: &[u8], c: Cursor) -> KindScan
+pub fn kind_of(text: &[u8], c: Cursor) -> Scan<Kind>
     ensures { got_kind text.now result ≡ kind_scan (drop c.at text.now) }
 {
     match word(text, c, b"in") {
-        Step::Past(d) => KindScan::Is(d, Kind::In),
-        Step::Missing(i) => match word(text, c, b"out") {
-            Step::Past(d) => KindScan::Is(d, Kind::Out),
-            Step::Missing(o) => match word(text, c, b"uin") {
-                Step::Past(d) => KindScan::Is(d, Kind::Uin),
-                Step::Missing(ui) => match word(text, c, b"uout") {
-                    Step::Past(d) => KindScan::Is(d, Kind::Uout),
-                    Step::Missing(uo) => KindScan::Missing(further(i, further(o, further(ui, uo)))),
+        Ok(d) => Ok((d, Kind::In)),
+        Err(i) => match word(text, c, b"out") {
+            Ok(d) => Ok((d, Kind::Out)),
+            Err(o) => match word(text, c, b"uin") {
+                Ok(d) => Ok((d, Kind::Uin)),
+                Err(ui) => match word(text, c, b"uout") {
+                    Ok(d) => Ok((d, Kind::Uout)),
+                    Err(uo) => Err(further(i, further(o, further(ui, uo)))),
                 },
             },
         },
@@ -256,7 +217,7 @@ fn with_reset(s: Resets, n: u64) -> Resets
 }
 
 // Further numbers, each behind a comma.
-fn more_resets(text: &[u8], s: Resets, c: Cursor) -> ResetsScan
+fn more_resets(text: &[u8], s: Resets, c: Cursor) -> Scan<Resets>
     ensures { got_resets text.now result
         ≡ valued (with_all s) (more_numbers (length (drop c.at text.now)) (drop c.at text.now)) }
 {
@@ -264,27 +225,20 @@ fn more_resets(text: &[u8], s: Resets, c: Cursor) -> ResetsScan
     let mut at = c.at;
     while at < text.len() {
         if text[at] != Sign::COMMA {
-            return ResetsScan::Is(Cursor { at }, sum);
+            return Ok((Cursor { at }, sum));
         }
-        match number(text, Cursor { at: at + 1 }) {
-            NumberScan::Is(next, n) => {
-                let more = with_reset(sum, n);
-                sum = more;
-                at = next.at;
-            }
-            NumberScan::Missing(e, _) => {
-                return ResetsScan::Missing(e);
-            }
-        }
+        let (next, n) = number(text, Cursor { at: at + 1 })?;
+        sum = with_reset(sum, n);
+        at = next.at;
     }
-    ResetsScan::Is(Cursor { at }, sum)
+    Ok((Cursor { at }, sum))
 }
 
-pub fn resets_of(text: &[u8], c: Cursor) -> ResetsScan
+pub fn resets_of(text: &[u8], c: Cursor) -> Scan<Resets>
     ensures { got_resets text.now result ≡ valued summary (numbers_or_dash (drop c.at text.now)) }
 {
-    if let Step::Past(d) = byte(text, c, Sign::DASH) {
-        return ResetsScan::Is(
+    if let Ok(d) = byte(text, c, Sign::DASH) {
+        return Ok((
             d,
             Resets {
                 clocks: true,
@@ -292,10 +246,8 @@ pub fn resets_of(text: &[u8], c: Cursor) -> ResetsScan
                 last: 0,
                 set: 0,
             },
-        );
+        ));
     }
-    match number(text, c) {
-        NumberScan::Is(end, n) => more_resets(text, first_reset(n), end),
-        NumberScan::Missing(e, _) => ResetsScan::Missing(e),
-    }
+    let (end, n) = number(text, c)?;
+    more_resets(text, first_reset(n), end)
 }

@@ -1,5 +1,5 @@
 -- What the values of the enabling clocks decide, from what the loops over them find.
-use mathlib.Core.Path.{◌≡◌, refl, sym, ◌∙◌, ap, ap₂}
+use mathlib.Core.Path.{◌≡◌, refl, sym, ◌∙◌, ap, ap₂, subst}
 use mathlib.Core.Option.{Option, none, some}
 use mathlib.Core.Bool.{Bool, true, false}
 use mathlib.Core.List.{List, [], ◌∷◌}
@@ -13,69 +13,62 @@ use Rattle.laws.proofs.SearchLaws.{least-some, least-none}
 use Rattle.laws.proofs.TestLaws.{and-true, and-false}
 use Rattle.laws.specs.Sets.{◌∈◌}
 use Rattle.answer.specs.Limits.{max_clocks}
-use Rattle.answer.specs.Told.{tell, Answer, answered, refused}
+use Rattle.std.specs.Prelude.{Some, None, Ok, Err}
+use Rattle.answer.specs.Told.{tell, told, values_at, Answer, answered, refused}
+use Rattle.answer.specs.declared.Refusal.{Refusal}
 use Rattle.model.specs.Model.{Model}
 use Rattle.timing.specs.Timed.{below_zero, check29, is_least, check30, fire, timed_from, quietly}
 use Rattle.iosa.specs.TimedExactly.{value_of, Timing}
-use Rattle.ticks.specs.Ticks.{rivals, by_value, or_none}
+use Rattle.ticks.specs.Ticks.{rivals, by_value, Clock, clock_of}
 use Rattle.ticks.proofs.Chosen.{shared-by-rival, none-shared}
-use Rattle.firing.specs.declared.Choice.TheVariants.{Negative, Shared, Quiet, Fires}
-use Rattle.firing.specs.Choices.{fires_or, shared_or, negative_or, choice_of, answer_of}
+use Rattle.firing.specs.Choices.{Choice, at_clock, refused_or, choice_of, answer_of}
 
--- ---- a clock or the limit
-low-some : (o : Option ℕ) (n : ℕ) → n ≡ or_none o → n < max_clocks → o ≡ some n
-low-some none n e h = absurd (omega arith)
-low-some (some x) n e h = ap some (sym e)
+-- ---- a clock, or none
+clock-some : (o : Option ℕ) (x : ℕ) → clock_of o ≡ Some x → o ≡ some x
+clock-some none x h = absurd (let z : ◌≡◌ {A = ℕ} 0 1 = cc in omega arith)
+clock-some (some y) x h = let e : y ≡ x = cc in ap some e
 
-limit-none : (f : ℕ → Bool) (n : ℕ) → n ≡ or_none (least f max_clocks) → (n < max_clocks → ⊥) → least f max_clocks ≡ none
-limit-none f n e h = go (least f max_clocks) refl
-  where
-    go : (o : Option ℕ) → least f max_clocks ≡ o → o ≡ none
-    go none q = refl
-    go (some x) q = absurd (h (rw (e ∙ ap or_none q) (least-some f max_clocks x q).below))
+clock-none : (o : Option ℕ) → clock_of o ≡ None → o ≡ none
+clock-none none h = refl
+clock-none (some y) h = absurd (let z : ◌≡◌ {A = ℕ} 0 1 = cc in omega arith)
 
-limit-low : (f : ℕ → Bool) (n : ℕ) → n ≡ or_none (least f max_clocks) → (n ≡ max_clocks → ⊥) → n < max_clocks
-limit-low f n e h = go (least f max_clocks) refl
-  where
-    go : (o : Option ℕ) → least f max_clocks ≡ o → n < max_clocks
-    go none q = absurd (h (e ∙ ap or_none q))
-    go (some x) q = rw (e ∙ ap or_none q) (least-some f max_clocks x q).below
+module _ (e : ℕ) (vs : List ℤ) (low : Clock) (el : low ≡ clock_of (check29 e vs)) where
+  abbrev decided : Option ℕ → Option ℕ → Option ℕ → Choice
+  decided o p q = refused_or 29 o (refused_or 30 p (Ok (clock_of q)))
 
-module _ (e : ℕ) (vs : List ℤ) (low : ℕ) (el : low ≡ or_none (check29 e vs)) where
-  pub choice-negative : low < max_clocks → Negative low ≡ choice_of e vs
+  pub choice-negative : (x : ℕ) → low ≡ Some x → Err (at_clock 29 x) ≡ choice_of e vs
   unfolding choice_of
-  choice-negative h = sym (ap (λ o. negative_or o (shared_or (check30 e vs) (fires_or (least (is_least e vs) max_clocks)))) (low-some (check29 e vs) low el h))
+  choice-negative x h = sym (ap (λ o. decided o (check30 e vs) (least (is_least e vs) max_clocks)) (clock-some (check29 e vs) x (sym el ∙ h)))
 
-  module _ (n : low < max_clocks → ⊥) (x : ℕ) (ex : x ≡ or_none (least (is_least e vs) max_clocks)) where
+  module _ (n : low ≡ None) (b : Clock) (eb : b ≡ clock_of (least (is_least e vs) max_clocks)) where
     none_below : check29 e vs ≡ none
-    unfolding check29
-    none_below = limit-none (below_zero e vs) low el n
+    none_below = clock-none (check29 e vs) (sym el ∙ n)
 
-    pub choice-quiet : x ≡ max_clocks → Quiet ≡ choice_of e vs
+    pub choice-quiet : b ≡ None → Ok None ≡ choice_of e vs
     unfolding choice_of
     choice-quiet h =
-        let l = limit-none (is_least e vs) x ex (λ q. omega arith) in
-        sym (ap (λ o. negative_or o (shared_or (check30 e vs) (fires_or (least (is_least e vs) max_clocks)))) none_below ∙ ap₂ (λ o p. shared_or o (fires_or p)) (none-shared e vs l) l)
+        let l = clock-none (least (is_least e vs) max_clocks) (sym eb ∙ h) in
+        sym (ap (λ o. decided o (check30 e vs) (least (is_least e vs) max_clocks)) none_below ∙ ap₂ (decided none) (none-shared e vs l) l)
 
-    pub chosen-low : (x ≡ max_clocks → ⊥) → x < max_clocks
-    chosen-low h = limit-low (is_least e vs) x ex h
-
-    module _ (h : x ≡ max_clocks → ⊥) (r : Bool) (er : r ≡ any (by_value (rivals e x (value_of vs x)) vs) max_clocks) where
+    module _ (x : ℕ) (h : b ≡ Some x) where
       one : least (is_least e vs) max_clocks ≡ some x
-      one = low-some (least (is_least e vs) max_clocks) x ex (chosen-low h)
+      one = clock-some (least (is_least e vs) max_clocks) x (sym eb ∙ h)
 
-      shares-is : check30 e vs ≡ when r x
-      shares-is = shared-by-rival e vs x one ∙ ap (λ b. when b x) (sym er)
+      pub chosen-low : x < max_clocks
+      chosen-low = (least-some (is_least e vs) max_clocks x one).below
 
-      pub choice-shared : r ≡ true → Shared x ≡ choice_of e vs
-      unfolding choice_of
-      choice-shared t =
-          sym (ap (λ o. negative_or o (shared_or (check30 e vs) (fires_or (least (is_least e vs) max_clocks)))) none_below ∙ ap (λ o. shared_or o (fires_or (least (is_least e vs) max_clocks))) (shares-is ∙ ap (λ b. when b x) t))
+      module _ (r : Bool) (er : r ≡ any (by_value (rivals e x (value_of vs x)) vs) max_clocks) where
+        decides : choice_of e vs ≡ decided none (when r x) (some x)
+        unfolding choice_of
+        decides =
+            ap (λ o. decided o (check30 e vs) (least (is_least e vs) max_clocks)) none_below
+            ∙ ap₂ (decided none) (shared-by-rival e vs x one ∙ ap (λ b. when b x) (sym er)) one
 
-      pub choice-fires : r ≡ false → Fires x ≡ choice_of e vs
-      unfolding choice_of
-      choice-fires t =
-          sym (ap (λ o. negative_or o (shared_or (check30 e vs) (fires_or (least (is_least e vs) max_clocks)))) none_below ∙ ap₂ (λ o p. shared_or o (fires_or p)) (shares-is ∙ ap (λ b. when b x) t) one)
+        pub choice-shared : r ≡ true → Err (at_clock 30 x) ≡ choice_of e vs
+        choice-shared t = sym (decides ∙ ap (λ b. decided none (when b x) (some x)) t)
+
+        pub choice-fires : r ≡ false → Ok (Some x) ≡ choice_of e vs
+        choice-fires t = sym (decides ∙ ap (λ b. decided none (when b x) (some x)) t)
 
 -- ---- the definition by its choice
 pub timed-by-choice : (m : Model) (s : List ℕ) (vs : List ℤ) (e : ℕ) → timed_from m s vs e ≡ answer_of m s vs (choice_of e vs)
@@ -89,7 +82,7 @@ timed-by-choice m s vs e = go (check29 e vs) (check30 e vs) (least (is_least e v
             | some x ↦ refused (tell 30 (x ∷ []))
             | none ↦ elim q as (λ _. Answer Timing) [ none ↦ answered (quietly s vs) | some x ↦ answered (fire m s vs x) ]
           ]
-        ]) (answer_of m s vs (negative_or o (shared_or p (fires_or q))))
+        ]) (answer_of m s vs (refused_or 29 o (refused_or 30 p (Ok (clock_of q)))))
     go (some x) p q = refl
     go none (some x) q = refl
     go none none none = refl
@@ -101,19 +94,40 @@ pub record Chosen (e : ℕ) (vs : List ℤ) (x : ℕ) : Type 0 where
   pub own : x ∈ e
   pub from_zero : lt_z (value_of vs x) (pos 0) ≡ false
 
-pub fires-chosen : (e : ℕ) (vs : List ℤ) (x : ℕ) → choice_of e vs ≡ Fires x → Chosen e vs x
+pub fires-chosen : (e : ℕ) (vs : List ℤ) (x : ℕ) → choice_of e vs ≡ Ok (Some x) → Chosen e vs x
 unfolding choice_of check29 below_zero is_least
 fires-chosen e vs x h = go (check29 e vs) refl (check30 e vs) (least (is_least e vs) max_clocks) refl h
   where
-    by : check29 e vs ≡ none → (y : ℕ) → least (is_least e vs) max_clocks ≡ some y → Fires y ≡ Fires x → Chosen e vs x
+    by : check29 e vs ≡ none → (y : ℕ) → least (is_least e vs) max_clocks ≡ some y → (◌≡◌ {A = Choice} (Ok (Some y)) (Ok (Some x))) → Chosen e vs x
     by n y q h =
         let l = least-some (is_least e vs) max_clocks y q in
         let own = (and-true (has e y) _ l.here).0 in
         let same : y ≡ x = cc in
         rw (← same) (record { below = l.below; own = own; from_zero = and-false (has e y) (lt_z (value_of vs y) (pos 0)) (least-none (below_zero e vs) max_clocks n y l.below) own })
 
-    go : (o : Option ℕ) → check29 e vs ≡ o → (p q : Option ℕ) → least (is_least e vs) max_clocks ≡ q → negative_or o (shared_or p (fires_or q)) ≡ Fires x → Chosen e vs x
+    go : (o : Option ℕ) → check29 e vs ≡ o → (p q : Option ℕ) → least (is_least e vs) max_clocks ≡ q → refused_or 29 o (refused_or 30 p (Ok (clock_of q))) ≡ Ok (Some x) → Chosen e vs x
     go (some y) n p q r h = absurd (let z : ◌≡◌ {A = ℕ} 0 1 = cc in omega arith)
     go none n (some y) q r h = absurd (let z : ◌≡◌ {A = ℕ} 0 1 = cc in omega arith)
     go none n none none r h = absurd (let z : ◌≡◌ {A = ℕ} 0 1 = cc in omega arith)
     go none n none (some y) r h = by n y r h
+
+-- ---- a refusal tells its clock
+tells-clock : (n x : ℕ) (q : Refusal) → told (at_clock n x) ≡ some (tell n (x ∷ [])) → at_clock n x ≡ q → told q ≡ some (tell q.number (values_at q.place))
+tells-clock n x q t same = subst (λ (z : Refusal). told z ≡ some (tell z.number (values_at z.place))) same t
+
+tells-29 : (x : ℕ) → told (at_clock 29 x) ≡ some (tell 29 (x ∷ []))
+unfolding told
+tells-29 x = refl
+
+tells-30 : (x : ℕ) → told (at_clock 30 x) ≡ some (tell 30 (x ∷ []))
+unfolding told
+tells-30 x = refl
+
+pub choice-told : (e : ℕ) (vs : List ℤ) (q : Refusal) → choice_of e vs ≡ Err q → told q ≡ some (tell q.number (values_at q.place))
+unfolding choice_of
+choice-told e vs q h = go (check29 e vs) (check30 e vs) (least (is_least e vs) max_clocks) h
+  where
+    go : (o p r : Option ℕ) → refused_or 29 o (refused_or 30 p (Ok (clock_of r))) ≡ Err q → told q ≡ some (tell q.number (values_at q.place))
+    go (some x) p r h = tells-clock 29 x q (tells-29 x) (let same : at_clock 29 x ≡ q = cc in same)
+    go none (some x) r h = tells-clock 30 x q (tells-30 x) (let same : at_clock 30 x ≡ q = cc in same)
+    go none none r h = absurd (let z : ◌≡◌ {A = ℕ} 0 1 = cc in omega arith)

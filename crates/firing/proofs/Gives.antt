@@ -1,6 +1,5 @@
 -- What the code gives is what the definition says: the clock that fires, and the answers of the call.
 use mathlib.Core.Path.{◌≡◌, refl, sym, ◌∙◌, ap}
-use mathlib.Core.Option.{some}
 use mathlib.Core.Bool.{false, true≢false}
 use mathlib.Core.List.{List}
 use Prim.Native.Nat.{ℕ}
@@ -13,7 +12,7 @@ use mir.Syntax.{w64}
 use borrow.Author.Tests.{leb-true}
 use Rattle.laws.specs.Sets.{◌∈◌}
 use Rattle.answer.specs.Limits.{max_ticks}
-use Rattle.answer.specs.Told.{answered, fired, says_firing}
+use Rattle.answer.specs.Told.{fired}
 use Rattle.answer.specs.State.{with_parts}
 use Rattle.answer.specs.declared.State.{State}
 use Rattle.answer.specs.declared.Firing.TheVariants.{Fired}
@@ -55,12 +54,11 @@ module _ (m : Model) (well : WellFormed m) (ss : List ℕ) (x : ℕ) (h : x ∈ 
   pub fire-gives : Conforming m → Joinable m → Within m ss → (vs : List ℤ) (s : State) (n a R : ℕ) (st : State) (us : List ℤ)
       → n ≡ ticks_of (value_of vs x) → a ≡ action_or (clock_row_of m ss x) → R ≡ reset_by (fired_one x a) m ss → st ≡ with_parts s (after_by (fired_one x a) m ss)
       → us ≡ aged_from (declared m) (value_of vs x) 0 vs → TimingGives (fire m ss vs x) s (record { firing = Fired n a R; state = st }) us
-  unfolding says_firing
   fire-gives good fit w vs s n a R st us en ea er es eu =
       let e = fires-so m well good fit ss w x h vs in
       let r = er ∙ ap (λ b. reset_by (fired_one x b) m ss) ea in
       record {
-        firing = (λ i. some (answered (fired (en i) (ea i) (r i)))) ∙ ap (λ d. some (answered d.shot)) (sym e);
+        firing = (λ i. fired (en i) (ea i) (r i)) ∙ ap (λ d. d.shot) (sym e);
         state = es ∙ ap (λ b. with_parts s (after_by (fired_one x b) m ss)) ea ∙ ap (λ d. with_parts s d.state) (sym e);
         values = eu ∙ ap (λ d. d.values) (sym e);
       }

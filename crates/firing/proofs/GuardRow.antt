@@ -20,8 +20,8 @@ use Rattle.layout.specs.Ranges.{RowRanges}
 use Rattle.layout.proofs.Bridge.{clock-row}
 use Rattle.layout.proofs.ImageIsSane.{row-ranges, comp-ranges}
 use Rattle.rows.specs.Ranges.{found_of, by_guard}
-use Rattle.rows.specs.declared.Found.{Found}
-use Rattle.rows.specs.declared.Found.TheVariants.{At, Nothing}
+use Rattle.rows.specs.Ranges.{Found}
+use Rattle.std.specs.Prelude.{Some, None}
 use Rattle.rows.proofs.FoundLaws.{at_some, nothing-none}
 use Rattle.moves.specs.Moves.{or_stays, moved_one, RowFound, gone_found}
 use Rattle.firing.specs.Fired.{by_clock, guarded_one, fired_one}
@@ -51,7 +51,7 @@ module _ (t : List ℕ) (im : Image t) (i s x : ℕ) (h : i < count_of t) (b : s
 
   module _ (f : Found) (e : f ≡ found_of (by_clock t i s x)) where
     -- ---- found
-    module _ (k : ℕ) (at : f ≡ At k) where
+    module _ (k : ℕ) (at : f ≡ Some k) where
       found : by_clock t i s x ≡ some k
       found = at_some (by_clock t i s x) k (sym e ∙ at)
 
@@ -66,10 +66,10 @@ module _ (t : List ℕ) (im : Image t) (i s x : ℕ) (h : i < count_of t) (b : s
       guard-move = ap (λ o. or_stays s (gone_by o)) guard-row
 
     -- ---- not found
-    pub no-guard-row : f ≡ Nothing → clock_row (comp_of t i) s x ≡ none
+    pub no-guard-row : f ≡ None → clock_row (comp_of t i) s x ≡ none
     no-guard-row n = row_is ∙ ap (map_some (row_in t s)) (nothing-none (by_clock t i s x) (sym e ∙ n))
 
-    no-guard-move : f ≡ Nothing → guarded_one x (comp_of t i) s ≡ record { resets = 0; after = s }
+    no-guard-move : f ≡ None → guarded_one x (comp_of t i) s ≡ record { resets = 0; after = s }
     unfolding guarded_one
     no-guard-move n = ap (λ o. or_stays s (gone_by o)) (no-guard-row n)
 
@@ -81,8 +81,8 @@ module _ (t : List ℕ) (im : Image t) (i s x : ℕ) (h : i < count_of t) (b : s
     guarded-by = go f refl
       where
         go : (g : Found) → f ≡ g → guarded_one x (comp_of t i) s ≡ gone_found t s g
-        go (At k) at = guard-move k at
-        go Nothing n = no-guard-move n
+        go (Some k) at = guard-move k at
+        go None n = no-guard-move n
 
 -- ---- the owner of the clock, and another
 pub owner-fires : (c : Comp) (s x a : ℕ) → has c.clocks x ≡ true → fired_one x a c s ≡ guarded_one x c s

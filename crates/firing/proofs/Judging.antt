@@ -8,12 +8,13 @@ use lib.ListN.{length}
 use lib.Dec.{eqb}
 use lib.IntN.{ℤ}
 use Rattle.laws.specs.Search.{when, or_else, is_some, any}
-use Rattle.answer.specs.Limits.{max_clocks, no_state}
-use Rattle.answer.specs.Told.{Told, tell, told, Answer, answered, refused, Shot, as_refused, says_firing}
+use Rattle.answer.specs.Limits.{max_clocks}
+use Rattle.answer.specs.Told.{Told, tell, told, Answer, answered, refused}
 use Rattle.answer.specs.State.{parts_of}
 use Rattle.answer.specs.declared.State.{State}
 use Rattle.answer.specs.declared.Refusal.{Refusal}
-use Rattle.answer.specs.declared.Firing.TheVariants.{Quiet, Refused}
+use Rattle.answer.specs.declared.Firing.TheVariants.{Quiet}
+use Rattle.std.specs.Prelude.{Ok, Err}
 use Rattle.answer.proofs.StateLaws.{with-own-parts}
 use Rattle.model.specs.Model.{Model, declared}
 use Rattle.model.specs.WellFormed.{WellFormed}
@@ -24,19 +25,15 @@ use Rattle.iosa.specs.TimedExactly.{Timing}
 use Rattle.iosa.proofs.Settling.ProductOfMany.{wells}
 use Rattle.timing.proofs.Timing.Ticks.{bad_values, values-exactly}
 use Rattle.ticks.specs.Ticks.{Ticking, outside, by_value}
-use Rattle.firing.specs.declared.Choice.{Choice}
-use Rattle.firing.specs.Choices.{choice_of, answer_of}
+use Rattle.firing.specs.Choices.{Choice, choice_of, answer_of}
 use Rattle.firing.specs.Shots.{TimingAnswers}
 use Rattle.firing.proofs.Choosing.{timed-by-choice}
 
 -- ---- a refusal, and quiet
-pub refuses : (a : Answer Timing) (f : Told) → a ≡ refused f → (q : Refusal) → told q ≡ some f → (x st : State) → st ≡ no_state → (vs : List ℤ)
-    → TimingAnswers a x vs (record { firing = Refused q; state = st }) vs
-unfolding says_firing
-refuses a f e q t x st es vs = rw e (record { firing = ap (as_refused {A = Shot}) t; state = es; values = refl })
+pub refuses : (a : Answer Timing) (f : Told) → a ≡ refused f → (q : Refusal) → told q ≡ some f → (x : State) (vs : List ℤ) → TimingAnswers a x vs (Err q) vs
+refuses a f e q t x vs = rw e (record { told = t; values = refl })
 
-pub stays-quiet : (a : Answer Timing) (x : State) (vs : List ℤ) → a ≡ answered (quietly (parts_of x) vs) → x.count ≤ length x.parts → TimingAnswers a x vs (record { firing = Quiet; state = x }) vs
-unfolding says_firing
+pub stays-quiet : (a : Answer Timing) (x : State) (vs : List ℤ) → a ≡ answered (quietly (parts_of x) vs) → x.count ≤ length x.parts → TimingAnswers a x vs (Ok (record { firing = Quiet; state = x })) vs
 stays-quiet a x vs e h = rw e (record { firing = refl; state = sym (with-own-parts x h); values = refl })
 
 pub chosen-answer : (m : Model) (s : List ℕ) (vs : List ℤ) (e : ℕ) (d k : Choice) → e ≡ enabling_all m s → d ≡ choice_of e vs → d ≡ k → timed_from m s vs (enabling_all m s) ≡ answer_of m s vs k

@@ -13,15 +13,14 @@ ghost use Rattle.timing.specs.Timed.{clock_row, clock_row_of, fire, timed_from, 
 ghost use Rattle.moves.specs.Moves.{GoneTo, reset_by, after_by};
 ghost use Rattle.moves.specs.Standing.{Standing};
 ghost use Rattle.firing.specs.Fired.{by_clock, action_or, guarded_one, fired_one};
-ghost use Rattle.firing.specs.Choices.{choice_of};
+ghost use Rattle.firing.specs.Choices.{at_clock, choice_of};
 ghost use Rattle.firing.specs.Shots.{TimingGives, TimingAnswers, Armed, Fireable, refused_with};
 
 use answer::{Firing, Model, Place, Refusal, State, Timed};
 use moves::{Move, Moved};
-use rows::Found;
 
 // The row that a clock guards in one component's state.
-pub fn clock_row(t: &[u64], i: usize, s: u8, c: u64) -> Found
+pub fn clock_row(t: &[u64], i: usize, s: u8, c: u64) -> Option<usize>
     requires { Image t.now × (i < count_of t.now) × (s < block_word t.now i 0) × (c < max_clocks) }
     ensures { result ≡ found_of (by_clock t.now i s c) }
 {
@@ -38,8 +37,8 @@ pub fn action_in(t: &[u64], i: usize, s: u8, c: u64) -> u64
 {
     let f = clock_row(t, i, s, c);
     match f {
-        Found::At(k) => layout::action_at(t, k),
-        Found::Nothing => Model::ACTIONS as u64,
+        Some(k) => layout::action_at(t, k),
+        None => Model::ACTIONS as u64,
     }
 }
 
@@ -98,31 +97,31 @@ pub fn fire_all(t: &[u64], x: State, c: u64, a: u64) -> Moved
     }
 }
 
-// What the values of the enabling clocks decide.
-#[derive(Drop)]
-pub enum Choice {
-    Negative(u64),
-    Shared(u64),
-    Quiet,
-    Fires(u64),
+// A refusal at a clock.
+fn at_clock(number: u8, c: u64) -> Refusal
+    ensures { result ≡ at_clock number c }
+{
+    Refusal {
+        number,
+        place: Place::Clock(c),
+    }
 }
 
-pub fn choose(values: &[i64], e: u64) -> Choice
+// What the values of the enabling clocks decide: 29, 30, quiet, or the clock that fires.
+pub fn choose(values: &[i64], e: u64) -> Result<Option<u64>, Refusal>
     requires { length values.now ≡ max_clocks }
     ensures { result ≡ choice_of e values.now }
 {
-    let low = ticks::below_zero(values, e);
-    if low < Model::CLOCKS as u64 {
-        return Choice::Negative(low);
+    if let Some(c) = ticks::below_zero(values, e) {
+        return Err(at_clock(29, c));
     }
-    let c = ticks::least(values, e);
-    if c == Model::CLOCKS as u64 {
-        return Choice::Quiet;
-    }
+    let Some(c) = ticks::least(values, e) else {
+        return Ok(None);
+    };
     if ticks::has_rival(values, e, c) {
-        return Choice::Shared(c);
+        return Err(at_clock(30, c));
     }
-    Choice::Fires(c)
+    Ok(Some(c))
 }
 
 // A clock fires: every component moves, and every declared clock falls by its value.
@@ -146,64 +145,47 @@ pub fn fire(t: &[u64], x: State, values: &mut [i64], c: u64) -> Timed
 }
 
 // 29 or 30, quiet, or the least clock fires.
-pub fn shoot(t: &[u64], x: State, values: &mut [i64]) -> Timed
+pub fn shoot(t: &[u64], x: State, values: &mut [i64]) -> Result<Timed, Refusal>
     requires { Armed t.now x values.old }
     ensures { TimingAnswers (timed_from (model_of t.now) (parts_of x) values.old (enabling_all (model_of t.now) (parts_of x))) x values.old result values.new }
 {
     let e = enabling::enabling_all(t, x);
-    let d = choose(values, e);
-    match d {
-        Choice::Negative(c) => Timed {
-            firing: Firing::Refused(Refusal {
-                number: 29,
-                place: Place::Clock(c),
-            }),
-            state: answer::no_state(),
-        },
-        Choice::Shared(c) => Timed {
-            firing: Firing::Refused(Refusal {
-                number: 30,
-                place: Place::Clock(c),
-            }),
-            state: answer::no_state(),
-        },
-        Choice::Quiet => Timed {
+    let d = choose(values, e)?;
+    Ok(match d {
+        Some(c) => fire(t, x, values, c),
+        None => Timed {
             firing: Firing::Quiet,
             state: x,
         },
-        Choice::Fires(c) => fire(t, x, values, c),
-    }
+    })
 }
 
-// A refusal of the whole, with no state beside it.
-pub fn refused(number: u8) -> Timed
+// A refusal of the whole.
+pub fn refused(number: u8) -> Refusal
     ensures { result ≡ refused_with number }
 {
-    Timed {
-        firing: Firing::Refused(Refusal {
-            number,
-            place: Place::Whole,
-        }),
-        state: answer::no_state(),
+    Refusal {
+        number,
+        place: Place::Whole,
     }
 }
 
 // The call on an accepted model: 21, 27, 28, then the clocks decide.
-pub fn accepted_step(t: &[u64], x: State, values: &mut [i64]) -> Timed
+pub fn accepted_step(t: &[u64], x: State, values: &mut [i64]) -> Result<Timed, Refusal>
     requires { Image t.now × (accept_of (model_of t.now) ≡ none) }
     ensures { TimingAnswers (timed_of (model_of t.now) (parts_of x) values.old) x values.old result values.new }
 {
     if !moves::in_range(t, x) {
-        return refused(21);
+        return Err(refused(21));
     }
     if moves::lowest_all(t, x) < Model::ACTIONS as u64 {
-        return refused(27);
+        return Err(refused(27));
     }
     if values.len() != Model::CLOCKS {
-        return refused(28);
+        return Err(refused(28));
     }
     if ticks::any_outside(values, enabling::declared(t)) {
-        return refused(28);
+        return Err(refused(28));
     }
     shoot(t, x, values)
 }

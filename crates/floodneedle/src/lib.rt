@@ -4,7 +4,7 @@
 
 ghost use Rattle.std.specs.Prelude.{◌≡◌, ℕ};
 ghost use Rattle.std.proofs.Math.Option.{some};
-ghost use Rattle.answer.specs.Told.{Answer, done_of, says_ended};
+ghost use Rattle.answer.specs.Told.{Answer, says, done_of};
 ghost use Rattle.words.specs.Words.{checked_words, written_words};
 ghost use Rattle.words.specs.Version.{version_number};
 ghost use Rattle.layout.specs.Lent.{table_after};
@@ -19,15 +19,52 @@ ghost use Rattle.explain.specs.Explain.{text_explained, table_explained, length_
 ghost use Rattle.names.specs.Names.{names_on, names_left, numbers_on, numbers_left};
 ghost use Rattle.model.specs.Reading.{read_of};
 ghost use Rattle.table.specs.IsImage.{is_image};
-ghost use Rattle.words.specs.Bytes.{state_of};
+ghost use Rattle.words.specs.Bytes.{state_of, places_in};
 ghost use Rattle.floodneedle.specs.Told.{component_on, compatible_on, accept_on, confluent_on, orderly_on, timed_on, StartTold, TimingTold, StepTold, AdvanceTold, SettlingTold, AfterTold, SimulationTold};
 ghost use Rattle.after.specs.Calls.{settle_after_on, settle_list_after_on};
 ghost use Rattle.simulate.specs.Simulate.{simulate_on};
 ghost use Rattle.simulate_drawn.specs.SimulateDrawn.{simulate_drawn_on};
 ghost use Rattle.run.specs.Calls.{step_on, step_by_on, settle_on, settle_list_on, trace_after};
 
-use answer::{Ended, State, Written};
+use answer::{Refusal, Settled, Simulated, State, Stepped, Timed};
 use words::Words;
+
+// The places of the state that a call leaves, by its kind of answer; zeros beside a refusal.
+fn stepped_places(r: &Result<Stepped, Refusal>) -> [u8; State::PARTS]
+    ensures { result ≡ places_in (λ p. p.state) r.now }
+{
+    match r {
+        Ok(s) => s.state.parts,
+        Err(_) => [0; State::PARTS],
+    }
+}
+
+fn settled_places(r: &Result<Settled, Refusal>) -> [u8; State::PARTS]
+    ensures { result ≡ places_in (λ p. p.state) r.now }
+{
+    match r {
+        Ok(s) => s.state.parts,
+        Err(_) => [0; State::PARTS],
+    }
+}
+
+fn timed_places(r: &Result<Timed, Refusal>) -> [u8; State::PARTS]
+    ensures { result ≡ places_in (λ p. p.state) r.now }
+{
+    match r {
+        Ok(t) => t.state.parts,
+        Err(_) => [0; State::PARTS],
+    }
+}
+
+fn simulated_places(r: &Result<Simulated, Refusal>) -> [u8; State::PARTS]
+    ensures { result ≡ places_in (λ p. p.state) r.now }
+{
+    match r {
+        Ok(s) => s.state.parts,
+        Err(_) => [0; State::PARTS],
+    }
+}
 
 // The version as one number.
 #[unsafe(no_mangle)]
@@ -101,13 +138,17 @@ pub extern "C" fn floodneedle_start(
 )
     ensures { StartTold (start_on table.now) after.new answer.new }
 {
-    let r = outset::start(table);
-    let checked = r.checked;
-    let state = r.state;
-    let count = state.count;
-    let parts = state.parts;
-    *after = parts;
-    *answer = words::started_words(checked, count, r.started);
+    match outset::start(table) {
+        Ok(o) => {
+            let parts = o.state.parts;
+            *after = parts;
+            *answer = words::started_words(Ok(()), o.state.count, o.started);
+        }
+        Err(f) => {
+            *after = [0; State::PARTS];
+            *answer = words::started_words(Err(f), 0, 0);
+        }
+    }
 }
 
 // Whether component i of the table's model meets (a) to (f) and the house rule.
@@ -194,20 +235,17 @@ pub extern "C" fn floodneedle_timed_step(
 {
     let given = words::state_of(state);
     let r = timed::timed_step(table, given, clocks);
-    let next = r.state;
-    let firing = r.firing;
-    let parts = next.parts;
-    *after = parts;
-    *answer = words::fired_words(firing);
+    *after = timed_places(&r);
+    *answer = words::fired_words(&r);
 }
 
 // The later rounds done, told as a length is.
-fn ended_words(r: Ended) -> [u64; Words::COUNT]
-    ensures { (a : Answer ℕ) → says_ended r ≡ some a → result ≡ written_words a }
+fn ended_words(r: &Result<Simulated, Refusal>) -> [u64; Words::COUNT]
+    ensures { (a : Answer ℕ) → says (λ p. p.rounds) r.now ≡ some a → result ≡ written_words a }
 {
     match r {
-        Ended::Rounds(n) => words::written_words(Written::Length(n)),
-        Ended::Refused(f) => words::written_words(Written::Refused(f)),
+        Ok(s) => words::written_words(Ok(s.rounds)),
+        Err(f) => words::written_words(Err(*f)),
     }
 }
 
@@ -228,11 +266,8 @@ pub extern "C" fn floodneedle_simulate(
         answer.new }
 {
     let r = simulate::simulate(table, samples, rounds, clocks);
-    let last = r.state;
-    let ended = r.ended;
-    let parts = last.parts;
-    *after = parts;
-    *answer = ended_words(ended);
+    *after = simulated_places(&r);
+    *answer = ended_words(&r);
 }
 
 // The same over draws from distributions, by lent numbers.
@@ -253,11 +288,8 @@ pub extern "C" fn floodneedle_simulate_drawn(
         answer.new }
 {
     let r = simulate_drawn::simulate_drawn(table, laws, numbers, rounds, clocks);
-    let last = r.state;
-    let ended = r.ended;
-    let parts = last.parts;
-    *after = parts;
-    *answer = ended_words(ended);
+    *after = simulated_places(&r);
+    *answer = ended_words(&r);
 }
 
 // One urgent step by our rule.
@@ -272,11 +304,8 @@ pub extern "C" fn floodneedle_step(
 {
     let given = words::state_of(state);
     let r = run::step(table, given);
-    let next = r.state;
-    let outcome = r.outcome;
-    let parts = next.parts;
-    *after = parts;
-    *answer = words::stepped_words(outcome);
+    *after = stepped_places(&r);
+    *answer = words::stepped_words(&r);
 }
 
 // The same on a state that is lent, and advanced there; where nothing moves, nothing is stored.
@@ -290,10 +319,8 @@ pub extern "C" fn floodneedle_advance(
 {
     let given = words::state_of(state);
     let r = panel::advanced(table, given);
-    let next = r.state;
-    let outcome = r.outcome;
-    words::put_moved(state, outcome, next);
-    *answer = words::stepped_words(outcome);
+    words::put_moved(state, &r);
+    *answer = words::stepped_words(&r);
 }
 
 // One urgent step by a named action.
@@ -309,11 +336,8 @@ pub extern "C" fn floodneedle_step_by(
 {
     let given = words::state_of(state);
     let r = run::step_by(table, given, action);
-    let next = r.state;
-    let outcome = r.outcome;
-    let parts = next.parts;
-    *after = parts;
-    *answer = words::stepped_words(outcome);
+    *after = stepped_places(&r);
+    *answer = words::stepped_words(&r);
 }
 
 // Settling by our rule.
@@ -331,11 +355,8 @@ pub extern "C" fn floodneedle_settle(
 {
     let given = words::state_of(state);
     let r = run::settle(table, given, budget, trace);
-    let next = r.state;
-    let verdict = r.verdict;
-    let parts = next.parts;
-    *after = parts;
-    *answer = words::settled_words(verdict, r.steps, r.resets);
+    *after = settled_places(&r);
+    *answer = words::settled_words(&r);
 }
 
 // Settling by a list.
@@ -351,11 +372,8 @@ pub extern "C" fn floodneedle_settle_list(
 {
     let given = words::state_of(state);
     let r = run::settle_list(table, given, list);
-    let next = r.state;
-    let verdict = r.verdict;
-    let parts = next.parts;
-    *after = parts;
-    *answer = words::settled_words(verdict, r.steps, r.resets);
+    *after = settled_places(&r);
+    *answer = words::settled_words(&r);
 }
 
 // Whether the system passes the test for components that are not confluent alone.
@@ -381,11 +399,8 @@ pub extern "C" fn floodneedle_settle_after(
     ensures trace_after { trace.new ≡ trace_after (settle_after_on table.now path.now budget trace.old) trace.old }
 {
     let r = after::settle_after(table, path, budget, trace);
-    let next = r.state;
-    let verdict = r.verdict;
-    let parts = next.parts;
-    *after = parts;
-    *answer = words::settled_words(verdict, r.steps, r.resets);
+    *after = settled_places(&r);
+    *answer = words::settled_words(&r);
 }
 
 // Settling by a list, after a path.
@@ -400,11 +415,8 @@ pub extern "C" fn floodneedle_settle_list_after(
     ensures { AfterTold (settle_list_after_on table.now path.now list.now) after.new answer.new }
 {
     let r = after::settle_list_after(table, path, list);
-    let next = r.state;
-    let verdict = r.verdict;
-    let parts = next.parts;
-    *after = parts;
-    *answer = words::settled_words(verdict, r.steps, r.resets);
+    *after = settled_places(&r);
+    *answer = words::settled_words(&r);
 }
 
 // What the program prints for the input.

@@ -13,8 +13,9 @@ use Rattle.model.proofs.Reading.Faults.{read_short, model-read}
 use Rattle.lines.specs.declared.Line.{Line}
 use Rattle.lines.specs.Lines.{line_of}
 use Rattle.judge.specs.declared.Progress.{Progress as CodeProgress}
-use Rattle.judge.specs.declared.Judged.TheVariants.{Fault, Taken}
-use Rattle.judge.specs.Judged.{standing, beginning, step_of}
+use Rattle.judge.specs.declared.Fault.{Fault}
+use Rattle.std.specs.Prelude.{Ok, Err}
+use Rattle.judge.specs.Judged.{number_of, numbered, standing, beginning, step_of}
 use Rattle.judge.proofs.StepIs.{next}
 use Rattle.layout.specs.Layout.{image_words}
 use Rattle.layout.specs.Image.{image_of}
@@ -70,8 +71,8 @@ module _ {text old : List ℕ} {p : CodeProgress} {at : ℕ} {t : List ℕ} (b :
     pub has-line : (cs : List ℕ) → at < length text → entry (drop at text) ≡ stops cs → ⊥
     has-line cs h e = never text m _ good (no_line b.stands cs h e)
 
-    pub no-fault : (l : Line) (to : ℕ) → Read text at l to → (f : ℕ) → step_of p l ≡ Fault f → ⊥
-    no-fault l to r f e = never text m _ good (line-fault b.stands l to r f e).0
+    pub no-fault : (l : Line) (to : ℕ) → Read text at l to → (f : Fault) → step_of p l ≡ Err f → ⊥
+    no-fault l to r f e = never text m _ good (line-fault b.stands l to r (number_of f) (ap numbered e)).0
 
     pub built : length text ≤ at → t ≡ image_of m ++ drop image_words old
     built h =
@@ -80,7 +81,7 @@ module _ {text old : List ℕ} {p : CodeProgress} {at : ℕ} {t : List ℕ} (b :
         let f : take image_words t ≡ image_of m = rw e (read-image text t cs (good ∙ ap answered e) b.laid) in
         sym (take-append-drop image_words t) ∙ ap (λ v. v ++ drop image_words t) f ∙ ap (λ v. image_of m ++ v) b.rest
 
-  module _ (l : Line) (to : ℕ) (r : Read text at l to) (p' : CodeProgress) (e : step_of p l ≡ Taken p') where
+  module _ (l : Line) (to : ℕ) (r : Read text at l to) (p' : CodeProgress) (e : step_of p l ≡ Ok p') where
     abbrev q : Progress
     q = b.so_far
 

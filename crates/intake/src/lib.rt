@@ -10,8 +10,8 @@ ghost use Rattle.layout.specs.Image.{image_of};
 ghost use Rattle.intake.specs.Change.{set_word, Change, Fits};
 
 use fields::{Cursor, Kind};
-use judge::{Judged, Progress};
-use lines::{Line, LineScan};
+use judge::Progress;
+use lines::Line;
 
 // The word of a block that an `act` line of this kind changes.
 fn set_word(kind: Kind) -> usize
@@ -77,10 +77,10 @@ pub fn build(text: &[u8], table: &mut [u64])
     let mut p = judge::at_start();
     let mut at = 0;
     while at < text.len() {
-        let LineScan::Is(next, line) = lines::line_at(text, Cursor { at }) else {
+        let Ok((next, line)) = lines::line_at(text, Cursor { at }) else {
             return;
         };
-        let Judged::Taken(q) = judge::step(p, line) else {
+        let Ok(q) = judge::step(p, line) else {
             return;
         };
         take_in(table, p, line);

@@ -2,7 +2,7 @@
 use Rattle.std.specs.Prelude.{◌≡◌, List, ◌++◌, ℕ, length, drop}
 use Rattle.std.proofs.Math.Option.{some}
 use Rattle.answer.specs.Told.{Told, Answer, answered, refused, says_written}
-use Rattle.answer.specs.declared.Written.{Written}
+use Rattle.answer.specs.Told.{Written}
 
 -- these bytes at the front of the buffer, their number in the answer, and later bytes as they were
 pub record Filled (old new : List ℕ) (r : Written) (bytes : List ℕ) : Type 0 where

@@ -1,3 +1,3 @@
-pub mod GuardLaws
+pub mod KeyLaws
 pub mod SummaryLaws
 pub mod StepIs

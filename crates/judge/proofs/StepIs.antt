@@ -19,13 +19,16 @@ use Rattle.model.specs.Text.{Kind, in-kind, out-kind, uin-kind, uout-kind}
 use Rattle.model.specs.Reading.{Entry, comp-entry, act-entry, clk-entry, row-entry, Progress, current, turn, out_of_turn, out_of_range, lacks, follows}
 use Rattle.model.specs.Reading.{out_of_order, too_many, fault_of, guard_below, guard_in, guard_of, row_of, all_below, all_in, ascending, with_act}
 use Rattle.model.specs.Reading.{with_clk, with_row, new_comp, take_in}
+use Rattle.std.specs.Prelude.{Result, Ok, Err}
 use Rattle.lines.specs.Lines.{line_of, guard_is}
 use Rattle.fields.specs.Resets.{summary}
 use Rattle.judge.specs.declared.Key.{Key}
 use Rattle.judge.specs.declared.Progress.{Progress as CodeProgress}
-use Rattle.judge.specs.declared.Judged.{Judged}
-use Rattle.judge.specs.declared.Judged.TheVariants.{Fault, Taken}
-use Rattle.judge.specs.Judged.{last_of, last_plain, key_of, standing, after, guard_number, key_before, in_range, guard_named, named, comp_step, act_step}
+use Rattle.judge.specs.declared.Turn.TheVariants as OfTurn
+use Rattle.judge.specs.declared.Fault.{Fault}
+use Rattle.judge.specs.declared.Fault.TheVariants as OfFault
+use Rattle.judge.specs.Judged.{turn_of, numbered, last_of, last_plain, key_of, standing, after, guard_number, key_before, in_range}
+use Rattle.judge.specs.Judged.{guard_named, named, comp_step, act_step}
 use Rattle.judge.specs.Judged.{clk_step, row_step, step_of}
 use Rattle.judge.proofs.SummaryLaws.{summary-clocks, summary-ascend, summary-set, within_all, and_one}
 
@@ -33,20 +36,21 @@ use Rattle.judge.proofs.SummaryLaws.{summary-clocks, summary-ascend, summary-set
 abbrev pub next : Progress → Entry → Progress
 next q e = record { comps = take_in q.comps e; last = some e }
 
-abbrev pub judged_of : Option ℕ → Progress → Judged
-judged_of none q = Taken (standing q)
-judged_of (some f) q = Fault f
+abbrev pub judged_of : Option ℕ → Progress → Result CodeProgress ℕ
+judged_of none q = Ok (standing q)
+judged_of (some f) q = Err f
 
 -- behind a line there is a component
 pub record Begun (q : Progress) : Type 0 where
   pub some-comp : (d : Entry) → q.last ≡ some d → 1 ≤ length q.comps
 
 -- ---- the five tests in their order
-abbrev chain : Bool → Bool → Bool → Bool → Bool → Judged → Judged
-chain t r n o m x = cond t (Fault 3) (cond r (cond n (cond o (cond m (Fault 7) x) (Fault 6)) (Fault 5)) (Fault 4))
+abbrev chain : Bool → Bool → Bool → Bool → Bool → Result CodeProgress Fault → Result CodeProgress Fault
+chain t r n o m x = cond t (Err OfFault.Turn) (cond r (cond n (cond o (cond m (Err OfFault.Many) x) (Err OfFault.Order)) (Err OfFault.Name))
+    (Err OfFault.Range))
 
 chain-is : (t r n o m : Bool) (q : Progress)
-    → chain t r n o m (Taken (standing q)) ≡ judged_of
+    → numbered (chain t r n o m (Ok (standing q))) ≡ judged_of
     (or_else (when t 3) (or_else (when (not r) 4) (or_else (when (not n) 5) (or_else (when (not o) 6) (when m 7))))) q
 chain-is true r n o m q = refl
 chain-is false false n o m q = refl
@@ -56,33 +60,35 @@ chain-is false true true true true q = refl
 chain-is false true true true false q = refl
 
 -- where a line is out of range nothing further is asked of it
-chain_same : (t r n o m n' o' : Bool) (x x' : Judged) → (r ≡ true → n' ≡ n) → (r ≡ true → o' ≡ o) → (t ≡ false → r ≡ true → x' ≡ x)
+chain_same : (t r n o m n' o' : Bool) (x x' : Result CodeProgress Fault) → (r ≡ true → n' ≡ n) → (r ≡ true → o' ≡ o)
+    → (t ≡ false → r ≡ true → x' ≡ x)
     → chain t r n' o' m x' ≡ chain t r n o m x
 chain_same true r n o m n' o' x x' f g h = refl
 chain_same false false n o m n' o' x x' f g h = refl
 chain_same false true n o m n' o' x x' f g h =
-    ap (λ b. cond b (cond o' (cond m (Fault 7) x') (Fault 6)) (Fault 5)) (f refl)
-    ∙ ap (λ b. cond n (cond b (cond m (Fault 7) x') (Fault 6)) (Fault 5)) (g refl)
-    ∙ ap (λ y. cond n (cond o (cond m (Fault 7) y) (Fault 6)) (Fault 5)) (h refl refl)
+    ap (λ b. cond b (cond o' (cond m (Err OfFault.Many) x') (Err OfFault.Order)) (Err OfFault.Name)) (f refl)
+    ∙ ap (λ b. cond n (cond b (cond m (Err OfFault.Many) x') (Err OfFault.Order)) (Err OfFault.Name)) (g refl)
+    ∙ ap (λ y. cond n (cond o (cond m (Err OfFault.Many) y) (Err OfFault.Order)) (Err OfFault.Name)) (h refl refl)
 
 -- ---- the last line
-last_turn : (d : Entry) → (last_of (some d)).turn ≡ turn d
+last_turn : (d : Entry) → turn_of (last_of (some d)).turn ≡ turn d
 last_turn (comp-entry n s) = refl
 last_turn (act-entry a k) = refl
 last_turn (clk-entry x b) = refl
 last_turn (row-entry s g a r t) = refl
 
-turn-act : (o : Option Entry) (a : ℕ) (k : Kind) → ltb 1 (last_of o).turn ≡ out_of_turn o (act-entry a k)
+turn-act : (o : Option Entry) (a : ℕ) (k : Kind) → ltb 1 (turn_of (last_of o).turn) ≡ out_of_turn o (act-entry a k)
 unfolding out_of_turn
 turn-act none a k = refl
 turn-act (some d) a k = ap (ltb 1) (last_turn d)
 
-turn-clk : (o : Option Entry) (x b : ℕ) → ltb 2 (last_of o).turn ≡ out_of_turn o (clk-entry x b)
+turn-clk : (o : Option Entry) (x b : ℕ) → ltb 2 (turn_of (last_of o).turn) ≡ out_of_turn o (clk-entry x b)
 unfolding out_of_turn
 turn-clk none x b = refl
 turn-clk (some d) x b = ap (ltb 2) (last_turn d)
 
-turn-row : (o : Option Entry) (s : ℕ) (g : Option ℕ) (a : ℕ) (r : List ℕ) (t : ℕ) → ltb 3 (last_of o).turn ≡ out_of_turn o (row-entry s g a r t)
+turn-row : (o : Option Entry) (s : ℕ) (g : Option ℕ) (a : ℕ) (r : List ℕ) (t : ℕ)
+    → ltb 3 (turn_of (last_of o).turn) ≡ out_of_turn o (row-entry s g a r t)
 unfolding out_of_turn
 turn-row none s g a r t = refl
 turn-row (some d) s g a r t = ap (ltb 3) (last_turn d)
@@ -114,7 +120,7 @@ follows-clk (some (clk-entry y j)) x b = refl
 follows-clk (some (row-entry s g a r t)) x b = refl
 
 follows-row : (o : Option Entry) (s : ℕ) (g : Option ℕ) (a : ℕ) (r : List ℕ) (t : ℕ)
-    → cond (eqb (last_of o).turn 3) (key_before (last_of o).key (key_of (row_of s g a r t))) true ≡ follows o (row-entry s g a r t)
+    → cond (eqb (turn_of (last_of o).turn) 3) (key_before (last_of o).key (key_of (row_of s g a r t))) true ≡ follows o (row-entry s g a r t)
 unfolding follows key_before
 follows-row none s g a r t = refl
 follows-row (some (comp-entry n z)) s g a r t = refl
@@ -123,7 +129,8 @@ follows-row (some (clk-entry x b)) s g a r t = refl
 follows-row (some (row-entry s₀ g₀ a₀ r₀ t₀)) s g a r t = refl
 
 -- in turn, so that there is a component
-begun : (k : ℕ) (l : Option Entry) (m : List Comp) → ltb k 4 ≡ true → Begun (record { comps = m; last = l }) → ltb k (last_of l).turn ≡ false → 1 ≤ length m
+begun : (k : ℕ) (l : Option Entry) (m : List Comp) → ltb k 4 ≡ true → Begun (record { comps = m; last = l })
+    → ltb k (turn_of (last_of l).turn) ≡ false → 1 ≤ length m
 begun k none m f b h = let z : ◌≡◌ {A = ℕ} 0 1 = cc in absurd (omega arith)
 begun k (some d) m f b h = b.some-comp d refl
 
@@ -172,10 +179,12 @@ abbrev at : List Comp → Option Entry → Progress
 at m l = record { comps = m; last = l }
 
 abbrev with_action : CodeProgress → ℕ → CodeProgress
-with_action p a = record { components = p.components; rows = p.rows; states = p.states; acts = p.acts ∪ only a; clocks = p.clocks; last = last_plain 1 a }
+with_action p a =
+    record { components = p.components; rows = p.rows; states = p.states; acts = p.acts ∪ only a; clocks = p.clocks; last = last_plain OfTurn.Act a }
 
 abbrev with_clock : CodeProgress → ℕ → CodeProgress
-with_clock p x = record { components = p.components; rows = p.rows; states = p.states; acts = p.acts; clocks = p.clocks ∪ only x; last = last_plain 2 x }
+with_clock p x =
+    record { components = p.components; rows = p.rows; states = p.states; acts = p.acts; clocks = p.clocks ∪ only x; last = last_plain OfTurn.Clk x }
 
 abbrev with_key : CodeProgress → Key → CodeProgress
 with_key p k = record {
@@ -184,13 +193,14 @@ with_key p k = record {
   states = p.states;
   acts = p.acts;
   clocks = p.clocks;
-  last = record { turn = 3; number = 0; key = k };
+  last = record { turn = OfTurn.Row; number = 0; key = k };
 }
 
 abbrev with_comp : CodeProgress → ℕ → CodeProgress
-with_comp p n = record { components = p.components + 1; rows = p.rows; states = n; acts = 0; clocks = 0; last = last_plain 0 0 }
+with_comp p n = record { components = p.components + 1; rows = p.rows; states = n; acts = 0; clocks = 0; last = last_plain OfTurn.Comp 0 }
 
-act-taken : (m : List Comp) (l : Option Entry) (a : ℕ) (k : Kind) → 1 ≤ length m → with_action (standing (at m l)) a ≡ standing (next (at m l) (act-entry a k))
+act-taken : (m : List Comp) (l : Option Entry) (a : ℕ) (k : Kind) → 1 ≤ length m
+    → with_action (standing (at m l)) a ≡ standing (next (at m l) (act-entry a k))
 unfolding take_in
 act-taken [] l a k h = absurd (omega arith)
 act-taken (c ∷ cs) l a k h = rw (act-length c cs a k, act-states c cs a k, act-clocks c cs a k, ← acts-with c a k)
@@ -212,7 +222,7 @@ comp-taken m l n s =
     let e : length m + 1 ≡ suc (length m) = omega arith in
     let f : row_count m ≡ 0 + row_count m = omega arith in
     let z : 0 ≡ acts (new_comp n s) = refl in
-    λ i. record { components = e i; rows = f i; states = n; acts = z i; clocks = 0; last = last_plain 0 0 }
+    λ i. record { components = e i; rows = f i; states = n; acts = z i; clocks = 0; last = last_plain OfTurn.Comp 0 }
 
 -- ---- a row's fields as numbers
 guard-below : (g : Option ℕ) → leb (guard_number (guard_is g)) max_clocks ≡ guard_below g
@@ -234,30 +244,32 @@ guard-in s (some x) = refl
 
 -- ---- every kind of line
 module _ (m : List Comp) (l : Option Entry) where
-  comp-is : (n s : ℕ) → comp_step (standing (at m l)) n s ≡ judged_of (fault_of (at m l) (comp-entry n s)) (next (at m l) (comp-entry n s))
+  comp-is : (n s : ℕ) → numbered (comp_step (standing (at m l)) n s) ≡ judged_of (fault_of (at m l) (comp-entry n s)) (next (at m l) (comp-entry n s))
   unfolding comp_step fault_of out_of_range lacks out_of_order too_many
   comp-is n s =
       rw (turn-comp l n s, follows-comp l n s, comp-taken m l n s)
       (chain-is false (leb 1 n && (leb n max_states && ltb s n)) true true (leb max_components (length m)) (next (at m l) (comp-entry n s)))
 
-  act-is : (a : ℕ) (k : Kind) → Begun (at m l) → act_step (standing (at m l)) a ≡ judged_of (fault_of (at m l) (act-entry a k)) (next (at m l) (act-entry a k))
+  act-is : (a : ℕ) (k : Kind) → Begun (at m l)
+      → numbered (act_step (standing (at m l)) a) ≡ judged_of (fault_of (at m l) (act-entry a k)) (next (at m l) (act-entry a k))
   unfolding act_step fault_of out_of_range lacks out_of_order too_many
   act-is a k b =
       let e : after (last_of l) 1 a ≡ (follows l (act-entry a k) && true) = follows-act l a k ∙ sym (and_one (follows l (act-entry a k))) in
-      chain_same (ltb 1 (last_of l).turn) (ltb a max_actions) true (after (last_of l) 1 a) false true (after (last_of l) 1 a)
-      (Taken (standing (next (at m l) (act-entry a k)))) (Taken (with_action (standing (at m l)) a))
-      (λ _. refl) (λ _. refl) (λ h _. ap Taken (act-taken m l a k (begun 1 l m refl b h)))
+      ap numbered (chain_same (ltb 1 (turn_of (last_of l).turn)) (ltb a max_actions) true (after (last_of l) 1 a) false true (after (last_of l) 1 a)
+      (Ok (standing (next (at m l) (act-entry a k)))) (Ok (with_action (standing (at m l)) a))
+      (λ _. refl) (λ _. refl) (λ h _. ap (λ x. Ok x) (act-taken m l a k (begun 1 l m refl b h))))
       ∙ rw (e, turn-act l a k) (chain-is (out_of_turn l (act-entry a k)) (ltb a max_actions) true (follows l (act-entry a k) && true) false
       (next (at m l) (act-entry a k)))
 
-  clk-is : (x b : ℕ) → Begun (at m l) → clk_step (standing (at m l)) x b ≡ judged_of (fault_of (at m l) (clk-entry x b)) (next (at m l) (clk-entry x b))
+  clk-is : (x b : ℕ) → Begun (at m l)
+      → numbered (clk_step (standing (at m l)) x b) ≡ judged_of (fault_of (at m l) (clk-entry x b)) (next (at m l) (clk-entry x b))
   unfolding clk_step fault_of out_of_range lacks out_of_order too_many
   clk-is x b g =
       let e : after (last_of l) 2 x ≡ (follows l (clk-entry x b) && true) = follows-clk l x b ∙ sym (and_one (follows l (clk-entry x b))) in
       let r : Bool = ltb x max_clocks && leb b 1 in
-      chain_same (ltb 2 (last_of l).turn) r true (after (last_of l) 2 x) false true (after (last_of l) 2 x)
-      (Taken (standing (next (at m l) (clk-entry x b)))) (Taken (with_clock (standing (at m l)) x))
-      (λ _. refl) (λ _. refl) (λ h _. ap Taken (clk-taken m l x b (begun 2 l m refl g h)))
+      ap numbered (chain_same (ltb 2 (turn_of (last_of l).turn)) r true (after (last_of l) 2 x) false true (after (last_of l) 2 x)
+      (Ok (standing (next (at m l) (clk-entry x b)))) (Ok (with_clock (standing (at m l)) x))
+      (λ _. refl) (λ _. refl) (λ h _. ap (λ x. Ok x) (clk-taken m l x b (begun 2 l m refl g h))))
       ∙ rw (e, turn-clk l x b) (chain-is (out_of_turn l (clk-entry x b)) r true (follows l (clk-entry x b) && true) false (next (at m l) (clk-entry x b)))
 
   module _ (s : ℕ) (g : Option ℕ) (a : ℕ) (r : List ℕ) (t : ℕ) where
@@ -278,7 +290,7 @@ module _ (m : List Comp) (l : Option Entry) where
     ranged = ltb s n && (guard_below g && (ltb a max_actions && (all_below max_clocks r && ltb t n)))
 
     abbrev ordered : Key → Bool
-    ordered q = cond (eqb (last_of l).turn 3) (key_before (last_of l).key q) true && (summary r).ascend
+    ordered q = cond (eqb (turn_of (last_of l).turn) 3) (key_before (last_of l).key q) true && (summary r).ascend
 
     range-is : in_range n key (summary r).clocks ≡ ranged
     unfolding in_range
@@ -299,22 +311,24 @@ module _ (m : List Comp) (l : Option Entry) where
     order_is : ranged ≡ true → ordered key ≡ (follows l e && ascending r)
     order_is h = rw (key-is h, follows-row l s g a r t, summary-ascend r)
 
-    row_is : Begun (at m l) → row_step (standing (at m l)) key (summary r).clocks (summary r).ascend ≡ judged_of (fault_of (at m l) e) (next (at m l) e)
+    row_is : Begun (at m l)
+        → numbered (row_step (standing (at m l)) key (summary r).clocks (summary r).ascend) ≡ judged_of (fault_of (at m l) e) (next (at m l) e)
     unfolding row_step fault_of out_of_range lacks out_of_order too_many
     row_is b =
         rw range-is
-        (chain_same (ltb 3 (last_of l).turn) ranged (guard_in k g && (has (acts (current (at m l))) a && all_in k r)) (follows l e && ascending r)
+        (ap numbered (chain_same (ltb 3 (turn_of (last_of l).turn)) ranged (guard_in k g && (has (acts (current (at m l))) a && all_in k r))
+        (follows l e && ascending r)
         (leb max_rows (row_count m))
         (named (standing (at m l)) key) (ordered key)
-        (Taken (standing (next (at m l) e))) (Taken (with_key (standing (at m l)) key))
+        (Ok (standing (next (at m l) e))) (Ok (with_key (standing (at m l)) key))
         named-is order_is
-        (λ h c. ap (λ q. Taken (with_key (standing (at m l)) q)) (key-is c) ∙ ap Taken (row-taken m l s g a r t (begun 3 l m refl b h)))
+        (λ h c. ap (λ q. Ok (with_key (standing (at m l)) q)) (key-is c) ∙ ap (λ x. Ok x) (row-taken m l s g a r t (begun 3 l m refl b h))))
         ∙ rw (turn-row l s g a r t)
         (chain-is (out_of_turn l e) ranged (guard_in k g && (has (acts (current (at m l))) a && all_in k r)) (follows l e && ascending r)
         (leb max_rows (row_count m)) (next (at m l) e)))
 
 -- judging a line by what the code keeps is judging it by the definition
-pub step_is : (q : Progress) (e : Entry) → Begun q → step_of (standing q) (line_of e) ≡ judged_of (fault_of q e) (next q e)
+pub step_is : (q : Progress) (e : Entry) → Begun q → numbered (step_of (standing q) (line_of e)) ≡ judged_of (fault_of q e) (next q e)
 step_is q (comp-entry n s) b = comp-is q.comps q.last n s
 step_is q (act-entry a k) b = act-is q.comps q.last a k b
 step_is q (clk-entry x c) b = clk-is q.comps q.last x c b

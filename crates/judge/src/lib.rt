@@ -3,14 +3,14 @@
 
 ghost use Rattle.std.specs.Prelude.{◌≡◌, true, ◌≤◌, ◌<◌};
 ghost use Rattle.answer.specs.Limits.{max_actions, max_clocks};
-ghost use Rattle.judge.specs.Judged.{guard_number, key_before, last_plain, in_range, guard_named, named, comp_step, act_step, clk_step, row_step, step_of, beginning};
+ghost use Rattle.judge.specs.Judged.{guard_number, last_plain, in_range, guard_named, named, comp_step, act_step, clk_step, row_step, step_of, beginning};
 
 use answer::Model;
 use fields::{Guard, Resets};
 use lines::Line;
 
-// What "`row` lines ascend strictly by": from, action, guard (0 for `-`, x + 1 for clock x), resets, target.
-#[derive(Clone, Copy)]
+// What "`row` lines ascend strictly by", in this order: from, action, guard (0 for `-`, x + 1 for clock x), resets, target.
+#[derive(Clone, Copy, PartialEq, Eq, PartialOrd, Ord)]
 pub struct Key {
     pub from: u64,
     pub action: u64,
@@ -19,10 +19,20 @@ pub struct Key {
     pub target: u64,
 }
 
-// The last line: its turn (`comp` 0, `act` 1, `clk` 2, `row` 3; 4 before any line), its action or clock, and a row's key.
+// The kinds of lines in their turn; `Nothing` is before any line, so that only `comp` is in turn.
+#[derive(Clone, Copy, PartialEq, Eq, PartialOrd, Ord)]
+pub enum Turn {
+    Comp,
+    Act,
+    Clk,
+    Row,
+    Nothing,
+}
+
+// The last line: its turn, its action or clock, and a row's key.
 #[derive(Clone, Copy)]
 pub struct Last {
-    pub turn: u64,
+    pub turn: Turn,
     pub number: u64,
     pub key: Key,
 }
@@ -38,21 +48,15 @@ pub struct Progress {
     pub last: Last,
 }
 
-#[derive(Drop)]
-pub enum Judged {
-    Fault(u8),
-    Taken(Progress),
+// What may be wrong with a line of good shape, by its number (paper 01, "Refusal numbers").
+#[derive(Clone, Copy, PartialEq, Eq)]
+pub enum Fault {
+    Turn = 3,
+    Range = 4,
+    Name = 5,
+    Order = 6,
+    Many = 7,
 }
-
-pub const COMP: u64 = 0;
-
-pub const ACT: u64 = 1;
-
-pub const CLK: u64 = 2;
-
-pub const ROW: u64 = 3;
-
-pub const NOTHING: u64 = 4;
 
 // A guard as a number; every number that is no clock is one number above all clocks.
 pub fn guard_number(g: Guard) -> u64
@@ -60,36 +64,12 @@ pub fn guard_number(g: Guard) -> u64
 {
     match g {
         Guard::Dash => 0,
-        Guard::Clock(x) => {
-            if x < Model::CLOCKS as u64 {
-                x + 1
-            } else {
-                Model::CLOCKS as u64 + 1
-            }
-        }
+        Guard::Clock(x) => x.min(Model::CLOCKS as u64) + 1,
     }
-}
-
-fn key_before(a: Key, b: Key) -> bool
-    ensures { result ≡ key_before a b }
-{
-    if a.from != b.from {
-        return a.from < b.from;
-    }
-    if a.action != b.action {
-        return a.action < b.action;
-    }
-    if a.guard != b.guard {
-        return a.guard < b.guard;
-    }
-    if a.resets != b.resets {
-        return a.resets < b.resets;
-    }
-    a.target < b.target
 }
 
 // The last line where it has no action, clock or row.
-fn plain(turn: u64, number: u64) -> Last
+fn plain(turn: Turn, number: u64) -> Last
     ensures { result ≡ last_plain turn number }
 {
     Last {
@@ -105,170 +85,129 @@ fn plain(turn: u64, number: u64) -> Last
     }
 }
 
-fn comp_step(p: Progress, states: u64, start: u64) -> Judged
+#[tactic(auto, unfolding(crate::specs::Judged::comp_step))]
+fn comp_step(p: Progress, states: u64, start: u64) -> Result<Progress, Fault>
     ensures { result ≡ comp_step p states start }
 {
-    if states < 1 {
-        return Judged::Fault(4);
-    }
-    if (Model::STATES as u64) < states {
-        return Judged::Fault(4);
-    }
-    if states <= start {
-        return Judged::Fault(4);
+    if states < 1 || (Model::STATES as u64) < states || states <= start {
+        return Err(Fault::Range);
     }
     if Model::COMPONENTS <= p.components {
-        return Judged::Fault(7);
+        return Err(Fault::Many);
     }
-    let last = plain(COMP, 0);
-    Judged::Taken(Progress {
+    let last = plain(Turn::Comp, 0);
+    Ok(Progress {
         components: p.components + 1,
-        rows: p.rows,
         states,
         acts: 0,
         clocks: 0,
         last,
+        ..p
     })
 }
 
-fn act_step(p: Progress, action: u64) -> Judged
+#[tactic(auto, unfolding(crate::specs::Judged::act_step))]
+fn act_step(p: Progress, action: u64) -> Result<Progress, Fault>
     ensures { result ≡ act_step p action }
 {
     let before = p.last;
-    if ACT < before.turn {
-        return Judged::Fault(3);
+    if Turn::Act < before.turn {
+        return Err(Fault::Turn);
     }
     if Model::ACTIONS as u64 <= action {
-        return Judged::Fault(4);
+        return Err(Fault::Range);
     }
-    if before.turn == ACT {
-        if action <= before.number {
-            return Judged::Fault(6);
-        }
+    if before.turn == Turn::Act && action <= before.number {
+        return Err(Fault::Order);
     }
-    let last = plain(ACT, action);
+    let last = plain(Turn::Act, action);
     let acts = sets::union(p.acts, sets::single(action));
-    Judged::Taken(Progress {
-        components: p.components,
-        rows: p.rows,
-        states: p.states,
-        acts,
-        clocks: p.clocks,
-        last,
-    })
+    Ok(Progress { acts, last, ..p })
 }
 
-fn clk_step(p: Progress, clock: u64, set: u64) -> Judged
+#[tactic(auto, unfolding(crate::specs::Judged::clk_step))]
+fn clk_step(p: Progress, clock: u64, set: u64) -> Result<Progress, Fault>
     ensures { result ≡ clk_step p clock set }
 {
     let before = p.last;
-    if CLK < before.turn {
-        return Judged::Fault(3);
+    if Turn::Clk < before.turn {
+        return Err(Fault::Turn);
     }
-    if Model::CLOCKS as u64 <= clock {
-        return Judged::Fault(4);
+    if Model::CLOCKS as u64 <= clock || 1 < set {
+        return Err(Fault::Range);
     }
-    if 1 < set {
-        return Judged::Fault(4);
+    if before.turn == Turn::Clk && clock <= before.number {
+        return Err(Fault::Order);
     }
-    if before.turn == CLK {
-        if clock <= before.number {
-            return Judged::Fault(6);
-        }
-    }
-    let last = plain(CLK, clock);
+    let last = plain(Turn::Clk, clock);
     let clocks = sets::union(p.clocks, sets::single(clock));
-    Judged::Taken(Progress {
-        components: p.components,
-        rows: p.rows,
-        states: p.states,
-        acts: p.acts,
-        clocks,
-        last,
-    })
+    Ok(Progress { clocks, last, ..p })
 }
 
+#[tactic(auto, unfolding(crate::specs::Judged::in_range))]
 fn in_range(states: u64, key: Key, clocks: bool) -> bool
     ensures { result ≡ in_range states key clocks }
 {
-    if states <= key.from {
-        return false;
-    }
-    if (Model::CLOCKS as u64) < key.guard {
-        return false;
-    }
-    if Model::ACTIONS as u64 <= key.action {
-        return false;
-    }
-    if !clocks {
-        return false;
-    }
-    key.target < states
+    key.from < states
+        && key.guard <= Model::CLOCKS as u64
+        && key.action < Model::ACTIONS as u64
+        && clocks
+        && key.target < states
 }
 
+#[tactic(auto, unfolding(crate::specs::Judged::guard_named))]
 fn guard_named(clocks: u64, guard: u64) -> bool
     requires { guard ≤ max_clocks }
     ensures { result ≡ guard_named clocks guard }
 {
-    if guard == 0 {
-        return true;
-    }
-    sets::has(clocks, guard - 1)
+    guard == 0 || sets::has(clocks, guard - 1)
 }
 
+#[tactic(auto, unfolding(crate::specs::Judged::named))]
 fn names_all(p: Progress, key: Key) -> bool
     requires { (key.guard ≤ max_clocks) × (key.action < max_actions) }
     ensures { result ≡ named p key }
 {
-    if !guard_named(p.clocks, key.guard) {
-        return false;
-    }
-    if !sets::has(p.acts, key.action) {
-        return false;
-    }
-    sets::lies_in(key.resets, p.clocks)
+    guard_named(p.clocks, key.guard)
+        && sets::has(p.acts, key.action)
+        && sets::lies_in(key.resets, p.clocks)
 }
 
-fn row_step(p: Progress, key: Key, clocks: bool, ascend: bool) -> Judged
+#[tactic(auto, using(crate::proofs::KeyLaws::key_less), unfolding(crate::specs::Judged::row_step))]
+fn row_step(p: Progress, key: Key, clocks: bool, ascend: bool) -> Result<Progress, Fault>
     ensures { result ≡ row_step p key clocks ascend }
 {
     let before = p.last;
-    if ROW < before.turn {
-        return Judged::Fault(3);
+    if Turn::Row < before.turn {
+        return Err(Fault::Turn);
     }
     if !in_range(p.states, key, clocks) {
-        return Judged::Fault(4);
+        return Err(Fault::Range);
     }
     if !names_all(p, key) {
-        return Judged::Fault(5);
+        return Err(Fault::Name);
     }
-    if before.turn == ROW {
-        let k = before.key;
-        if !key_before(k, key) {
-            return Judged::Fault(6);
-        }
+    if before.turn == Turn::Row && !(before.key < key) {
+        return Err(Fault::Order);
     }
     if !ascend {
-        return Judged::Fault(6);
+        return Err(Fault::Order);
     }
     if Model::ROWS <= p.rows {
-        return Judged::Fault(7);
+        return Err(Fault::Many);
     }
-    Judged::Taken(Progress {
-        components: p.components,
+    Ok(Progress {
         rows: p.rows + 1,
-        states: p.states,
-        acts: p.acts,
-        clocks: p.clocks,
         last: Last {
-            turn: ROW,
+            turn: Turn::Row,
             number: 0,
             key,
         },
+        ..p
     })
 }
 
-pub fn step(p: Progress, l: Line) -> Judged
+pub fn step(p: Progress, l: Line) -> Result<Progress, Fault>
     ensures { result ≡ step_of p l }
 {
     match l {
@@ -298,7 +237,7 @@ pub fn step(p: Progress, l: Line) -> Judged
 pub fn at_start() -> Progress
     ensures { result ≡ beginning }
 {
-    let last = plain(NOTHING, 0);
+    let last = plain(Turn::Nothing, 0);
     Progress {
         components: 0,
         rows: 0,

@@ -109,8 +109,7 @@ fn walk_set(list: &mut [u8], write: bool, n: Tally, lacking: u64, i: usize, s: u
             state: s,
             action: a as u64,
         };
-        let next = walk_action(list, write, m, lacking, x);
-        m = next;
+        m = walk_action(list, write, m, lacking, x);
     }
     m
 }
@@ -135,8 +134,7 @@ fn walk_component(t: &[u64], list: &mut [u8], write: bool, n: Tally, i: usize) -
     let states = layout::block_word(t, i, layout::STATES) as usize;
     let mut m = n;
     for s in 0..states {
-        let next = walk_state(t, list, write, m, i, s);
-        m = next;
+        m = walk_state(t, list, write, m, i, s);
     }
     m
 }
@@ -149,8 +147,7 @@ pub fn walk(t: &[u64], list: &mut [u8], write: bool, n: Tally) -> Tally
     let count = layout::count_of(t) as usize;
     let mut m = n;
     for i in 0..count {
-        let next = walk_component(t, list, write, m, i);
-        m = next;
+        m = walk_component(t, list, write, m, i);
     }
     m
 }

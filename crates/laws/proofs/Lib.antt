@@ -11,3 +11,4 @@ pub mod GrowLaws
 pub mod TabLaws
 pub mod UnionLaws
 pub mod OrderedLaws
+pub mod Exits

@@ -2,7 +2,7 @@
 use Rattle.std.specs.Prelude.{◌≡◌, List, ◌∷◌, ℕ, ◌*◌, length, take}
 use Rattle.std.proofs.Math.Option.{some}
 use Rattle.answer.specs.Told.{Answer, refused, says_checked, done_of}
-use Rattle.answer.specs.declared.Checked.{Checked}
+use Rattle.answer.specs.Told.{Checked}
 use Rattle.model.specs.Model.{Comp, Model}
 use Rattle.model.specs.WellFormed.{WellFormed}
 use Rattle.layout.specs.Layout.{image_words}

@@ -1,5 +1,5 @@
 -- The three tables of 02, 8/13, by the rows of a table: what each action triggers, what is in one set with it, and the actions that enable it.
-use Rattle.std.specs.Prelude.{◌≡◌, Bool, List, ℕ, suc, ◌≤◌, ◌<◌, length}
+use Rattle.std.specs.Prelude.{◌≡◌, List, ℕ, suc, ◌≤◌, ◌<◌, length}
 use Rattle.laws.specs.Sets.{only}
 use Rattle.laws.specs.Fold.{over}
 use Rattle.model.specs.Model.{Row, Comp, Model, row_at, comp_at}

@@ -1,10 +1,8 @@
 -- A line's scan goes field by field.
 use mathlib.Core.Path.{◌≡◌, refl, sym, ◌∙◌, ap}
 use mathlib.Core.Option.{Option}
-use mathlib.Core.List.{List, [], ◌∷◌}
-use mathlib.Core.Bool.{Bool, true, false}
+use mathlib.Core.List.{List}
 use Prim.Native.Nat.{ℕ}
-use lib.Dec.{eqb}
 use Rattle.model.specs.Text.{lf, comp_word, act_word, clk_word, row_word}
 use Rattle.model.specs.Reading.{Scan, is, stops, got, then, shorter, exactly, the_byte, number, guard_or_dash, numbers_or_dash, Entry, row-entry, field}
 use Rattle.model.specs.Reading.{ended, comp_entry, act_entry, clk_entry, row_entry, entry}
@@ -40,19 +38,6 @@ valued-is f (stops cs) e = absurd (no-is refl e)
 valued-is f (is g) {y} {bs} e =
     let s = is-inj e in
     (g.value, ap (λ h. got g.value h.rest) s, ap (λ h. h.value) s)
-
--- one byte stops where it began
-pub byte-stops : (b : ℕ) (bs : List ℕ) {cs : List ℕ} → the_byte b bs ≡ stops cs → the_byte b bs ≡ stops bs
-unfolding exactly
-byte-stops b [] e = refl
-byte-stops b (x ∷ xs) {cs} e = go (eqb b x) e
-  where
-    byte : Bool → Scan (Unit {0})
-    byte t = elim t as (λ _. Scan (Unit {0})) [ true ↦ got tt xs | false ↦ stops (x ∷ xs) ]
-
-    go : (t : Bool) → byte t ≡ stops cs → byte t ≡ stops (x ∷ xs)
-    go true h = absurd (no-is h refl)
-    go false h = refl
 
 -- ---- a line, field by field
 -- its end

@@ -1,17 +1,17 @@
 -- What a line's answer says: the line of an entry and the bytes behind it, or the bytes from where its scan stopped.
 use Rattle.std.proofs.Math.Option.{Option, none, some}
-use Rattle.std.specs.Prelude.{List, ℕ, drop}
+use Rattle.std.specs.Prelude.{List, ℕ, Result}
 use Rattle.model.specs.Text.{lf, comp_word, act_word, clk_word, row_word, Kind as TheKind, in-kind, out-kind, uin-kind, uout-kind}
 use Rattle.model.specs.Reading.{Scan, is, stops, got, then, shorter, exactly, the_byte, field, number, numbers_or_dash, Entry, comp-entry, act-entry, clk-entry, row-entry}
+use Rattle.fields.specs.declared.Cursor.{Cursor}
 use Rattle.fields.specs.declared.Guard.{Guard}
 use Rattle.fields.specs.declared.Guard.TheVariants as OfGuard
 use Rattle.fields.specs.declared.Kind.{Kind}
 use Rattle.fields.specs.declared.Kind.TheVariants as OfKind
+use Rattle.fields.specs.Fields.{scanned}
 use Rattle.fields.specs.Resets.{summary, valued}
 use Rattle.lines.specs.declared.Line.{Line}
 use Rattle.lines.specs.declared.Line.TheVariants.{Comp, Act, Clk, Row}
-use Rattle.lines.specs.declared.LineScan.{LineScan}
-use Rattle.lines.specs.declared.LineScan.TheVariants as OfScan
 
 abbrev pub guard_is : Option ℕ → Guard
 guard_is none = OfGuard.Dash
@@ -30,9 +30,8 @@ line_of (act-entry a k) = Act a (kind_is k)
 line_of (clk-entry x b) = Clk x b
 line_of (row-entry s g a r t) = Row s (guard_is g) a (summary r) t
 
-abbrev pub got_line : List ℕ → LineScan → Scan Line
-got_line t (OfScan.Is c l) = got l (drop c.at t)
-got_line t (OfScan.Missing c) = stops (drop c.at t)
+abbrev pub got_line : List ℕ → Result (Cursor × Line) Cursor → Scan Line
+got_line t r = scanned (λ l. l) t r
 
 -- a row behind its action: resets, target, LF
 unfoldable pub row_end : ℕ → Guard → ℕ → List ℕ → Scan Line

@@ -6,6 +6,8 @@ use Prim.Native.Nat.{ℕ, suc, ◌+◌, ◌≤◌, ◌<◌}
 use native.Mathlib.Omega.{arith}
 use borrow.Author.Tests.{lt-ltb, le-ltb}
 use lib.ListN.{length}
+use Rattle.std.specs.Prelude as Answered
+use Rattle.std.specs.Prelude.{Some, None, IfSome}
 use Rattle.laws.specs.Sets.{◌∪◌}
 use Rattle.answer.specs.Limits.{max_components, max_actions, max_budget}
 use Rattle.answer.specs.State.{parts_of, with_parts}
@@ -64,3 +66,8 @@ shown-low a h = let e : shown_of a ≡ suc a = ap (λ b. cond b (suc a) 0) (lt-l
 pub shown-high : (a : ℕ) → max_actions ≤ a → 0 ≡ shown_of a
 unfolding shown_of
 shown-high a h = sym (ap (λ b. cond b (suc a) 0) (le-ltb a max_actions h))
+
+-- ---- what is said of a value, if there is one
+pub first-said : {A : Type 0} (P Q : A → Type 0) (o : Answered.Option A) → ((x : A) → P x → Q x) → IfSome o P → IfSome o Q
+first-said P Q (Some x) f p = f x p
+first-said P Q None f p = tt

@@ -1,7 +1,7 @@
 // The rounds of a simulation with their lines (paper 02, 4/13): each line is written before the next round begins, so that a reader sees it at once.
 #![tactic(auto)]
 
-ghost use Rattle.std.specs.Prelude.{◌≡◌, ◌≤◌, length};
+ghost use Rattle.std.specs.Prelude.{◌≡◌, ◌≤◌, length, IfSome};
 ghost use Rattle.answer.specs.Limits.{max_clocks};
 ghost use Rattle.answer.specs.State.{parts_of};
 ghost use Rattle.layout.specs.Image.{model_of};
@@ -12,20 +12,12 @@ ghost use Rattle.rounds.specs.Rounds.{Posed, Placed, CloseCall, LaterCall, First
 ghost use Rattle.printout.specs.Printed.{Filled};
 ghost use Rattle.lining.specs.Settled.{settled_line, shown_of, line_bytes};
 
-use answer::{Firing, Model, State};
+use answer::{Firing, Model, Refusal, State};
 use feed::Source;
-use rounds::{Closed, Closing, Plan, Stand};
-use stream::Moved;
+use rounds::{Plan, Stand};
 
 // No line is longer.
 const LINE: usize = 512;
-
-// A round, and whether its line was written whole.
-#[derive(Drop)]
-struct Said {
-    closed: Closed,
-    whole: bool,
-}
 
 // The action one up, as it is printed.
 fn shown(action: u64) -> u64
@@ -42,27 +34,21 @@ fn put_line(t: &[u64], s: Stand, ticks: u64, g: u64, line: &mut [u8]) -> usize
     requires { Ready t.now s.state × (line_bytes ≤ length line.old) }
     ensures { Filled (settled_line (model_of t.now) s.round ticks g s.resets (parts_of s.state)) line.new result }
 {
-    let begun = s.state;
-    let round = s.round;
-    let d = settling::untraced(t, begun, State::BUDGET);
-    let state = d.state;
+    let d = settling::untraced(t, s.state, State::BUDGET);
     let resets = sets::union(s.resets, d.resets);
-    roundlines::put_round(line, round, ticks, g, state, resets)
+    roundlines::put_round(line, s.round, ticks, g, d.state, resets)
 }
 
-// The line of a round that is done is written: false says that it could not be, and that this was told.
-fn write_line(rt: &HostRuntime, closing: Closing, line: &[u8]) -> bool {
-    let Closing::Done = closing else {
-        return true;
-    };
-    if let Moved::Failed(e) = stream::write(rt, &mut rt.stdout(), line) {
+// A line is written: false says that it could not be, and that this was told.
+fn write_line(rt: &HostRuntime, line: &[u8]) -> bool {
+    if let Err(e) = stream::write(rt, &mut rt.stdout(), line) {
         failing::say(rt, b"simulate: a line could not be written whole", e);
         return false;
     }
     true
 }
 
-// A round settles, ends, and is said.
+// A round settles, ends, and is said where it is done; none where its line could not be written.
 fn close_said(
     rt: &HostRuntime,
     t: &[u64],
@@ -74,20 +60,21 @@ fn close_said(
     ticks: u64,
     g: u64,
     values: &mut [i64],
-) -> Said
+) -> Option<Result<State, Refusal>>
     requires { Placed at.old used.old × Posed t.now s.state values.old }
-    ensures { CloseCall t.now (lent s.from text.now numbers.now) s at.old used.old values.old result.closed
-        at.new used.new values.new }
+    ensures { IfSome result (λ c. CloseCall t.now (lent s.from text.now numbers.now) s at.old used.old values.old c
+        at.new used.new values.new) }
 {
     let mut line = [0u8; LINE];
     let end = put_line(t, s, ticks, g, &mut line);
     let closed = rounds::close(t, text, numbers, at, used, s, values);
-    let closing = closed.closing;
-    let whole = write_line(rt, closing, &line[..end]);
-    Said { closed, whole }
+    if closed.is_ok() && !write_line(rt, &line[..end]) {
+        return None;
+    }
+    Some(closed)
 }
 
-// A later round.
+// A later round: done, or quiet, or refused; none where its line could not be written.
 fn later_said(
     rt: &HostRuntime,
     t: &[u64],
@@ -97,56 +84,33 @@ fn later_said(
     used: &mut [usize; Model::CLOCKS],
     s: Stand,
     values: &mut [i64],
-) -> Said
+) -> Option<Result<Option<State>, Refusal>>
     requires { Placed at.old used.old × Posed t.now s.state values.old }
-    ensures { LaterCall t.now (lent s.from text.now numbers.now) s at.old used.old values.old result.closed
-        at.new used.new values.new }
+    ensures { IfSome result (λ c. LaterCall t.now (lent s.from text.now numbers.now) s at.old used.old values.old c
+        at.new used.new values.new) }
 {
-    let begun = s.state;
-    let from = s.from;
-    let round = s.round;
-    let shot = firing::shoot(t, begun, values);
-    let state = shot.state;
-    let firing = shot.firing;
-    match firing {
-        Firing::Fired {
-            ticks,
-            action,
-            resets,
-        } => {
-            let g = shown(action);
-            close_said(
-                rt,
-                t,
-                text,
-                numbers,
-                at,
-                used,
-                Stand {
-                    from,
-                    round,
-                    state,
-                    resets,
-                },
+    match firing::shoot(t, s.state, values) {
+        Ok(shot) => match shot.firing {
+            Firing::Fired {
                 ticks,
-                g,
-                values,
-            )
-        }
-        Firing::Quiet => Said {
-            closed: Closed {
-                closing: Closing::Quiet,
-                state: begun,
-            },
-            whole: true,
+                action,
+                resets,
+            } => {
+                let g = shown(action);
+                let fired = Stand {
+                    from: s.from,
+                    round: s.round,
+                    state: shot.state,
+                    resets,
+                };
+                match close_said(rt, t, text, numbers, at, used, fired, ticks, g, values)? {
+                    Ok(next) => Some(Ok(Some(next))),
+                    Err(q) => Some(Err(q)),
+                }
+            }
+            Firing::Quiet => Some(Ok(None)),
         },
-        Firing::Refused(q) => Said {
-            closed: Closed {
-                closing: Closing::Refused(q),
-                state: begun,
-            },
-            whole: true,
-        },
+        Err(q) => Some(Err(q)),
     }
 }
 
@@ -167,34 +131,23 @@ fn later_lines(
     let from = plan.from;
     let rounds = plan.rounds;
     let mut state = begun;
-    let mut k = 0usize;
-    while k < rounds {
-        let c = later_said(
-            rt,
-            t,
-            text,
-            numbers,
-            at,
-            used,
-            Stand {
-                from,
-                round: k + 1,
-                state,
-                resets: 0,
-            },
-            values,
-        );
-        if !c.whole {
+    for k in 0..rounds {
+        let s = Stand {
+            from,
+            round: k + 1,
+            state,
+            resets: 0,
+        };
+        let Some(said) = later_said(rt, t, text, numbers, at, used, s, values) else {
             return false;
-        }
-        let closed = c.closed;
-        let next = closed.state;
-        let closing = closed.closing;
-        let Closing::Done = closing else {
+        };
+        let Ok(turn) = said else {
+            return true;
+        };
+        let Some(next) = turn else {
             return true;
         };
         state = next;
-        k += 1;
     }
     true
 }
@@ -209,30 +162,20 @@ fn first_said(
     at: &mut [usize; Model::CLOCKS],
     used: &mut [usize; Model::CLOCKS],
     values: &mut [i64],
-) -> Said
+) -> Option<Result<State, Refusal>>
     requires { Runnable t.now × Placed at.old used.old × (values.old ≡ no_values) }
-    ensures { FirstCall t.now (lent from text.now numbers.now) at.old used.old result.closed
-        at.new used.new values.new }
+    ensures { IfSome result (λ c. FirstCall t.now (lent from text.now numbers.now) at.old used.old c
+        at.new used.new values.new) }
 {
     let state = outset::start_state(t);
     let resets = layout::joined(t, layout::STARTED);
-    close_said(
-        rt,
-        t,
-        text,
-        numbers,
-        at,
-        used,
-        Stand {
-            from,
-            round: 0,
-            state,
-            resets,
-        },
-        0,
-        0,
-        values,
-    )
+    let s = Stand {
+        from,
+        round: 0,
+        state,
+        resets,
+    };
+    close_said(rt, t, text, numbers, at, used, s, 0, 0, values)
 }
 
 // Round 0 and so many later rounds, over the samples that stand at the places: false says that a line was not written.
@@ -248,15 +191,11 @@ pub fn lines(
 {
     let mut used = [0usize; Model::CLOCKS];
     let mut values = [0i64; Model::CLOCKS];
-    let from = plan.from;
-    let begun = first_said(rt, t, from, text, numbers, at, &mut used, &mut values);
-    if !begun.whole {
+    let first = first_said(rt, t, plan.from, text, numbers, at, &mut used, &mut values);
+    let Some(begun) = first else {
         return false;
-    }
-    let closed = begun.closed;
-    let state = closed.state;
-    let closing = closed.closing;
-    let Closing::Done = closing else {
+    };
+    let Ok(state) = begun else {
         return true;
     };
     later_lines(

@@ -71,11 +71,8 @@ fn first_signal(sort: Sort) -> u64
     ensures { result ≡ first_signal (sort_is sort) }
 {
     match sort {
-        Sort::Be => 0,
-        Sort::And => 2,
-        Sort::Or => 2,
-        Sort::Pand => 2,
-        Sort::Rbox => 0,
+        Sort::Be | Sort::Rbox => 0,
+        Sort::And | Sort::Or | Sort::Pand => 2,
     }
 }
 
@@ -93,9 +90,7 @@ fn signal_count(sort: Sort, boxed: bool) -> usize
     let all = be_signals(boxed);
     match sort {
         Sort::Be => all,
-        Sort::And => 2,
-        Sort::Or => 2,
-        Sort::Pand => 2,
+        Sort::And | Sort::Or | Sort::Pand => 2,
         Sort::Rbox => 0,
     }
 }

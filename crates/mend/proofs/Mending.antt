@@ -7,8 +7,8 @@ use native.Mathlib.Omega.{arith}
 use lib.ListN.{length}
 use Rattle.answer.specs.Told.{Told, told, Answer, answered, refused, as_refused, says_written}
 use Rattle.answer.specs.declared.Refusal.{Refusal}
-use Rattle.answer.specs.declared.Written.{Written}
-use Rattle.answer.specs.declared.Written.TheVariants.{Length, Refused}
+use Rattle.answer.specs.Told.{Written}
+use Rattle.std.specs.Prelude.{Ok, Err}
 use Rattle.model.specs.Model.{Model}
 use Rattle.model.specs.Text.{text_of}
 use Rattle.model.specs.Reading.{read_of}
@@ -38,7 +38,7 @@ module _ (t l t' l' : List ℕ) (im : Image t) (long : cell_bytes * most_cells �
   unfolding repair_on
   on = on-image t (repair_of (length l)) ((image-exactly t).1 im) ∙ ap (λ n. repair_of n (model_of t)) (sym long)
 
-  pub repair-refused : (r : Written) (f : Refusal) → r ≡ Refused f → Repairing t l r t' l'
+  pub repair-refused : (r : Written) (f : Refusal) → r ≡ Err f → Repairing t l r t' l'
       → (u : Told) × (told f ≡ some u) × (repaired_text (model_of t) ≡ refused_line u)
   unfolding says_written repaired_text
   repair-refused r f e g = go (told f) refl (repair_of (cell_bytes * most_cells) (model_of t)) refl
@@ -51,7 +51,7 @@ module _ (t l t' l' : List ℕ) (im : Image t) (long : cell_bytes * most_cells �
       go (some u) p (answered d) q s = absurd (let z : ◌≡◌ {A = ℕ} 0 1 = cc in omega arith)
       go (some u) p (refused v) q s = let w : u ≡ v = cc in (u, p, rw (q, repaired_text) (ap refused_line (sym w)))
 
-  pub repair-fine : (r : Written) (n : ℕ) → r ≡ Length n → Repairing t l r t' l' → Image t' × (repaired_text (model_of t) ≡ text_of (model_of t'))
+  pub repair-fine : (r : Written) (n : ℕ) → r ≡ Ok n → Repairing t l r t' l' → Image t' × (repaired_text (model_of t) ≡ text_of (model_of t'))
   unfolding says_written repaired_text
   repair-fine r n e g = go (repair_of (cell_bytes * most_cells) (model_of t)) refl (ap says_written (sym e) ∙ g.answer ∙ ap (λ a. some (number_in a)) on)
     where

@@ -9,8 +9,7 @@ ghost use Rattle.steplines.specs.Run.{most_bytes};
 ghost use Rattle.printout.specs.Printed.{Printed, Filled};
 ghost use Rattle.mend.specs.Mended.{repaired_text, mended_text};
 
-use answer::{Checked, Model, Written};
-use stream::Moved;
+use answer::Model;
 
 // Three bytes for every state and action of the largest model, so that 24 never comes.
 const LIST: usize = 3 * (Model::ACTIONS * Model::STATES * Model::COMPONENTS);
@@ -27,10 +26,9 @@ fn put_repaired(t: &mut [u64], out: &mut [u8]) -> usize
     ensures { Printed (repaired_text (model_of t.old)) out.old out.new result }
 {
     let mut list = empty_list();
-    let written = repair::repair(t, &mut list);
-    match written {
-        Written::Refused(f) => printout::put_refusal(f, out),
-        Written::Length(_) => printout::put_model(t, out),
+    match repair::repair(t, &mut list) {
+        Err(f) => printout::put_refusal(f, out),
+        Ok(_) => printout::put_model(t, out),
     }
 }
 
@@ -39,10 +37,9 @@ fn put_mended(input: &[u8], out: &mut [u8]) -> usize
     ensures { Printed (mended_text input.now) out.old out.new result }
 {
     let mut table = [0u64; layout::WORDS];
-    let checked = text::read(input, &mut table);
-    match checked {
-        Checked::Refused(f) => printout::put_refusal(f, out),
-        Checked::Fine => put_repaired(&mut table, out),
+    match text::read(input, &mut table) {
+        Err(f) => printout::put_refusal(f, out),
+        Ok(()) => put_repaired(&mut table, out),
     }
 }
 
@@ -57,7 +54,7 @@ fn filled(input: &[u8], out: &mut [u8]) -> usize
 fn answer(rt: &HostRuntime, input: &[u8]) {
     let mut out = printout::empty_out();
     let k = filled(input, &mut out);
-    if let Moved::Failed(e) = stream::write(rt, &mut rt.stdout(), &out[..k]) {
+    if let Err(e) = stream::write(rt, &mut rt.stdout(), &out[..k]) {
         failing::say(rt, b"mend: the text could not be written whole", e);
     }
 }
@@ -65,7 +62,7 @@ fn answer(rt: &HostRuntime, input: &[u8]) {
 fn main(rt: HostRuntime) {
     let mut input = printout::empty_input();
     match stream::read(&rt, &mut rt.stdin(), &mut input) {
-        Moved::Bytes(n) => answer(&rt, &input[..n]),
-        Moved::Failed(e) => failing::say(&rt, b"mend: standard input could not be read", e),
+        Ok(n) => answer(&rt, &input[..n]),
+        Err(e) => failing::say(&rt, b"mend: standard input could not be read", e),
     }
 }

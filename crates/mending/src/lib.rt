@@ -51,11 +51,7 @@ fn takes_row(t: &[u64], s: usize, hi: usize, left: u64, r: usize) -> bool
     requires { (image_words ≤ length t.now) × (hi ≤ max_rows) }
     ensures { result ≡ takes (row_in t.now s) hi left r }
 {
-    if r < hi {
-        layout::action_at(t, r) < sets::lowest(left)
-    } else {
-        false
-    }
+    r < hi && layout::action_at(t, r) < sets::lowest(left)
 }
 
 // The set without its lowest member.
@@ -98,8 +94,7 @@ fn put_rows(t: &mut [u64], s: usize, hi: usize, w: usize, end: usize, x: Next)
 {
     let mut y = x;
     for v in w..end {
-        let next = put_next(t, s, hi, v, y);
-        y = next;
+        y = put_next(t, s, hi, v, y);
     }
 }
 
@@ -108,9 +103,7 @@ fn raise(t: &mut [u64], words: usize, by: usize)
     requires { (rows_at + (by + words) ≤ length t.old) × (by + words ≤ row_words * max_rows) }
     ensures { Raised t.old t.new words by }
 {
-    let mut k = words;
-    while 0 < k {
-        k = k - 1;
+    for k in (0..words).rev() {
         t[layout::ROWS_AT + (by + k)] = t[layout::ROWS_AT + k];
     }
 }
@@ -145,8 +138,7 @@ fn put_component(t: &mut [u64], i: usize, n: usize, w: usize) -> usize
     let states = layout::block_word(t, i, layout::STATES) as usize;
     let mut k = w;
     for s in 0..states {
-        let next = put_state(t, i, s, n, k);
-        k = next;
+        k = put_state(t, i, s, n, k);
     }
     put_first(t, i, states, k);
     k
@@ -171,8 +163,7 @@ fn put_all(t: &mut [u64], n: usize)
     let count = layout::count_of(t) as usize;
     let mut w = 0;
     for i in 0..count {
-        let next = put_component(t, i, n, w);
-        w = next;
+        w = put_component(t, i, n, w);
     }
 }
 

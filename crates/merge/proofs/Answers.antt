@@ -3,7 +3,7 @@ use mathlib.Core.Logic.{◌↔◌}
 use mathlib.Core.List.{List}
 use Prim.Native.Nat.{ℕ}
 use Rattle.answer.specs.Told.{Answer}
-use Rattle.answer.specs.declared.Checked.{Checked}
+use Rattle.answer.specs.Told.{Checked}
 use Rattle.model.specs.Model.{Comp, Model}
 use Rattle.merged.specs.Merge.{merge_of}
 use Rattle.iosa.specs.InOrder.{room}

@@ -12,8 +12,8 @@ use Rattle.answer.specs.Limits.{max_states}
 use Rattle.answer.specs.Told.{Told, told, tell, Answer, answered, refused, as_refused, says_checked, done_of}
 use Rattle.answer.specs.declared.Place.TheVariants.{Whole, Bytes}
 use Rattle.answer.specs.declared.Refusal.{Refusal}
-use Rattle.answer.specs.declared.Checked.{Checked}
-use Rattle.answer.specs.declared.Checked.TheVariants.{Fine, Refused}
+use Rattle.answer.specs.Told.{Checked}
+use Rattle.std.specs.Prelude.{Ok, Err}
 use Rattle.model.specs.Model.{Model}
 use Rattle.iosa.specs.Checks.{accept_of}
 use Rattle.merged.specs.Merge.{neighbour_fault, size_fault, merged_at, merge_of}
@@ -65,7 +65,7 @@ unfolding room_fault
 room-enough was h = ap (λ b. when b (table_too_short)) (le-ltb (length was) image_words h)
 
 module _ (t : List ℕ) (i : ℕ) (was : List ℕ) where
-  refuses : (f : Told) → merge_on t i was ≡ refused f → (q : Refusal) → told q ≡ some f → Merging t i was (Refused q) was
+  refuses : (f : Told) → merge_on t i was ≡ refused f → (q : Refusal) → told q ≡ some f → Merging t i was (Err q) was
   unfolding says_checked
   refuses f e q h = record { answer = ap as_refused h ∙ sym (ap (λ a. some (done_of a)) e); table = sym (ap (λ a. table_after a was) e) }
 
@@ -73,13 +73,13 @@ module _ (t : List ℕ) (i : ℕ) (was : List ℕ) where
   stays r into e g = record { answer = g.answer; table = e ∙ g.table }
 
   -- what `accept` refuses the call refuses alike
-  pub refused-before : (q : Refusal) → says_checked (Refused q) ≡ some (check_on t accept_of) → Merging t i was (Refused q) was
+  pub refused-before : (q : Refusal) → says_checked (Err q) ≡ some (check_on t accept_of) → Merging t i was (Err q) was
   unfolding merge_on
   refused-before q e =
       let p = refused-tells t accept_of q e in
       refuses p.0 (call-refuses t accept_of (λ m. merge_of m i (room_fault was)) (λ m f k. follows m i (room_fault was) f k) p.0 p.2) q p.1
 
-  pub fine_before : says_checked Fine ≡ some (check_on t accept_of) → Image t × (accept_of (model_of t) ≡ none)
+  pub fine_before : says_checked (Ok tt) ≡ some (check_on t accept_of) → Image t × (accept_of (model_of t) ≡ none)
   fine_before e = let p = fine-passes t accept_of e in ((image-exactly t).0 p.0, p.1)
 
   module _ (im : Image t) (acc : accept_of (model_of t) ≡ none) where
@@ -87,7 +87,7 @@ module _ (t : List ℕ) (i : ℕ) (was : List ℕ) where
     unfolding merge_on
     on = on-image t (λ m. merge_of m i (room_fault was)) ((image-exactly t).1 im)
 
-    pub is-short : length was < image_words → (r : Checked) → r ≡ Refused (record { number = 24; place = Bytes (image_words * word_bytes) })
+    pub is-short : length was < image_words → (r : Checked) → r ≡ Err (record { number = 24; place = Bytes (image_words * word_bytes) })
         → Merging t i was r was
     unfolding told
     is-short h r e =
@@ -98,7 +98,7 @@ module _ (t : List ℕ) (i : ℕ) (was : List ℕ) where
       roomy : merge_on t i was ≡ merge_of (model_of t) i none
       roomy = on ∙ ap (merge_of (model_of t) i) (room-enough was room)
 
-      pub is-alone : (suc i < count_of t → ⊥) → (r : Checked) → r ≡ Refused (record { number = 25; place = Whole }) → Merging t i was r was
+      pub is-alone : (suc i < count_of t → ⊥) → (r : Checked) → r ≡ Err (record { number = 25; place = Whole }) → Merging t i was r was
       unfolding told
       is-alone n r e =
           rw e (refuses (tell 25 (0 ∷ [])) (roomy ∙ (merge-exactly (model_of t) i acc _).1 (no-neighbour (λ h. n (omega (arith, model-length t)))))
@@ -108,7 +108,7 @@ module _ (t : List ℕ) (i : ℕ) (was : List ℕ) where
         inside : suc i < length (model_of t)
         inside = omega (arith, model-length t)
 
-        pub is-big : (FitsIn (model_of t) i → ⊥) → (r : Checked) → r ≡ Refused (record { number = 26; place = Whole }) → Merging t i was r was
+        pub is-big : (FitsIn (model_of t) i → ⊥) → (r : Checked) → r ≡ Err (record { number = 26; place = Whole }) → Merging t i was r was
         unfolding told
         is-big n r e =
             rw e (refuses (tell 26 (0 ∷ [])) (roomy ∙ (merge-exactly (model_of t) i acc _).1 (too_large inside n)) (record { number = 26; place = Whole }) refl)
@@ -125,7 +125,7 @@ module _ (t : List ℕ) (i : ℕ) (was : List ℕ) where
               let end : 0 + length n ≡ image_words = omega (arith, long) in
               sets-eq n was 0 (omega (arith, long)) ∙ ap (λ k. n ++ drop k was) end
 
-          pub is-merged-model : (into : List ℕ) → into ≡ sets was 0 (image_of (merged_at (model_of t) i)) → Merging t i was Fine into
+          pub is-merged-model : (into : List ℕ) → into ≡ sets was 0 (image_of (merged_at (model_of t) i)) → Merging t i was (Ok tt) into
           unfolding says_checked
           is-merged-model into e =
               let k = roomy ∙ (merge-exactly (model_of t) i acc _).1 (small-enough inside fits) in

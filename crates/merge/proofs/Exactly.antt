@@ -6,7 +6,7 @@ use mathlib.Core.List.{List}
 use Prim.Native.Nat.{ℕ}
 use native.Mathlib.Omega.{arith}
 use Rattle.answer.specs.Told.{Told, Answer, answered, refused, says_checked, done_of}
-use Rattle.answer.specs.declared.Checked.TheVariants.{Fine}
+use Rattle.std.specs.Prelude.{Ok}
 use Rattle.model.specs.Model.{Model}
 use Rattle.merged.specs.Merge.{merge_of}
 use Rattle.merged.proofs.Merging.Accepted.{merging-keeps-acceptance}
@@ -22,7 +22,7 @@ use Rattle.merge.proofs.Written.{merged-answered, merge-writes-the-image, merge-
 never {ℓ} : {A : Type 0} {P : Type ℓ} {x : A} {f : Told} → ◌≡◌ {A = Answer A} (answered x) (refused f) → P
 never e = let z : ◌≡◌ {A = ℕ} 0 1 = cc in absurd (omega arith)
 
-module _ (t : List ℕ) (i : ℕ) (was into : List ℕ) (g : Merging t i was Fine into) where
+module _ (t : List ℕ) (i : ℕ) (was into : List ℕ) (g : Merging t i was (Ok tt) into) where
   done : done_of (merge_on t i was) ≡ answered tt
   unfolding says_checked
   done = sym (some_inj.0 g.answer)
@@ -48,7 +48,7 @@ module _ (t : List ℕ) (i : ℕ) (was into : List ℕ) (g : Merging t i was Fin
       let n = some-model.0 in
       let e = some-model.1 in
       let r = merged-answered t some-image i was n e in
-      let w = written-recognised n into r.well-formed (merge-writes-the-image t some-image i was Fine into g n e) in
+      let w = written-recognised n into r.well-formed (merge-writes-the-image t some-image i was (Ok tt) into g n e) in
       record {
         image = some-image;
         again = (image-exactly into).0 w.0;
@@ -56,5 +56,5 @@ module _ (t : List ℕ) (i : ℕ) (was into : List ℕ) (g : Merging t i was Fin
         accepted =
             rw w.1 (merging-keeps-acceptance (model_of t) i (room_fault was) n (well-formed t some-image)
             (sym (on-image t (λ m. merge_of m i (room_fault was)) ((image-exactly t).1 some-image)) ∙ e));
-        rest = merge-leaves-the-rest t some-image i was Fine into g n e;
+        rest = merge-leaves-the-rest t some-image i was (Ok tt) into g n e;
       }

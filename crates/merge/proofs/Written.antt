@@ -6,7 +6,7 @@ use Prim.Native.Nat.{ℕ}
 use lib.ListN.{length, take, drop}
 use lib.Seq.{take_at, drop_at}
 use Rattle.answer.specs.Told.{answered}
-use Rattle.answer.specs.declared.Checked.{Checked}
+use Rattle.answer.specs.Told.{Checked}
 use Rattle.model.specs.Model.{Model}
 use Rattle.merged.specs.Merge.{merge_of}
 use Rattle.merged.specs.MergedExactly.{MergedModel}

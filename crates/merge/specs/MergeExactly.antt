@@ -1,6 +1,6 @@
 -- What `merge` answers, said of the product of the two components, and what the lent table is then.
 use Rattle.std.specs.Prelude.{List, ℕ}
-use Rattle.answer.specs.declared.Checked.{Checked}
+use Rattle.answer.specs.Told.{Checked}
 use Rattle.iosa.specs.InOrder.{Leaves}
 use Rattle.answering.specs.Answers.{MergeCallAnswer}
 use Rattle.layout.specs.OnImage.{OnImage, FillsTable, bytes_of, image_bytes}

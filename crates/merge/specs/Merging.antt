@@ -3,7 +3,7 @@ use Rattle.std.specs.Prelude.{◌≡◌, List, ℕ, length, ltb}
 use Rattle.std.proofs.Math.Option.{Option, some}
 use Rattle.laws.specs.Search.{when}
 use Rattle.answer.specs.Told.{Told, Answer, says_checked, done_of}
-use Rattle.answer.specs.declared.Checked.{Checked}
+use Rattle.answer.specs.Told.{Checked}
 use Rattle.model.specs.Model.{Model}
 use Rattle.merged.specs.Merge.{merge_of}
 use Rattle.layout.specs.Layout.{image_words}

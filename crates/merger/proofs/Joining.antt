@@ -8,8 +8,8 @@ use borrow.Author.Tests.{le-ltb}
 use Rattle.laws.specs.Search.{when}
 use Rattle.answer.specs.Told.{Told, told, Answer, answered, refused, done_of}
 use Rattle.answer.specs.declared.Refusal.{Refusal}
-use Rattle.answer.specs.declared.Checked.{Checked}
-use Rattle.answer.specs.declared.Checked.TheVariants.{Fine, Refused}
+use Rattle.answer.specs.Told.{Checked}
+use Rattle.std.specs.Prelude.{Ok, Err}
 use Rattle.model.specs.Model.{Model}
 use Rattle.model.specs.Text.{text_of}
 use Rattle.model.specs.Reading.{read_of}
@@ -63,12 +63,12 @@ module _ (t : List ℕ) (im : Image t) (i : ℕ) (was : List ℕ) (room : image_
   fills : FillsTable was into r (room_for (length was) merged)
   fills = let e = on ∙ sym (roomy merged) in record { answer = g.answer ∙ ap (λ a. some (done_of a)) e; table = g.table ∙ ap (λ a. table_after a was) e }
 
-  pub fine-merged : r ≡ Fine → Image into × (text_of (model_of into) ≡ joined_text i (model_of t))
+  pub fine-merged : r ≡ (Ok tt) → Image into × (text_of (model_of into) ≡ joined_text i (model_of t))
   fine-merged f =
       let p = leaves-model merged (λ m q. (merging-is-exact (model_of t) i none m (well-formed t im) q).well-formed) was into r fills room f in
       (p.2, ap text_of p.3 ∙ sym (joins i (model_of t) p.0 p.1))
 
-  pub refused-merged : (q : Refusal) → r ≡ Refused q → (u : Told) × (told q ≡ some u) × (joined_text i (model_of t) ≡ refused_line u)
+  pub refused-merged : (q : Refusal) → r ≡ Err q → (u : Told) × (told q ≡ some u) × (joined_text i (model_of t) ≡ refused_line u)
   refused-merged q f =
       let p = leaves-refusal merged (λ m e. (merging-is-exact (model_of t) i none m (well-formed t im) e).well-formed) was into r fills room q f in
       (p.0, p.2, refuses i (model_of t) p.0 p.1)

@@ -9,19 +9,14 @@ ghost use Rattle.steplines.specs.Run.{most_bytes};
 ghost use Rattle.printout.specs.Printed.{Printed, Filled};
 ghost use Rattle.merger.specs.Merged.{joined_text, merged_text};
 
-use answer::Checked;
-use arguments::Asked;
-use stream::Moved;
-
 fn put_joined(t: &[u64], i: usize, out: &mut [u8]) -> usize
     requires { Image t.now × (most_bytes ≤ length out.old) }
     ensures { Printed (joined_text i (model_of t.now)) out.old out.new result }
 {
     let mut into = [0u64; layout::WORDS];
-    let checked = merge::merge(t, i, &mut into);
-    match checked {
-        Checked::Refused(f) => printout::put_refusal(f, out),
-        Checked::Fine => printout::put_model(&into, out),
+    match merge::merge(t, i, &mut into) {
+        Err(f) => printout::put_refusal(f, out),
+        Ok(()) => printout::put_model(&into, out),
     }
 }
 
@@ -30,10 +25,9 @@ fn put_merged(input: &[u8], i: usize, out: &mut [u8]) -> usize
     ensures { Printed (merged_text i input.now) out.old out.new result }
 {
     let mut table = [0u64; layout::WORDS];
-    let checked = text::read(input, &mut table);
-    match checked {
-        Checked::Refused(f) => printout::put_refusal(f, out),
-        Checked::Fine => put_joined(&table, i, out),
+    match text::read(input, &mut table) {
+        Err(f) => printout::put_refusal(f, out),
+        Ok(()) => put_joined(&table, i, out),
     }
 }
 
@@ -48,7 +42,7 @@ fn filled(input: &[u8], i: usize, out: &mut [u8]) -> usize
 fn answer(rt: &HostRuntime, input: &[u8], i: usize) {
     let mut out = printout::empty_out();
     let k = filled(input, i, &mut out);
-    if let Moved::Failed(e) = stream::write(rt, &mut rt.stdout(), &out[..k]) {
+    if let Err(e) = stream::write(rt, &mut rt.stdout(), &out[..k]) {
         failing::say(rt, b"merge: the text could not be written whole", e);
     }
 }
@@ -56,18 +50,18 @@ fn answer(rt: &HostRuntime, input: &[u8], i: usize) {
 fn with_model(rt: &HostRuntime, i: usize) {
     let mut input = printout::empty_input();
     match stream::read(rt, &mut rt.stdin(), &mut input) {
-        Moved::Bytes(n) => answer(rt, &input[..n], i),
-        Moved::Failed(e) => failing::say(rt, b"merge: standard input could not be read", e),
+        Ok(n) => answer(rt, &input[..n], i),
+        Err(e) => failing::say(rt, b"merge: standard input could not be read", e),
     }
 }
 
 fn usage(rt: &HostRuntime) {
-    stream::write(rt, &mut rt.stderr(), b"usage: ./merge COMPONENT < MODEL\n");
+    let _ = stream::write(rt, &mut rt.stderr(), b"usage: ./merge COMPONENT < MODEL\n");
 }
 
 fn main(rt: HostRuntime) {
     match arguments::only_number(&rt) {
-        Asked::Number(i) => with_model(&rt, i),
-        Asked::Wrong => usage(&rt),
+        Some(i) => with_model(&rt, i),
+        None => usage(&rt),
     }
 }

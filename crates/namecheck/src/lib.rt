@@ -9,24 +9,19 @@ ghost use Rattle.named.specs.ReadNamed.{begun, read_named};
 ghost use Rattle.namelaws.specs.Sheets.{sheet_of, with_sheet, onward, SheetIs};
 ghost use Rattle.namecheck.specs.NameCheck.{ChecksAs};
 
-use answer::{Checked, Model, Place, Refusal};
-use fields::{Cursor, Step};
-use judge::Judged;
-use namelines::NamedScan;
-use namesheet::Sheeted;
-
-// Where the lines behind the names begin, of a good text.
-#[derive(Drop)]
-pub enum NamedChecked {
-    Fine(usize),
-    Refused(Refusal),
-}
+use answer::{Model, Place, Refusal};
+use fields::Cursor;
 
 // `form`, tab, `2`, LF.
 const FORM: usize = 7;
 
 // The lines behind the `name` lines, from line n on, then 8 and 44.
-fn check_body(text: &[u8], places: &[usize; Model::ACTIONS], from: usize, first: usize) -> Checked
+fn check_body(
+    text: &[u8],
+    places: &[usize; Model::ACTIONS],
+    from: usize,
+    first: usize,
+) -> Result<(), Refusal>
     requires { SheetIs text.now 7 places.now from first × (length text.now ≤ max_bytes) }
     ensures { says_checked result ≡ some (done_of (onward text.now (with_sheet (sheet_of text.now places.now)) from first)) }
 {
@@ -36,27 +31,25 @@ fn check_body(text: &[u8], places: &[usize; Model::ACTIONS], from: usize, first:
     let mut declared: u64 = 0;
     while at < text.len() {
         match namelines::line_at(text, Cursor { at }) {
-            NamedScan::Is(next, line) => {
+            Ok((next, line)) => {
                 let before = namelines::before_name(line);
                 let found = namefields::action_named(text, places, at + before);
                 match namejudge::judged(p, line, found) {
-                    Judged::Fault(number) => {
+                    Ok(q) => p = q,
+                    Err(number) => {
                         let a = namejudge::allowed(p, line, found, number);
                         let column = namejudge::column_of(text, at, a, line, found);
-                        let place = namejudge::place_of(n, number, column);
-                        return Checked::Refused(Refusal { number, place });
-                    }
-                    Judged::Taken(q) => {
-                        p = q;
+                        let place = survey::place_of(n, number, column);
+                        return Err(Refusal { number, place });
                     }
                 }
                 declared = sets::union(declared, namejudge::declares(line, found));
                 at = next.at;
                 n += 1;
             }
-            NamedScan::Missing(stop) => {
+            Err(stop) => {
                 let column = columns::column_at(text, at, stop);
-                return Checked::Refused(Refusal {
+                return Err(Refusal {
                     number: 2,
                     place: Place::Spot { line: n, column },
                 });
@@ -64,57 +57,53 @@ fn check_body(text: &[u8], places: &[usize; Model::ACTIONS], from: usize, first:
         }
     }
     if p.components == 0 {
-        return Checked::Refused(Refusal {
+        return Err(Refusal {
             number: 8,
             place: Place::Whole,
         });
     }
     let line = namesheet::first_unused(places, declared);
     if line != 0 {
-        return Checked::Refused(Refusal {
+        return Err(Refusal {
             number: 44,
             place: Place::Line(line),
         });
     }
-    Checked::Fine
+    Ok(())
 }
 
 // Everything behind the `form` line.
-fn behind_form(text: &[u8], places: &mut [usize; Model::ACTIONS]) -> NamedChecked
+fn behind_form(text: &[u8], places: &mut [usize; Model::ACTIONS]) -> Result<usize, Refusal>
     requires { (7 ≤ length text.now) × (length places.old ≡ max_actions) × ((a : ℕ) → get_or places.old a 0 ≡ 0) × (length text.now ≤ max_bytes) }
     ensures { ChecksAs text.now (onward text.now begun 7 2) places.new result }
 {
-    match namesheet::read_names(text, FORM, places) {
-        Sheeted::Is { at, line } => match check_body(text, places, at, line) {
-            Checked::Fine => NamedChecked::Fine(at),
-            Checked::Refused(f) => NamedChecked::Refused(f),
-        },
-        Sheeted::Refused(g) => NamedChecked::Refused(g),
-    }
+    let end = namesheet::read_names(text, FORM, places)?;
+    check_body(text, places, end.at, end.line)?;
+    Ok(end.at)
 }
 
 // 1, then 8 for the empty text, then line 1, then what is behind it. The places are 0 at first, and hold where each name stands where the text is good.
-pub fn check_named(text: &[u8], places: &mut [usize; Model::ACTIONS]) -> NamedChecked
+pub fn check_named(text: &[u8], places: &mut [usize; Model::ACTIONS]) -> Result<usize, Refusal>
     requires { (length places.old ≡ max_actions) × ((a : ℕ) → get_or places.old a 0 ≡ 0) }
     ensures { ChecksAs text.now (read_named text.now) places.new result }
 {
     if Model::BYTES < text.len() {
-        return NamedChecked::Refused(Refusal {
+        return Err(Refusal {
             number: 1,
             place: Place::Whole,
         });
     }
     if text.len() == 0 {
-        return NamedChecked::Refused(Refusal {
+        return Err(Refusal {
             number: 8,
             place: Place::Whole,
         });
     }
     match fields::word(text, Cursor { at: 0 }, b"form\t2\n") {
-        Step::Past(_) => behind_form(text, places),
-        Step::Missing(stop) => {
+        Ok(_) => behind_form(text, places),
+        Err(stop) => {
             let column = columns::column_at(text, 0, stop);
-            NamedChecked::Refused(Refusal {
+            Err(Refusal {
                 number: 2,
                 place: Place::Spot { line: 1, column },
             })

@@ -12,8 +12,7 @@ ghost use Rattle.namecut.specs.Cuts.{CutAs};
 
 use answer::Model;
 use fields::Cursor;
-use namefields::Found;
-use namelines::{NamedLine, NamedScan};
+use namelines::NamedLine;
 
 // A line that begins at a known place: the bytes up to `stop`, then the number of the action where there is one, then those from `go` to `next`.
 #[derive(Clone, Copy)]
@@ -21,24 +20,14 @@ pub struct Cut {
     pub stop: usize,
     pub go: usize,
     pub next: usize,
-    pub action: u64,
-    pub named: bool,
-}
-
-#[derive(Drop)]
-pub enum CutScan {
-    Is(Cut),
-    Nothing,
+    pub action: Option<u64>,
 }
 
 // A place, held within the text.
 pub fn held(text: &[u8], at: usize) -> usize
     ensures { (drop result text.now ≡ drop at text.now) × (result ≤ length text.now) }
 {
-    if text.len() < at {
-        return text.len();
-    }
-    at
+    at.min(text.len())
 }
 
 // A line with a name, which begins at `stop`.
@@ -48,37 +37,32 @@ fn at_name(
     at: usize,
     l: NamedLine,
     next: usize,
-) -> CutScan
+) -> Option<Cut>
     requires { (length places.now ≡ max_actions) × (valued code_of (line (drop at text.now)) ≡ got l (drop next text.now)) × HasName l × (at < length text.now) × (next ≤ length text.now) × (length text.now ≤ max_bytes) }
     ensures { CutAs text.now places.now at result }
 {
     let stop = at + namelines::before_name(l);
-    match namefields::action_named(text, places, stop) {
-        Found::Is(action) => {
-            let go = namefields::name_end(text, stop);
-            CutScan::Is(Cut {
-                stop,
-                go,
-                next,
-                action,
-                named: true,
-            })
-        }
-        Found::Nothing => CutScan::Nothing,
-    }
+    let action = namefields::action_named(text, places, stop)?;
+    let go = namefields::name_end(text, stop);
+    Some(Cut {
+        stop,
+        go,
+        next,
+        action: Some(action),
+    })
 }
 
-// The line at a place, cut where its name stands.
-pub fn cut_at(text: &[u8], places: &[usize; Model::ACTIONS], at: usize) -> CutScan
+// The line at a place, cut where its name stands; nothing where the line has no old line.
+pub fn cut_at(text: &[u8], places: &[usize; Model::ACTIONS], at: usize) -> Option<Cut>
     requires { (length places.now ≡ max_actions) × (at < length text.now) × (length text.now ≤ max_bytes) }
     ensures { CutAs text.now places.now at result }
 {
     match namelines::line_at(text, Cursor { at }) {
-        NamedScan::Is(behind, line) => {
+        Ok((behind, line)) => {
             let next = held(text, behind.at);
             match line {
-                NamedLine::Form => CutScan::Nothing,
-                NamedLine::Name { number: _ } => CutScan::Nothing,
+                NamedLine::Form => None,
+                NamedLine::Name { number: _ } => None,
                 NamedLine::Act { kind: _ } => at_name(text, places, at, line, next),
                 NamedLine::Row {
                     from: _,
@@ -86,15 +70,14 @@ pub fn cut_at(text: &[u8], places: &[usize; Model::ACTIONS], at: usize) -> CutSc
                     resets: _,
                     target: _,
                 } => at_name(text, places, at, line, next),
-                NamedLine::Plain { line: _ } => CutScan::Is(Cut {
+                NamedLine::Plain { line: _ } => Some(Cut {
                     stop: next,
                     go: next,
                     next,
-                    action: 0,
-                    named: false,
+                    action: None,
                 }),
             }
         }
-        NamedScan::Missing(_) => CutScan::Nothing,
+        Err(_) => None,
     }
 }

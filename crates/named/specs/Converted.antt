@@ -3,7 +3,7 @@ use Rattle.std.specs.Prelude.{◌≡◌, List, [], ◌∷◌, ◌++◌, true, fa
 use Rattle.std.proofs.Math.Option.{some}
 use Rattle.answer.specs.Limits.{max_bytes}
 use Rattle.answer.specs.Told.{tell, Answer, answered, refused, says_written}
-use Rattle.answer.specs.declared.Written.{Written}
+use Rattle.answer.specs.Told.{Written}
 use Rattle.model.specs.Reading.{read_of}
 use Rattle.named.specs.NamedText.{lines_text, text_named, defaults_of}
 use Rattle.named.specs.ReadNamed.{read_named}

@@ -3,7 +3,6 @@
 use Rattle.std.specs.Prelude.{◌≡◌, true, List, [], ◌∷◌, ◌++◌, ℕ, suc, ◌+◌, ◌≤◌, ◌<◌, length}
 use Rattle.std.proofs.Math.Option.{Option, none, some}
 use Rattle.laws.specs.Sets.{◌∈◌}
-use Rattle.laws.specs.Lowest.{Lowest}
 use Rattle.answer.specs.Limits.{max_rows, max_actions, max_clocks, max_bytes}
 use Rattle.model.specs.Model.{Comp, acts, row_count}
 use Rattle.model.specs.Text.{row_word, decimal, guard_field}

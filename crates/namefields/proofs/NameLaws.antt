@@ -7,11 +7,14 @@ use native.Mathlib.Omega.{arith}
 use lib.ListN.{length, drop, get_or, drop_of_length-le}
 use lib.Dec.{eqb}
 use borrow.Author.Tests.{eq-eqb, ne_eqb, le-leb, lt-leb}
+use Rattle.std.specs.Prelude.{Some, None, MatchOption}
+use Rattle.laws.specs.Search.{least}
+use Rattle.laws.proofs.SearchLaws.{none-least, some-least}
 use Rattle.laws.proofs.TestLaws.{apart-cases}
 use Rattle.fields.proofs.ScanLaws.{front}
 use Rattle.named.specs.NamedText.{Name, max_name, is_letter, is_letter_or_digit, letters_or_digits, good_name, same_name, is_named, ends_name, name_at}
 use Rattle.named.proofs.Names.{Stops, name-end, name-next}
-use Rattle.namefields.specs.NameFields.{name_from, name_stops, name_by}
+use Rattle.namefields.specs.NameFields.{name_from, name_stops, name_by, Found, found_is}
 
 stopped : (bs : List ℕ) → name_stops bs ≡ true → Stops bs
 stopped [] h = tt
@@ -96,3 +99,11 @@ named_none t place at e = rw (eq-eqb place 0 e)
 
 pub named-as : (t : List ℕ) (place at : ℕ) → (place ≡ 0 → ⊥) → same_name (name_from t place) (name_from t at) ≡ is_named (name_from t at) (name_by t place)
 named-as t place at n = rw (ne_eqb place 0 n)
+
+-- ---- what `find` over 0 .. n answers by a test
+pub found-least : (test : ℕ → Bool) (n : ℕ) (r : Found)
+    → MatchOption r ((k : ℕ) → 0 ≤ k → k < n → test k ≡ false)
+    (λ i. (0 ≤ i) × (i < n) × (test i ≡ true) × ((k : ℕ) → 0 ≤ k → k < i → test k ≡ false))
+    → found_is r ≡ least test n
+found-least test n None h = rw (none-least test n (λ k p. h k (omega arith) p))
+found-least test n (Some i) h = rw (some-least test n i (record { below = h.1; here = h.2; before = λ k p. h.3 k (omega arith) p }))

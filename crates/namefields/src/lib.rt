@@ -12,12 +12,6 @@ use fields::Sign;
 // "a name of 1 to 16 lower-case letters or digits".
 const LONGEST: usize = 16;
 
-#[derive(Clone, Copy)]
-pub enum Found {
-    Is(u64),
-    Nothing,
-}
-
 // No byte of a name stands here: "any bytes but tab and LF".
 pub fn name_stops(text: &[u8], at: usize) -> bool
     ensures { result ≡ name_stops (drop at text.now) }
@@ -111,17 +105,9 @@ fn is_named(text: &[u8], place: usize, at: usize) -> bool
 }
 
 // The lowest action whose name is the one that begins here.
-pub fn action_named(text: &[u8], places: &[usize; Model::ACTIONS], at: usize) -> Found
+pub fn action_named(text: &[u8], places: &[usize; Model::ACTIONS], at: usize) -> Option<u64>
     requires { length places.now ≡ max_actions }
     ensures { found_is result ≡ number_by text.now places.now (name_from text.now at) }
 {
-    let mut a = 0;
-    while a < Model::ACTIONS {
-        let place = places[a];
-        if is_named(text, place, at) {
-            return Found::Is(a as u64);
-        }
-        a += 1;
-    }
-    Found::Nothing
+    (0..Model::ACTIONS as u64).find(|a| is_named(text, places[*a as usize], at))
 }

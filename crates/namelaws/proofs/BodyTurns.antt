@@ -16,7 +16,7 @@ use Rattle.laws.proofs.SearchLaws.{no-some}
 use Rattle.answer.specs.Limits.{max_actions}
 use Rattle.answer.specs.Told.{told, tell, refused, as_refused, says_checked, done_of}
 use Rattle.answer.specs.declared.Place.TheVariants.{Line as AtLine, Whole, Spot}
-use Rattle.answer.specs.declared.Checked.TheVariants.{Fine, Refused}
+use Rattle.std.specs.Prelude.{Ok, Err}
 use Rattle.model.specs.Model.{Comp}
 use Rattle.model.specs.Text.{Kind, decimal}
 use Rattle.model.specs.Reading.{stops, got, Entry, act-entry, row-entry, entry, Progress, current, out_of_turn}
@@ -26,7 +26,6 @@ use Rattle.model.proofs.Reading.Lines.{entry-exact}
 use Rattle.columns.specs.Columns.{beyond}
 use Rattle.columns.proofs.ValueColumn.{value-column-is}
 use Rattle.judge.specs.declared.Progress.{Progress as CodeProgress}
-use Rattle.judge.specs.declared.Judged.TheVariants.{Fault, Taken}
 use Rattle.judge.specs.Judged.{standing, beginning}
 use Rattle.judge.proofs.StepIs.{judged_of, Begun}
 use Rattle.survey.specs.Places.{allowed_of, place_of}
@@ -73,11 +72,11 @@ stands-first t P from first start s l = record {
 left : (t : List ℕ) (at : ℕ) → at < length t → (drop at t ≡ [] → ⊥)
 left t at h e = omega (arith, length-drop at t, ap length e)
 
-judged-fault : (o : Option ℕ) (q : Progress) (f : ℕ) → judged_of o q ≡ Fault f → o ≡ some f
+judged-fault : (o : Option ℕ) (q : Progress) (f : ℕ) → judged_of o q ≡ Err f → o ≡ some f
 judged-fault none q f e = let z : ◌≡◌ {A = ℕ} 0 1 = cc in absurd (omega arith)
 judged-fault (some g) q f e = cc
 
-judged-taken : (o : Option ℕ) (q : Progress) (p : CodeProgress) → judged_of o q ≡ Taken p → (o ≡ none) × (p ≡ standing q)
+judged-taken : (o : Option ℕ) (q : Progress) (p : CodeProgress) → judged_of o q ≡ Ok p → (o ≡ none) × (p ≡ standing q)
 judged-taken none q p e = (refl, cc)
 judged-taken (some g) q p e = let z : ◌≡◌ {A = ℕ} 0 1 = cc in absurd (omega arith)
 
@@ -185,10 +184,10 @@ module _ (t P : List ℕ) (from first : ℕ) (q : Progress₂) (p : CodeProgress
     judged : step_named p (code_of l) o ≡ judged_of (fault_named q l) (taken q l).model
     judged = ap (λ (x : CodeProgress). step_named x (code_of l) o) s.kept ∙ judged-is q s.begun l o looked behind
 
-    found : (f : ℕ) → step_named p (code_of l) o ≡ Fault f → fault_named q l ≡ some f
+    found : (f : ℕ) → step_named p (code_of l) o ≡ Err f → fault_named q l ≡ some f
     found f e = judged-fault (fault_named q l) (taken q l).model f (sym judged ∙ e)
 
-    line-fault : (f : ℕ) → step_named p (code_of l) o ≡ Fault f → onward t (with_sheet (sheet_of t P)) from first ≡ refused (tell f (n ∷ behind_line q f l))
+    line-fault : (f : ℕ) → step_named p (code_of l) o ≡ Err f → onward t (with_sheet (sheet_of t P)) from first ≡ refused (tell f (n ∷ behind_line q f l))
     line-fault f e = sym s.same ∙ lines-fault n q l (drop to t) (length (drop at t)) (drop at t) f (le_refl _) read (found f e)
 
     -- the place that the code gives is the fault's
@@ -248,19 +247,19 @@ module _ (t P : List ℕ) (from first : ℕ) (q : Progress₂) (p : CodeProgress
           told_at f n k r.0 r.1
           ∙ ap (λ x. some (tell f (n ∷ x))) (sym (plain-behind q f n k e ∙ column-as q.model e fits.0 p s.kept f fault k ck))
 
-    pub line-told : (f k : ℕ) → step_named p (code_of l) o ≡ Fault f → k ≡ column_by t at (allowed_of (judged_by p (code_of l) o) f) (code_of l) o
-        → says_checked (Refused (record { number = f; place = place_of n f k })) ≡ some (done_of (onward t (with_sheet (sheet_of t P)) from first))
+    pub line-told : (f k : ℕ) → step_named p (code_of l) o ≡ Err f → k ≡ column_by t at (allowed_of (judged_by p (code_of l) o) f) (code_of l) o
+        → says_checked (Err (record { number = f; place = place_of n f k })) ≡ some (done_of (onward t (with_sheet (sheet_of t P)) from first))
     unfolding says_checked
     line-told f k e c =
         ap as_refused (tells f k l o read scanned.0 scanned.1 looked behind (found f e) c) ∙ ap (λ a. some (done_of a)) (sym (line-fault f e))
 
-    line-judged : (p' : CodeProgress) → step_named p (code_of l) o ≡ Taken p' → (fault_named q l ≡ none) × (p' ≡ standing (taken q l).model)
+    line-judged : (p' : CodeProgress) → step_named p (code_of l) o ≡ Ok p' → (fault_named q l ≡ none) × (p' ≡ standing (taken q l).model)
     line-judged p' e = judged-taken (fault_named q l) (taken q l).model p' (sym judged ∙ e)
 
     pub line-less : length (drop to t) < length (drop at t)
     line-less = line-shortens (drop at t) (record { value = l; rest = drop to t }) read
 
-    pub line_taken : (p' : CodeProgress) → step_named p (code_of l) o ≡ Taken p'
+    pub line_taken : (p' : CodeProgress) → step_named p (code_of l) o ≡ Ok p'
         → Stands t P from first (taken q l) p' to (n + 1) (d ∪ declared_named (code_of l) o)
     line_taken p' e =
         let h = line-judged p' e in
@@ -280,20 +279,20 @@ module _ (t P : List ℕ) (from first : ℕ) (q : Progress₂) (p : CodeProgress
 
   -- ---- behind the last line
   pub says-shape : (k : ℕ) (cs : List ℕ) → at < length t → line (drop at t) ≡ stops cs → k ≡ stop_column (drop at t) cs
-      → says_checked (Refused (record { number = 2; place = Spot n k })) ≡ some (done_of (onward t (with_sheet (sheet_of t P)) from first))
+      → says_checked (Err (record { number = 2; place = Spot n k })) ≡ some (done_of (onward t (with_sheet (sheet_of t P)) from first))
   unfolding says_checked told
   says-shape k cs h e c = ap (λ i. some (refused (tell 2 (n ∷ i ∷ [])))) c ∙ ap (λ a. some (done_of a)) (sym (no_line cs h e))
 
   components : p.components ≡ length q.model.comps
   components = ap (λ (x : CodeProgress). x.components) s.kept
 
-  pub says_none : length t ≤ at → p.components ≡ 0 → says_checked (Refused (record { number = 8; place = Whole }))
+  pub says_none : length t ≤ at → p.components ≡ 0 → says_checked (Err (record { number = 8; place = Whole }))
       ≡ some (done_of (onward t (with_sheet (sheet_of t P)) from first))
   unfolding says_checked told
   says_none h z = go q.model.comps (sym components ∙ z) (at-end h)
     where
       go : (m : List Comp) → length m ≡ 0 → onward t (with_sheet (sheet_of t P)) from first ≡ finish_named q m
-          → says_checked (Refused (record { number = 8; place = Whole })) ≡ some (done_of (onward t (with_sheet (sheet_of t P)) from first))
+          → says_checked (Err (record { number = 8; place = Whole })) ≡ some (done_of (onward t (with_sheet (sheet_of t P)) from first))
       go [] e f = ap (λ a. some (done_of a)) (sym f)
       go (c ∷ cs) e f = absurd (omega arith)
 
@@ -314,13 +313,13 @@ module _ (t P : List ℕ) (from first : ℕ) (q : Progress₂) (p : CodeProgress
           (r, f ∙ ap (λ u. unless_unused u r) same)
 
   pub says-unused : length t ≤ at → (p.components ≡ 0 → ⊥) → (r : ℕ) → unused_now ≡ line_at r → (r ≡ 0 → ⊥)
-      → says_checked (Refused (record { number = 44; place = AtLine r })) ≡ some (done_of (onward t (with_sheet (sheet_of t P)) from first))
+      → says_checked (Err (record { number = 44; place = AtLine r })) ≡ some (done_of (onward t (with_sheet (sheet_of t P)) from first))
   unfolding says_checked told
   says-unused h z zero e w = absurd (w refl)
   says-unused h z (suc r) e w = let v = finished h z in ap (λ a. some (done_of a)) (sym (v.1 ∙ ap (λ u. unless_unused u v.0) e))
 
   pub says-fine : length t ≤ at → (p.components ≡ 0 → ⊥) → (r : ℕ) → unused_now ≡ line_at r → r ≡ 0
-      → says_checked Fine ≡ some (done_of (onward t (with_sheet (sheet_of t P)) from first))
+      → says_checked (Ok tt) ≡ some (done_of (onward t (with_sheet (sheet_of t P)) from first))
   unfolding says_checked
   says-fine h z zero e w = let v = finished h z in ap (λ a. some (done_of a)) (sym (v.1 ∙ ap (λ u. unless_unused u v.0) e))
   says-fine h z (suc r) e w = absurd (omega arith)

@@ -17,8 +17,8 @@ use Rattle.model.specs.Reading.{Entry, comp-entry, act-entry, clk-entry, row-ent
 use Rattle.model.specs.Reading.{out_of_turn, fault_of, row_of, with_act, with_clk, with_row, on_last, take_in}
 use Rattle.lines.specs.Lines.{line_of}
 use Rattle.judge.specs.declared.Progress.{Progress as CodeProgress}
-use Rattle.judge.specs.declared.Judged.TheVariants.{Fault}
-use Rattle.judge.specs.Judged.{standing, last_of, step_of}
+use Rattle.std.specs.Prelude.{Result, Err}
+use Rattle.judge.specs.Judged.{turn_of, numbered, standing, last_of, step_of}
 use Rattle.judge.proofs.StepIs.{next, judged_of, Begun, step_is}
 use Rattle.named.specs.NamedText.{Name, Sheet, number_of, declared_by, Line, form-line, name-line, act-line, row-line, plain-line, LineFits₂}
 use Rattle.named.specs.ReadNamed.{Progress₂, without_acts, fault_named, with_old, taken}
@@ -43,13 +43,13 @@ begun-actless m b = record { some-comp = λ d e. go m.comps (b.some-comp d e) }
     go (c ∷ cs) h = omega arith
 
 -- ---- out of turn
-last_turn : (d : Entry) → (last_of (some d)).turn ≡ turn d
+last_turn : (d : Entry) → turn_of (last_of (some d)).turn ≡ turn d
 last_turn (comp-entry n s) = refl
 last_turn (act-entry a k) = refl
 last_turn (clk-entry x b) = refl
 last_turn (row-entry s g a r t) = refl
 
-turn-act : (o : Option Entry) (k : Kind) → ltb 1 (last_of o).turn ≡ out_of_turn o (act-entry 0 k)
+turn-act : (o : Option Entry) (k : Kind) → ltb 1 (turn_of (last_of o).turn) ≡ out_of_turn o (act-entry 0 k)
 unfolding out_of_turn
 turn-act none k = refl
 turn-act (some d) k = ap (ltb 1) (last_turn d)
@@ -71,7 +71,7 @@ Later q (plain-line e) = Unit {0}
 
 -- a line that has a number is judged as the old line
 old-judged : (q : Progress₂) (e : Entry) (o : Option ℕ) (r : Progress₂) → Begun q.model → o ≡ fault_of q.model e → r ≡ with_old q (some e)
-    → step_of (standing q.model) (line_of e) ≡ judged_of o r.model
+    → numbered (step_of (standing q.model) (line_of e)) ≡ judged_of o r.model
 old-judged q e o r b f g = step_is q.model e b ∙ ap (λ x. judged_of x (next q.model e)) (sym f) ∙ ap (λ (x : Progress₂). judged_of o x.model) (sym g)
 
 pub name-later : (q : Progress₂) (n : ℕ) (w : Name) (d : Entry) → q.model.last ≡ some d → fault_named q (name-line n w) ≡ some 3
@@ -83,7 +83,7 @@ unfolding fault_named
 form-later q = refl
 
 module _ (q : Progress₂) (b : Begun q.model) where
-  turned : (c : Bool) (x : Progress) → cond c (Fault 3) (Fault 44) ≡ judged_of (cond c (some 3) (some 44)) x
+  turned : (c : Bool) (x : Progress) → cond {A = Result CodeProgress ℕ} c (Err 3) (Err 44) ≡ judged_of (cond c (some 3) (some 44)) x
   turned true x = refl
   turned false x = refl
 
@@ -96,7 +96,8 @@ module _ (q : Progress₂) (b : Begun q.model) where
   judged-is form-line o h k = ap (λ x. judged_of x (taken q form-line).model) (sym (form-later q))
   judged-is (name-line n w) o h k = ap (λ x. judged_of x (taken q (name-line n w)).model) (sym (name-later q n w k.0 k.1))
   judged-is (act-line w k) none h z =
-      ap (λ c. cond c (Fault 3) (Fault 44)) (turn-act q.model.last k) ∙ turned (out_of_turn q.model.last (act-entry 0 k)) (taken q (act-line w k)).model
+      ap (λ c. cond {A = Result CodeProgress ℕ} c (Err 3) (Err 44)) (turn-act q.model.last k)
+      ∙ turned (out_of_turn q.model.last (act-entry 0 k)) (taken q (act-line w k)).model
       ∙ ap (λ x. judged_of x (taken q (act-line w k)).model) (sym (act-unknown q w k (sym h)))
   judged-is (act-line w k) (some a) h z =
       let v = resolved-fault q (act-line w k) (act-entry a k) (ap (map_some (λ a. act-entry a k)) (sym h)) in
@@ -104,7 +105,7 @@ module _ (q : Progress₂) (b : Begun q.model) where
   judged-is (row-line s g w r u) none h z =
       let e = row-entry s g 0 r u in
       let m = without_acts q.model in
-      ap (λ (p : CodeProgress). step_of p (line_of e)) (sym (standing-actless q.model)) ∙ step_is m e (begun-actless q.model b)
+      ap (λ (p : CodeProgress). numbered (step_of p (line_of e))) (sym (standing-actless q.model)) ∙ step_is m e (begun-actless q.model b)
       ∙ faulty (fault_of m e) (next m e) (taken q (row-line s g w r u)).model (λ x. unknown-faulty q.model s g r u x)
       ∙ ap (λ x. judged_of x (taken q (row-line s g w r u)).model) (sym (row-unknown q s g w r u (sym h)))
   judged-is (row-line s g w r u) (some a) h z =
@@ -122,7 +123,8 @@ on-last f (c ∷ cs) = refl
 in-turn : (m : List Comp) (l : Option Entry) (e : Entry) → (turn e ≡ 0 → ⊥) → fault_of (record { comps = m; last = l }) e ≡ none
     → Begun (record { comps = m; last = l }) → 1 ≤ length m
 unfolding fault_of out_of_turn
-in-turn m none e w h b = let f : fault_of (record { comps = m; last = none }) e ≡ some 3 = rw (ne_eqb (turn e) 0 w, fault_of, out_of_turn) in absurd (no-some h f)
+in-turn m none e w h b = let f : fault_of (record { comps = m; last = none }) e ≡ some 3 = rw (ne_eqb (turn e) 0 w, fault_of, out_of_turn) in
+    absurd (no-some h f)
 in-turn m (some d) e w h b = b.some-comp d refl
 
 grown : (m : List Comp) (l : Option Entry) (e : Entry) → fault_of (record { comps = m; last = l }) e ≡ none

@@ -15,7 +15,7 @@ use Rattle.answer.specs.Limits.{max_bytes}
 use Rattle.answer.specs.Told.{Told, told, tell, Answer, answered, refused, as_refused, says_checked, done_of}
 use Rattle.answer.specs.declared.Refusal.{Refusal}
 use Rattle.answer.specs.declared.Place.TheVariants.{Whole, Spot}
-use Rattle.answer.specs.declared.Checked.TheVariants.{Fine, Refused}
+use Rattle.std.specs.Prelude.{Ok, Err}
 use Rattle.model.specs.Model.{Comp}
 use Rattle.model.specs.Reading.{Got, Scan, is, stops, got, exactly, Entry, entry, shorter, stop_column}
 use Rattle.model.proofs.Reading.Fields.{exactly-scanned}
@@ -114,7 +114,7 @@ lines-by t P at n start it s e =
     ∙ (λ i. old_from (λ w. number-as t P w i) (length (drop at t)) (drop at t))
 
 -- ---- what a check says
-pub refuses-of : (o : Answer Read) (f : Refusal) → says_checked (Refused f) ≡ some (done_of o) → Refuses o f
+pub refuses-of : (o : Answer Read) (f : Refusal) → says_checked (Err f) ≡ some (done_of o) → Refuses o f
 unfolding says_checked
 refuses-of o f e = go (told f) refl o e
   where
@@ -123,7 +123,7 @@ refuses-of o f e = go (told f) refl o e
     go (some τ) h (answered r) e = let z : ◌≡◌ {A = ℕ} 0 1 = cc in absurd (omega arith)
     go (some τ) h (refused σ) e = let z : τ ≡ σ = cc in record { tells = τ; says = h; same = ap (λ x. refused x) (sym z) }
 
-pub fine_of : (o : Answer Read) → says_checked Fine ≡ some (done_of o) → (r : Read) × (o ≡ answered r)
+pub fine_of : (o : Answer Read) → says_checked (Ok tt) ≡ some (done_of o) → (r : Read) × (o ≡ answered r)
 unfolding says_checked
 fine_of (answered r) e = (r, refl)
 fine_of (refused τ) e = let z : ◌≡◌ {A = ℕ} 0 1 = cc in absurd (omega arith)

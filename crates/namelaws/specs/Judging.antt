@@ -1,19 +1,16 @@
 -- A line behind the `name` lines, judged by what the code keeps, with the action that its name has, if any; and the column of its fault.
 use Rattle.std.proofs.Math.Option.{Option, none, some}
-use Rattle.std.specs.Prelude.{cond, List, ℕ, ◌+◌, ◌-◌, length, ltb}
+use Rattle.std.specs.Prelude.{cond, List, ℕ, ◌+◌, ◌-◌, length, ltb, Result, Err}
 use Rattle.laws.specs.Sets.{only}
 use Rattle.model.specs.Text.{decimal}
 use Rattle.fields.specs.declared.Guard.{Guard}
 use Rattle.fields.specs.declared.Resets.{Resets}
 use Rattle.fields.specs.declared.Kind.{Kind}
-use Rattle.lines.specs.declared.Line.{Line}
 use Rattle.lines.specs.declared.Line.TheVariants as OfLine
 use Rattle.columns.specs.declared.Allowed.{Allowed}
 use Rattle.columns.specs.Columns.{wide_guard, value_column}
 use Rattle.judge.specs.declared.Progress.{Progress}
-use Rattle.judge.specs.declared.Judged.{Judged}
-use Rattle.judge.specs.declared.Judged.TheVariants.{Fault}
-use Rattle.judge.specs.Judged.{step_of}
+use Rattle.judge.specs.Judged.{turn_of, numbered, step_of}
 use Rattle.named.specs.ReadNamed.{moved_by}
 use Rattle.namefields.specs.NameFields.{name_from}
 use Rattle.namelines.specs.declared.NamedLine.{NamedLine}
@@ -39,16 +36,17 @@ judged_by p (Row s g r t) o = known_by p o
 judged_by p (Plain l) o = p
 
 -- an `act` line: out of turn, or 44
-abbrev pub act_named : Progress → Kind → Option ℕ → Judged
-act_named p k none = cond (ltb 1 p.last.turn) (Fault 3) (Fault 44)
-act_named p k (some a) = step_of p (OfLine.Act a k)
+abbrev pub act_named : Progress → Kind → Option ℕ → Result Progress ℕ
+act_named p k none = cond (ltb 1 (turn_of p.last.turn)) (Err 3) (Err 44)
+act_named p k (some a) = numbered (step_of p (OfLine.Act a k))
 
-abbrev pub step_named : Progress → NamedLine → Option ℕ → Judged
-step_named p Form o = Fault 3
-step_named p (Name n) o = Fault 3
+-- a fault by its number, or the line taken in
+abbrev pub step_named : Progress → NamedLine → Option ℕ → Result Progress ℕ
+step_named p Form o = Err 3
+step_named p (Name n) o = Err 3
 step_named p (Act k) o = act_named p k o
-step_named p (Row s g r t) o = step_of (known_by p o) (OfLine.Row s g (action_of o) r t)
-step_named p (Plain l) o = step_of p l
+step_named p (Row s g r t) o = numbered (step_of (known_by p o) (OfLine.Row s g (action_of o) r t))
+step_named p (Plain l) o = numbered (step_of p l)
 
 -- the action that a line declares, as a set
 abbrev pub set_of : Option ℕ → ℕ

@@ -15,7 +15,6 @@ use Rattle.fields.specs.Resets.{valued, summary}
 use Rattle.fields.specs.declared.Guard.TheVariants as OfGuard
 use Rattle.measure.proofs.Fields.{width-most}
 use Rattle.columns.specs.Columns.{wide_guard}
-use Rattle.lines.proofs.LineLaws.{byte-stops}
 use Rattle.lines.specs.Lines.{guard_is, stop_of}
 use Rattle.named.specs.NamedText.{Name, form_word, form_rest, name_word, name_at, name_scan, Line, form-line}
 use Rattle.named.specs.NamedText.{row-line, plain-line, ended, form_end, name_end, act_end, row_end, line}
@@ -46,8 +45,8 @@ pub name-field-is : (t bs : List ℕ) (d : ℕ) → the_byte tab bs ≡ got tt (
     → got tt (drop r t) ≡ passed (field name_scan bs)
 name-field-is t bs d p r e = rw p (ap (λ l. got tt l) (ap (λ k. drop k t) e ∙ name-behind t d))
 
-pub name-field-no : (bs : List ℕ) {cs : List ℕ} → the_byte tab bs ≡ stops cs → stops bs ≡ passed (field name_scan bs)
-name-field-no bs p = rw (byte-stops tab bs p)
+pub name-field-no : (bs : List ℕ) {cs : List ℕ} → the_byte tab bs ≡ stops cs → stops cs ≡ passed (field name_scan bs)
+name-field-no bs p = rw p
 
 -- ---- widths
 pub guard-most : (g : Guard) → wide_guard g ≤ 5

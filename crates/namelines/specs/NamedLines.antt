@@ -1,16 +1,16 @@
 -- What the scan of a line of the second form answers: the line without its name, which stays in the text, and the bytes behind it, or the bytes from where it stopped.
-use Rattle.std.specs.Prelude.{List, ℕ, ◌+◌, length, drop}
+use Rattle.std.specs.Prelude.{List, ℕ, ◌+◌, length, Result}
 use Rattle.model.specs.Text.{lf, decimal}
 use Rattle.model.specs.Reading.{Scan, stops, got, then, shorter, furthest, exactly, the_byte, field, number, numbers_or_dash, entry}
+use Rattle.fields.specs.declared.Cursor.{Cursor}
 use Rattle.fields.specs.declared.Guard.{Guard}
+use Rattle.fields.specs.Fields.{scanned}
 use Rattle.fields.specs.Resets.{summary, valued}
 use Rattle.lines.specs.Lines.{guard_is, kind_is, line_of, stop_of}
 use Rattle.columns.specs.Columns.{wide_guard}
 use Rattle.named.specs.NamedText.{form_word, name_word, Line as TheLine, form-line, name-line, act-line, row-line, plain-line, plain}
 use Rattle.namelines.specs.declared.NamedLine.{NamedLine}
 use Rattle.namelines.specs.declared.NamedLine.TheVariants.{Form, Name, Act, Row, Plain}
-use Rattle.namelines.specs.declared.NamedScan.{NamedScan}
-use Rattle.namelines.specs.declared.NamedScan.TheVariants as OfScan
 
 -- a line as the code has it
 abbrev pub code_of : TheLine → NamedLine
@@ -20,9 +20,8 @@ code_of (act-line w k) = Act (kind_is k)
 code_of (row-line s g w r t) = Row s (guard_is g) (summary r) t
 code_of (plain-line e) = Plain (line_of e)
 
-abbrev pub got_named : List ℕ → NamedScan → Scan NamedLine
-got_named t (OfScan.Is c l) = got l (drop c.at t)
-got_named t (OfScan.Missing c) = stops (drop c.at t)
+abbrev pub got_named : List ℕ → Result (Cursor × NamedLine) Cursor → Scan NamedLine
+got_named t r = scanned (λ l. l) t r
 
 -- a row behind its name: resets, target, LF
 unfoldable pub row_tail : ℕ → Guard → List ℕ → Scan NamedLine

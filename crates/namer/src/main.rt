@@ -7,8 +7,6 @@ ghost use Rattle.steplines.specs.Run.{most_bytes};
 ghost use Rattle.printout.specs.Printed.{Filled};
 ghost use Rattle.namer.specs.Renamed.{renamed_text};
 
-use stream::Moved;
-
 fn filled(input: &[u8], out: &mut [u8]) -> usize
     requires { most_bytes ≡ length out.old }
     ensures { Filled (renamed_text input.now) out.new result }
@@ -21,7 +19,7 @@ fn filled(input: &[u8], out: &mut [u8]) -> usize
 fn answer(rt: &HostRuntime, input: &[u8]) {
     let mut out = printout::empty_out();
     let k = filled(input, &mut out);
-    if let Moved::Failed(e) = stream::write(rt, &mut rt.stdout(), &out[..k]) {
+    if let Err(e) = stream::write(rt, &mut rt.stdout(), &out[..k]) {
         failing::say(rt, b"names: the text could not be written whole", e);
     }
 }
@@ -30,7 +28,7 @@ fn answer(rt: &HostRuntime, input: &[u8]) {
 fn main(rt: HostRuntime) {
     let mut input = printout::empty_input();
     match stream::read(&rt, &mut rt.stdin(), &mut input) {
-        Moved::Bytes(n) => answer(&rt, &input[..n]),
-        Moved::Failed(e) => failing::say(&rt, b"names: standard input could not be read", e),
+        Ok(n) => answer(&rt, &input[..n]),
+        Err(e) => failing::say(&rt, b"names: standard input could not be read", e),
     }
 }

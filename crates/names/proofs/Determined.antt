@@ -4,7 +4,7 @@ use mathlib.Core.List.{List}
 use Prim.Native.Nat.{ℕ}
 use lib.ListN.{length}
 use Rattle.answer.specs.Told.{Answer}
-use Rattle.answer.specs.declared.Written.{Written}
+use Rattle.answer.specs.Told.{Written}
 use Rattle.answer.proofs.SaysFixes.{written-fixed}
 use Rattle.named.specs.Converted.{to_names, to_numbers, written_by, Converts}
 

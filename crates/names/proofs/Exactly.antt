@@ -2,7 +2,6 @@
 use mathlib.Core.Path.{◌≡◌, refl, sym, ◌∙◌, ap, subst}
 use mathlib.Core.Logic.{◌↔◌}
 use mathlib.Core.Option.{Option, none, some}
-use mathlib.Core.Bool.{Bool, true, false}
 use mathlib.Core.List.{List, [], ◌∷◌, ◌++◌, cons≢nil}
 use Prim.Native.Nat.{ℕ, zero, suc, ◌≤◌, ◌<◌}
 use native.Mathlib.Nat.{le_refl}
@@ -12,9 +11,9 @@ use lib.ListN.{length}
 use borrow.Author.Tests.{lt-ltb, le-ltb}
 use Rattle.answer.specs.Limits.{max_bytes}
 use Rattle.answer.specs.Told.{tell, Answer, answered, refused}
-use Rattle.answer.specs.declared.Written.{Written}
+use Rattle.answer.specs.Told.{Written}
 use Rattle.model.specs.Model.{Comp}
-use Rattle.model.specs.Reading.{Got, Scan, is, stops, got, exactly, Entry, stop_column}
+use Rattle.model.specs.Reading.{Scan, is, stops, got, exactly, Entry, stop_column}
 use Rattle.model.proofs.Reading.Fields.{exactly-printed, exactly-scanned}
 use Rattle.iosa.specs.InOrder.{Leaves}
 use Rattle.answering.proofs.Answers.InOrder.{leaves-exactly}
@@ -22,7 +21,6 @@ use Rattle.named.specs.NamedText.{form_line, Line, line, lines_text, entries_of}
 use Rattle.named.specs.ReadNamed.{Progress₂, Read, begun, fault_named, behind_line, taken, unused, finish_named, lines_from₂, first_line, read_named}
 use Rattle.named.specs.Converted.{to_numbers, Converts}
 use Rattle.named.proofs.Onward.{line-shortens, lines_end, lines-shapeless, lines-fault, lines_next}
-use Rattle.namedtheory.specs.Named.{TextOf}
 use Rattle.namedtheory.proofs.TextRead.{text-is-read}
 use Rattle.namedtheory.proofs.Exactly.{read_back}
 use Rattle.names.specs.Names.{Before, form-first, line-next, NumbersAnswer, is1, is-empty, is-form, is-shape, is-fault, is8, is44, is-text}

@@ -11,7 +11,7 @@ use lib.ListN.{length}
 use borrow.Author.Tests.{lt-ltb, le-ltb}
 use Rattle.answer.specs.Limits.{max_bytes}
 use Rattle.answer.specs.Told.{tell, Answer, answered, refused}
-use Rattle.answer.specs.declared.Written.{Written}
+use Rattle.answer.specs.Told.{Written}
 use Rattle.iosa.specs.InOrder.{Leaves}
 use Rattle.iosa.specs.Lent.{Fills}
 use Rattle.named.specs.Converted.{fitted, left_by, Converts}

@@ -10,9 +10,9 @@ use native.Mathlib.Decide.{dec_lt}
 use lib.ListN.{length}
 use Rattle.answer.specs.Limits.{max_bytes}
 use Rattle.answer.specs.Told.{tell, Answer, answered, refused}
-use Rattle.answer.specs.declared.Written.{Written}
+use Rattle.answer.specs.Told.{Written}
 use Rattle.model.specs.Model.{Comp}
-use Rattle.model.specs.Reading.{Scan, is, stops, got, exactly, Entry, stop_column}
+use Rattle.model.specs.Reading.{Scan, is, stops, exactly, Entry, stop_column}
 use Rattle.model.proofs.Reading.Scans.{no-is}
 use Rattle.model.proofs.Reading.Stopped.{one-wrong}
 use Rattle.model.proofs.Reading.Fields.{exactly-printed, exactly-scanned}

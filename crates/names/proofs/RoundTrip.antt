@@ -9,8 +9,8 @@ use lib.ListN.{length, take, drop}
 use lib.Seq.{take_at}
 use Rattle.answer.specs.Limits.{max_bytes}
 use Rattle.answer.specs.Told.{Answer, answered, says_written}
-use Rattle.answer.specs.declared.Written.{Written}
-use Rattle.answer.specs.declared.Written.TheVariants.{Length}
+use Rattle.answer.specs.Told.{Written}
+use Rattle.std.specs.Prelude.{Ok}
 use Rattle.answer.proofs.SaysFixes.{written-fixed, says-the-length}
 use Rattle.model.specs.Model.{Model}
 use Rattle.model.proofs.Reading.TextOfRead.{text-of-read}
@@ -33,16 +33,16 @@ record Wrote (o : Answer (List ℕ)) (new : List ℕ) (n : ℕ) : Type 0 where
   short : length text ≤ max_bytes
   front : take n new ≡ text
 
-says-length : (n : ℕ) → says_written (Length n) ≡ some (answered n)
+says-length : (n : ℕ) → says_written (Ok n) ≡ some (answered n)
 unfolding says_written
 says-length n = refl
 
-wrote : (o : Answer (List ℕ)) (old new : List ℕ) (n : ℕ) → Converts o old new (Length n) → Wrote o new n
+wrote : (o : Answer (List ℕ)) (old new : List ℕ) (n : ℕ) → Converts o old new (Ok n) → Wrote o new n
 wrote o old new n c =
-    let l = (converts-exactly o (λ a. o ≡ a) (λ a. (λ e. e, λ e. e)) old new (Length n)).0 c in
+    let l = (converts-exactly o (λ a. o ≡ a) (λ a. (λ e. e, λ e. e)) old new (Ok n)).0 c in
     go l.right l.left
   where
-    go : {a : Answer (List ℕ)} → Fitting (λ b. o ≡ b) (length old) a → Fills old new (Length n) a → Wrote o new n
+    go : {a : Answer (List ℕ)} → Fitting (λ b. o ≡ b) (length old) a → Fills old new (Ok n) a → Wrote o new n
     go (is-refused e) x = no_answer refl (says-the-length n _ x.refusal)
     go (is24 e h) x = no_answer refl (says-the-length n _ x.refusal)
     go (is26 e h k) x = no_answer refl (says-the-length n _ x.refusal)
@@ -52,17 +52,17 @@ wrote o old new n c =
 
 -- a text that there is room for is written
 pub writes : (o : Answer (List ℕ)) (t old new : List ℕ) (r : Written) → o ≡ answered t → length t ≤ length old → length t ≤ max_bytes → Converts o old new r
-    → (r ≡ Length (length t)) × (take (length t) new ≡ t)
+    → (r ≡ Ok (length t)) × (take (length t) new ≡ t)
 writes o t old new r e h k c =
     let w : written_by (length old) o ≡ answered (length t) = ap (written_by (length old)) e ∙ fitted-fine (length old) t h k in
-    let s : r ≡ Length (length t) = written-fixed r (Length (length t)) (answered (length t)) (c.answer ∙ ap some w) (says-length (length t)) in
+    let s : r ≡ Ok (length t) = written-fixed r (Ok (length t)) (answered (length t)) (c.answer ∙ ap some w) (says-length (length t)) in
     let v = wrote o old new (length t) (subst (Converts o old new) s c) in
     (s, v.front ∙ same_answer (sym v.answer ∙ e))
 
 -- ---- old to new and back
-pub to_names-then-to_numbers : (t old new : List ℕ) (n : ℕ) → Converts (to_names t) old new (Length n)
+pub to_names-then-to_numbers : (t old new : List ℕ) (n : ℕ) → Converts (to_names t) old new (Ok n)
     → (buf out : List ℕ) (r : Written) → length t ≤ length buf → Converts (to_numbers (take n new)) buf out r
-    → (r ≡ Length (length t)) × (take (length t) out ≡ t)
+    → (r ≡ Ok (length t)) × (take (length t) out ≡ t)
 to_names-then-to_numbers t old new n c buf out r h d =
     let w = wrote (to_names t) old new n c in
     let u = renamed t w.text w.answer in
@@ -71,8 +71,8 @@ to_names-then-to_numbers t old new n c buf out r h d =
     writes (to_numbers (take n new)) t buf out r back h (subst (λ (x : List ℕ). length x ≤ max_bytes) q.1 q.0.bytes) d
 
 -- ---- new to old and back
-pub to_numbers-then-to_names : (u old new : List ℕ) (n : ℕ) → Converts (to_numbers u) old new (Length n)
-    → (buf out : List ℕ) (k : ℕ) → Converts (to_names (take n new)) buf out (Length k)
+pub to_numbers-then-to_names : (u old new : List ℕ) (n : ℕ) → Converts (to_numbers u) old new (Ok n)
+    → (buf out : List ℕ) (k : ℕ) → Converts (to_names (take n new)) buf out (Ok k)
     → (sheet : Sheet) (m : Model) → TextOf u sheet m → (take k out ≡ u) ↔ (sheet ≡ defaults_of m)
 to_numbers-then-to_names u old new n c buf out k d sheet m x =
     let r : Read = record { sheet = sheet; lines = entries_of m; model = m } in

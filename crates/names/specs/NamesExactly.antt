@@ -2,7 +2,7 @@
 use Rattle.std.specs.Prelude.{◌≡◌, List, [], ◌∷◌, ℕ, ◌≤◌, ◌<◌, length}
 use Rattle.answer.specs.Limits.{max_bytes}
 use Rattle.answer.specs.Told.{Told, tell, Answer, answered, refused}
-use Rattle.answer.specs.declared.Written.{Written}
+use Rattle.answer.specs.Told.{Written}
 use Rattle.model.specs.Model.{Model}
 use Rattle.model.specs.Text.{text_of}
 use Rattle.model.specs.WellFormed.{WellFormed}

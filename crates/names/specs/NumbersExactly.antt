@@ -4,7 +4,7 @@ use Rattle.std.specs.Prelude.{◌≡◌, List, [], ◌∷◌, ◌++◌, ℕ, ◌
 use Rattle.laws.specs.Lowest.{Lowest}
 use Rattle.answer.specs.Limits.{max_bytes}
 use Rattle.answer.specs.Told.{tell, Answer, answered, refused}
-use Rattle.answer.specs.declared.Written.{Written}
+use Rattle.answer.specs.Told.{Written}
 use Rattle.model.specs.Model.{Model}
 use Rattle.iosa.specs.InOrder.{Leaves}
 use Rattle.iosa.specs.Lent.{Fills}

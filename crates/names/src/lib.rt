@@ -10,27 +10,26 @@ ghost use Rattle.namelaws.specs.OldLines.{old_lines};
 ghost use Rattle.cutlaws.specs.Cutting.{number_part};
 ghost use Rattle.namecut.specs.Cuts.{cut_text, InOrder};
 
-use answer::{Checked, Model, Place, Refusal, Written};
-use namecheck::NamedChecked;
-use namecut::{Cut, CutScan};
+use answer::{Model, Place, Refusal};
+use namecut::Cut;
 
 fn number_width(c: Cut) -> usize
-    ensures { result ≡ length (number_part c.named c.action) }
+    ensures { result ≡ length (number_part c.action) }
 {
-    if c.named {
-        return measure::width(c.action);
+    match c.action {
+        Some(a) => measure::width(a),
+        None => 0,
     }
-    0
 }
 
 fn put_number(out: &mut [u8], to: usize, c: Cut) -> usize
-    requires { Room out.old to (number_part c.named c.action) }
-    ensures { Put out.old to (number_part c.named c.action) out.new result }
+    requires { Room out.old to (number_part c.action) }
+    ensures { Put out.old to (number_part c.action) out.new result }
 {
-    if c.named {
-        return print::put_decimal(out, to, c.action);
+    match c.action {
+        Some(a) => print::put_decimal(out, to, a),
+        None => to,
     }
-    to
 }
 
 // The parts of a line.
@@ -55,11 +54,11 @@ fn old_length(text: &[u8], places: &[usize; Model::ACTIONS], from: usize) -> usi
     let mut sum = 0;
     while at < text.len() {
         match namecut::cut_at(text, places, at) {
-            CutScan::Is(c) => {
+            Some(c) => {
                 sum = sum + (c.stop - at) + number_width(c) + (c.next - c.go);
                 at = c.next;
             }
-            CutScan::Nothing => {
+            None => {
                 return sum;
             }
         }
@@ -76,11 +75,11 @@ fn write_old(out: &mut [u8], text: &[u8], places: &[usize; Model::ACTIONS], from
     let mut to = 0;
     while at < text.len() {
         match namecut::cut_at(text, places, at) {
-            CutScan::Is(c) => {
+            Some(c) => {
                 to = put_cut(out, to, text, at, c);
                 at = c.next;
             }
-            CutScan::Nothing => {
+            None => {
                 return to;
             }
         }
@@ -89,52 +88,44 @@ fn write_old(out: &mut [u8], text: &[u8], places: &[usize; Model::ACTIONS], from
 }
 
 // New to old: the refusal of the text, 24 with the bytes needed, 26; else the old text at the front of the buffer, and its length.
-pub fn to_numbers(text: &[u8], old: &mut [u8]) -> Written
+pub fn to_numbers(text: &[u8], old: &mut [u8]) -> Result<usize, Refusal>
     ensures { Converts (to_numbers text.now) old.old old.new result }
 {
     let mut places: [usize; Model::ACTIONS] = [0; Model::ACTIONS];
-    match namecheck::check_named(text, &mut places) {
-        NamedChecked::Refused(f) => Written::Refused(f),
-        NamedChecked::Fine(at) => {
-            let needed = old_length(text, &places, at);
-            if old.len() < needed {
-                return Written::Refused(Refusal {
-                    number: 24,
-                    place: Place::Bytes(needed),
-                });
-            }
-            if Model::BYTES < needed {
-                return Written::Refused(Refusal {
-                    number: 26,
-                    place: Place::Whole,
-                });
-            }
-            Written::Length(write_old(old, text, &places, at))
-        }
+    let at = namecheck::check_named(text, &mut places)?;
+    let needed = old_length(text, &places, at);
+    if old.len() < needed {
+        return Err(Refusal {
+            number: 24,
+            place: Place::Bytes(needed),
+        });
     }
+    if Model::BYTES < needed {
+        return Err(Refusal {
+            number: 26,
+            place: Place::Whole,
+        });
+    }
+    Ok(write_old(old, text, &places, at))
 }
 
 // Old to new: the refusal of the text, 24 with the bytes needed, 26; else the new text at the front of the buffer, and its length.
-pub fn to_names(text: &[u8], new: &mut [u8]) -> Written
+pub fn to_names(text: &[u8], new: &mut [u8]) -> Result<usize, Refusal>
     ensures { Converts (to_names text.now) new.old new.new result }
 {
-    match survey::check_text(text) {
-        Checked::Refused(f) => Written::Refused(f),
-        Checked::Fine => {
-            let s = naming::new_length(text);
-            if new.len() < s.length {
-                return Written::Refused(Refusal {
-                    number: 24,
-                    place: Place::Bytes(s.length),
-                });
-            }
-            if Model::BYTES < s.length {
-                return Written::Refused(Refusal {
-                    number: 26,
-                    place: Place::Whole,
-                });
-            }
-            Written::Length(naming::write_new(new, text, s.declared))
-        }
+    survey::check_text(text)?;
+    let s = naming::new_length(text);
+    if new.len() < s.length {
+        return Err(Refusal {
+            number: 24,
+            place: Place::Bytes(s.length),
+        });
     }
+    if Model::BYTES < s.length {
+        return Err(Refusal {
+            number: 26,
+            place: Place::Whole,
+        });
+    }
+    Ok(naming::write_new(new, text, s.declared))
 }

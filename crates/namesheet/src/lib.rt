@@ -8,51 +8,36 @@ ghost use Rattle.namelaws.specs.Sheets.{sheet_of, begins_name, number_in, name_f
 ghost use Rattle.namesheet.specs.Sheets.{NameAs, Sheets};
 
 use answer::{Model, Place, Refusal};
-use fields::{Cursor, Step};
-use namefields::Found;
-use namelines::{NamedLine, NamedScan};
+use fields::Cursor;
+use namelines::NamedLine;
 
-// A `name` line that is faultless, or its refusal.
-#[derive(Drop)]
-pub enum NameScan {
-    Is {
-        number: u64,
-        place: usize,
-        next: usize,
-    },
-    Refused(Refusal),
+// A `name` line that is faultless: its action, where the name begins, and where the next line does.
+#[derive(Clone, Copy)]
+pub struct NameLine {
+    pub number: u64,
+    pub place: usize,
+    pub next: usize,
 }
 
-// The `name` lines: where they end, and the number of the line there; or the refusal of the first bad one.
-#[derive(Drop)]
-pub enum Sheeted {
-    Is { at: usize, line: usize },
-    Refused(Refusal),
+// Where the `name` lines end, and the number of the line there.
+#[derive(Clone, Copy)]
+pub struct SheetEnd {
+    pub at: usize,
+    pub line: usize,
 }
 
 fn begins_name(text: &[u8], at: usize) -> bool
     ensures { result ≡ begins_name (drop at text.now) }
 {
-    match fields::word(text, Cursor { at }, b"name") {
-        Step::Past(_) => true,
-        Step::Missing(_) => false,
-    }
+    fields::word(text, Cursor { at }, b"name").is_ok()
 }
 
 fn number_in(l: NamedLine) -> u64
     ensures { result ≡ number_in l }
 {
     match l {
-        NamedLine::Form => 0,
         NamedLine::Name { number } => number,
-        NamedLine::Act { kind: _ } => 0,
-        NamedLine::Row {
-            from: _,
-            guard: _,
-            resets: _,
-            target: _,
-        } => 0,
-        NamedLine::Plain { line: _ } => 0,
+        _ => 0,
     }
 }
 
@@ -70,10 +55,10 @@ fn name_fault(text: &[u8], places: &[usize; Model::ACTIONS], low: u64, number: u
     if !namefields::good_name(text, at) {
         return 43;
     }
-    match namefields::action_named(text, places, at) {
-        Found::Is(_) => 43,
-        Found::Nothing => 0,
+    if namefields::action_named(text, places, at).is_some() {
+        return 43;
     }
+    0
 }
 
 // The number is the first value of its line, and stands in column 6.
@@ -93,25 +78,31 @@ fn name_refusal(number: u8, n: usize) -> Refusal
 }
 
 // The `name` line at a place, which is line n.
-fn name_at(text: &[u8], places: &[usize; Model::ACTIONS], low: u64, at: usize, n: usize) -> NameScan
+fn name_at(
+    text: &[u8],
+    places: &[usize; Model::ACTIONS],
+    low: u64,
+    at: usize,
+    n: usize,
+) -> Result<NameLine, Refusal>
     requires { SoFar text.now places.now low × (begins_name (drop at text.now) ≡ true) }
     ensures { NameAs text.now places.now low at n result }
 {
     match namelines::line_at(text, Cursor { at }) {
-        NamedScan::Is(next, line) => {
+        Ok((next, line)) => {
             let number = number_in(line);
             let place = at + namelines::before_name(line);
             let fault = name_fault(text, places, low, number, place);
             if fault != 0 {
-                return NameScan::Refused(name_refusal(fault, n));
+                return Err(name_refusal(fault, n));
             }
-            NameScan::Is {
+            Ok(NameLine {
                 number,
                 place,
                 next: next.at,
-            }
+            })
         }
-        NamedScan::Missing(stop) => NameScan::Refused(Refusal {
+        Err(stop) => Err(Refusal {
             number: 2,
             place: Place::Spot {
                 line: n,
@@ -122,7 +113,11 @@ fn name_at(text: &[u8], places: &[usize; Model::ACTIONS], low: u64, at: usize, n
 }
 
 // The `name` lines from a place on, the first of which is line 2.
-pub fn read_names(text: &[u8], from: usize, places: &mut [usize; Model::ACTIONS]) -> Sheeted
+pub fn read_names(
+    text: &[u8],
+    from: usize,
+    places: &mut [usize; Model::ACTIONS],
+) -> Result<SheetEnd, Refusal>
     requires { (from ≤ length text.now) × (length places.old ≡ max_actions) × ((a : ℕ) → get_or places.old a 0 ≡ 0) × (length text.now ≤ max_bytes) }
     ensures { Sheets text.now from places.new result }
 {
@@ -130,23 +125,13 @@ pub fn read_names(text: &[u8], from: usize, places: &mut [usize; Model::ACTIONS]
     let mut n = 2;
     let mut low = 0;
     while begins_name(text, at) {
-        match name_at(text, places, low, at, n) {
-            NameScan::Is {
-                number,
-                place,
-                next,
-            } => {
-                places[number as usize] = place;
-                low = number + 1;
-                at = next;
-                n += 1;
-            }
-            NameScan::Refused(f) => {
-                return Sheeted::Refused(f);
-            }
-        }
+        let l = name_at(text, places, low, at, n)?;
+        places[l.number as usize] = l.place;
+        low = l.number + 1;
+        at = l.next;
+        n += 1;
     }
-    Sheeted::Is { at, line: n }
+    Ok(SheetEnd { at, line: n })
 }
 
 // A name stands for this action, and no `act` line declares it.

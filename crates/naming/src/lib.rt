@@ -9,7 +9,7 @@ ghost use Rattle.naming.specs.Parts.{PartOf, PartAs, part_bytes};
 
 use answer::Model;
 use fields::{Cursor, Sign};
-use lines::{Line, LineScan};
+use lines::Line;
 
 // A line that begins at a known place: its action begins `place` bytes on, 0 where it has none; the action that it declares, as a set; where the next line begins.
 #[derive(Clone, Copy)]
@@ -17,12 +17,6 @@ pub struct Part {
     pub place: usize,
     pub declares: u64,
     pub next: usize,
-}
-
-#[derive(Drop)]
-pub enum PartScan {
-    Is(Part),
-    Nothing,
 }
 
 // What all lines come to.
@@ -48,7 +42,7 @@ fn place_in(l: Line) -> usize
             action: _,
             resets: _,
             target: _,
-        } => 6 + measure::width(from) + namelines::guard_width(guard),
+        } => 6 + measure::width(from) + columns::guard_width(guard),
     }
 }
 
@@ -77,22 +71,22 @@ fn line_set(l: Line) -> u64
     }
 }
 
-fn part_at(text: &[u8], at: usize) -> PartScan
+fn part_at(text: &[u8], at: usize) -> Option<Part>
     requires { at ≤ length text.now }
     ensures { PartAs text.now at result }
 {
     match lines::line_at(text, Cursor { at }) {
-        LineScan::Is(behind, line) => {
+        Ok((behind, line)) => {
             let next = namecut::held(text, behind.at);
             let place = place_in(line);
             let declares = line_set(line);
-            PartScan::Is(Part {
+            Some(Part {
                 place,
                 declares,
                 next,
             })
         }
-        LineScan::Missing(_) => PartScan::Nothing,
+        Err(_) => None,
     }
 }
 
@@ -115,12 +109,12 @@ fn sum_lines(text: &[u8]) -> Sum
     let mut length = 0;
     while at < text.len() {
         match part_at(text, at) {
-            PartScan::Is(p) => {
+            Some(p) => {
                 declared = sets::union(declared, p.declares);
                 length = length + (p.next - at) + letter_width(p.place);
                 at = p.next;
             }
-            PartScan::Nothing => {
+            None => {
                 return Sum { declared, length };
             }
         }
@@ -225,11 +219,11 @@ fn put_lines(out: &mut [u8], to: usize, text: &[u8]) -> usize
     let mut next = to;
     while at < text.len() {
         match part_at(text, at) {
-            PartScan::Is(p) => {
+            Some(p) => {
                 next = put_part(out, next, text, at, p);
                 at = p.next;
             }
-            PartScan::Nothing => {
+            None => {
                 return next;
             }
         }

@@ -13,7 +13,7 @@ use Rattle.laws.proofs.ListLaws.{All}
 use Rattle.answer.specs.Limits.{max_actions, max_bytes}
 use Rattle.answer.specs.Told.{Told, told, Answer, answered, refused, says_checked, done_of}
 use Rattle.answer.specs.declared.Refusal.{Refusal}
-use Rattle.answer.specs.declared.Checked.TheVariants.{Fine, Refused}
+use Rattle.std.specs.Prelude.{Ok, Err}
 use Rattle.answer.proofs.SaysFixes.{tells}
 use Rattle.model.specs.Model.{Model}
 use Rattle.model.specs.WellFormed.{WellComp}
@@ -73,7 +73,7 @@ as-refused : (t : List ℕ) (τ : Told) → read_of t ≡ refused τ → to_name
 unfolding to_names
 as-refused t τ e = rw (e, to_names)
 
-pub names-refused : (t : List ℕ) (f : Refusal) → says_checked (Refused f) ≡ some (done_of (read_of t)) → (τ : Told) × (told f ≡ some τ) × (to_names t ≡ refused τ)
+pub names-refused : (t : List ℕ) (f : Refusal) → says_checked (Err f) ≡ some (done_of (read_of t)) → (τ : Told) × (told f ≡ some τ) × (to_names t ≡ refused τ)
 unfolding says_checked
 names-refused t f h = let x = tells f (done_of (read_of t)) h in (x.0, x.1, as-refused t x.0 (go (read_of t) x.2))
   where
@@ -86,7 +86,7 @@ pub record Names (t : List ℕ) : Type 0 where
   pub short : length t ≤ max_bytes
   pub answer : to_names t ≡ answered (new_text t)
 
-pub names-good : (t : List ℕ) → says_checked Fine ≡ some (done_of (read_of t)) → Names t
+pub names-good : (t : List ℕ) → says_checked (Ok tt) ≡ some (done_of (read_of t)) → Names t
 unfolding says_checked
 names-good t h = go (read_of t) refl h
   where

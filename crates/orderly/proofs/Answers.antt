@@ -5,7 +5,7 @@ use mathlib.Core.List.{List, ◌∷◌}
 use Prim.Native.Nat.{ℕ}
 use Rattle.laws.specs.Search.{or_else}
 use Rattle.answer.specs.Told.{Answer, answered}
-use Rattle.answer.specs.declared.Checked.{Checked}
+use Rattle.answer.specs.Told.{Checked}
 use Rattle.model.specs.Model.{Comp, Model}
 use Rattle.model.specs.WellFormed.{WellFormed}
 use Rattle.iosa.specs.Checks.{clash_among, accept_of}

@@ -8,23 +8,25 @@ use Prim.Native.Nat.{ℕ, ◌≤◌, ◌<◌}
 use native.Mathlib.Omega.{arith}
 use Rattle.laws.specs.Sets.{has, ◌∪◌, ◌∖◌}
 use Rattle.laws.specs.Search.{or_else, least}
+use Rattle.laws.proofs.Exits.{handed-on}
 use Rattle.laws.proofs.SetLaws.{in-or, or-in-l, or-in-r, same-members, has-without}
 use Rattle.laws.proofs.SearchLaws.{no-some, least-none, none-least, least-some, some-least}
 use Rattle.answer.specs.Limits.{max_actions}
-use Rattle.answer.specs.Told.{Told, told, tell}
-use Rattle.answer.specs.declared.Checked.{Checked}
-use Rattle.answer.specs.declared.Checked.TheVariants.{Fine, Refused}
+use Rattle.answer.specs.Told.{Told, told, tell, says_checked}
+use Rattle.answer.specs.Told.{Checked}
+use Rattle.std.specs.Prelude.{Ok, Err, IsErrAnd, MatchResult}
 use Rattle.answer.specs.declared.Place.TheVariants.{Action}
 use Rattle.answer.specs.declared.Refusal.{Refusal}
 use Rattle.sets.specs.Members.{or_end, lowest_of}
 use Rattle.model.specs.Model.{Model, comp_at, inputs, outputs}
-use Rattle.iosa.specs.Checks.{accept_of}
+use Rattle.iosa.specs.Checks.{accept_of, clash_among}
 use Rattle.iosa.specs.Step.{unless}
 use Rattle.layout.specs.Layout.{count_of, block_word, joined_word}
 use Rattle.layout.specs.Image.{comp_of, model_of}
 use Rattle.layout.proofs.ModelOf.{model-length, comp-at}
 use Rattle.parts.specs.Faults.{Says}
-use Rattle.parts.proofs.Saying.{says-refused}
+use Rattle.parts.proofs.Saying.{says-refused, says-fine, says-as, fine-none, refused-some, not-fine}
+use Rattle.table.specs.OnTable.{check_on}
 use Rattle.table.proofs.OnTableLaws.{on-image}
 use Rattle.table.proofs.CheckedLaws.{Follows, refused-tells, call-refuses}
 use Rattle.table.proofs.ImageExactly.{image-exactly}
@@ -32,9 +34,7 @@ use Rattle.admit.specs.Admit.{Accepted}
 use Rattle.admit.proofs.Exactly.{accept-fine}
 use Rattle.triggering.specs.Test.{joined, inputs_of, outputs_of, passes_of, open_fault, unless_passes, else_orderly, orderly_of, entry_of}
 use Rattle.triggering.proofs.Tables.{in-joined}
-use Rattle.orderly.specs.declared.Asked.{Asked}
-use Rattle.orderly.specs.declared.Asked.TheVariants.{Test, Either}
-use Rattle.orderly.specs.Calls.{asked_fault, fault_in, Answers}
+use Rattle.orderly.specs.Calls.{called_fault, either_fault}
 
 -- ---- the sets of the system: two words of every block
 two-joined : (f g h : ℕ → ℕ) (n : ℕ) → ((k : ℕ) → k < n → h k ≡ f k ∪ g k) → joined f n ∪ joined g n ≡ joined h n
@@ -98,7 +98,7 @@ module _ (m : Model) (a : ℕ) (e : a ≡ lowest_of (inputs_of m ∖ outputs_of 
       go none f q = ap Told45 (none-least open? max_actions (λ k i. same k ∙ least-none (has left) max_actions f k i))
       go (some k) f q = absurd (omega (arith, (least-some (has left) max_actions k f).below))
 
-  pub says-45 : (r : Checked) → a < max_actions → r ≡ Refused (record { number = 45; place = Action a }) → Says r (open_fault m)
+  pub says-45 : (r : Checked) → a < max_actions → r ≡ Err (record { number = 45; place = Action a }) → Says r (open_fault m)
   unfolding told
   says-45 r h q = rw q (says-refused _ (tell 45 (a ∷ [])) (open_fault m) refl (lowest-open h))
 
@@ -126,24 +126,35 @@ module _ (m : Model) where
   either-failed none t e = absurd (no-some refl e)
   either-failed (some u) t e = refl
 
--- ---- behind `accept`, whose answer is q
-behind : (k : Asked) (m : Model) → fault_in k m ≡ or_else (accept_of m) (asked_fault k m)
-unfolding orderly_of entry_of
-behind Test m = refl
-behind Either m = refl
+-- what check 18 says, or else what is called then
+pub or-called : (m : Model) (q r : Checked) → Says q (clash_among 0 m)
+    → MatchResult q (λ x. r ≡ Ok x) (λ f. Says r (called_fault m)) → Says r (either_fault m)
+or-called m (Ok tt) r s h = rw h (says-fine _ (either-passed m (clash_among 0 m) (fine-none _ s)))
+or-called m (Err f) r s h =
+    let some = refused-some _ (clash_among 0 m) s (not-fine _ f refl) in
+    says-as _ _ _ (either-failed m (clash_among 0 m) some.0 some.1) h
 
-module _ (t : List ℕ) (k : Asked) (q : Checked) (a : Accepted t q) where
-  pub not-accepted : (f : Refusal) → q ≡ Refused f → Answers t k q
-  not-accepted f e =
-      let x = refused-tells t accept_of f (rw e at a) in
-      a ∙ ap some (x.2 ∙ sym (call-refuses t accept_of (λ m. unless (fault_in k m) done) follows x.0 x.2))
+-- ---- behind `accept`
+pub orderly-behind : (m : Model) → orderly_of m ≡ or_else (accept_of m) (called_fault m)
+unfolding orderly_of
+orderly-behind m = refl
+
+pub either-behind : (m : Model) → entry_of m ≡ or_else (accept_of m) (either_fault m)
+unfolding entry_of
+either-behind m = refl
+
+module _ (t : List ℕ) (whole rest : Model → Option Told) (behind : (m : Model) → whole m ≡ or_else (accept_of m) (rest m)) where
+  pub not-accepted : (f : Refusal) → Accepted t (Err f) → (r : Checked) → IsErrAnd r (λ x. x ≡ f) → says_checked r ≡ some (check_on t whole)
+  not-accepted f a r h =
+      let x = refused-tells t accept_of f a in
+      rw (handed-on r h) (a ∙ ap some (x.2 ∙ sym (call-refuses t accept_of (λ m. unless (whole m) done) follows x.0 x.2)))
     where
-      follows : Follows t accept_of (λ m. unless (fault_in k m) done)
-      follows m u h = ap (λ o. unless o done) (behind k m ∙ ap (λ o. or_else o (asked_fault k m)) h)
+      follows : Follows t accept_of (λ m. unless (whole m) done)
+      follows m u h = ap (λ o. unless o done) (behind m ∙ ap (λ o. or_else o (rest m)) h)
 
-  pub accepted-then : (r : Checked) → q ≡ Fine → Says r (asked_fault k (model_of t)) → Answers t k r
-  accepted-then r e s =
-      let d = accept-fine t (rw e at a) in
+  pub accepted-then : Accepted t (Ok tt) → (r : Checked) → Says r (rest (model_of t)) → says_checked r ≡ some (check_on t whole)
+  accepted-then a r s =
+      let d = accept-fine t a in
       let m = model_of t in
-      let z = on-image t (λ m. unless (fault_in k m) done) ((image-exactly t).1 d.image) in
-      s ∙ ap some (sym (z ∙ ap (λ o. unless o done) (behind k m ∙ ap (λ o. or_else o (asked_fault k m)) d.accepted)))
+      let z = on-image t (λ m. unless (whole m) done) ((image-exactly t).1 d.image) in
+      s ∙ ap some (sym (z ∙ ap (λ o. unless o done) (behind m ∙ ap (λ o. or_else o (rest m)) d.accepted)))

@@ -5,8 +5,8 @@ use mathlib.Core.Logic.{◌↔◌, inl, inr}
 use mathlib.Core.Option.{none, some}
 use mathlib.Core.List.{List}
 use Prim.Native.Nat.{ℕ}
-use Rattle.answer.specs.declared.Checked.{Checked}
-use Rattle.answer.specs.declared.Checked.TheVariants.{Fine}
+use Rattle.answer.specs.Told.{Checked}
+use Rattle.std.specs.Prelude.{Ok}
 use Rattle.answer.proofs.SaysFixes.{checked-fixed}
 use Rattle.iosa.specs.Checks.{accept_of, confluent_of}
 use Rattle.iosa.specs.Step.{unless}
@@ -26,7 +26,7 @@ use Rattle.walkable.proofs.Opening.{closed-exactly}
 use Rattle.walkable.proofs.Orderly.{orderly-exactly, refused-as-18, entry-exactly}
 use Rattle.orderly.specs.Calls.{OrderlyCall, MayWalk}
 
--- what a call that goes on after `Fine` counts on
+-- what a call that goes on after `(Ok tt)` counts on
 pub record Walkable (t : List ℕ) : Type 0 where
   pub image : Image t
   pub entry : entry_of (model_of t) ≡ none
@@ -34,39 +34,39 @@ pub record Walkable (t : List ℕ) : Type 0 where
   pub settles : Settles (model_of t)
 
 module _ (t : List ℕ) where
-  pub walk_fine : MayWalk t Fine → Walkable t
+  pub walk_fine : MayWalk t (Ok tt) → Walkable t
   walk_fine e =
       let p = fine-passes t entry_of e in
       let im = (image-exactly t).0 p.0 in
       let s = (entry-exactly (model_of t) (well-formed t im)).0 p.1 in
       record { image = im; entry = p.1; accepted = (accepted-exactly (model_of t) (well-formed t im)).1 (s.conforms, s.joins); settles = s }
 
-  pub orderly-fine : OrderlyCall t Fine → Image t × Orderly (model_of t)
+  pub orderly-fine : OrderlyCall t (Ok tt) → Image t × Orderly (model_of t)
   orderly-fine e =
       let p = fine-passes t orderly_of e in
       let im = (image-exactly t).0 p.0 in
       (im, (orderly-exactly (model_of t) (well-formed t im)).0 p.1)
 
   module _ (r : Checked) where
-    pub orderly-call-exactly : OrderlyCall t r → (r ≡ Fine) ↔ (Image t × Orderly (model_of t))
+    pub orderly-call-exactly : OrderlyCall t r → (r ≡ (Ok tt)) ↔ (Image t × Orderly (model_of t))
     orderly-call-exactly s = (
       λ e. orderly-fine (rw e at s),
       λ p. passes-fine t orderly_of r p.0 ((orderly-exactly (model_of t) (well-formed t p.0)).1 p.1) s,
     )
 
-    pub may-walk-exactly : MayWalk t r → (r ≡ Fine) ↔ (Image t × Settles (model_of t))
+    pub may-walk-exactly : MayWalk t r → (r ≡ (Ok tt)) ↔ (Image t × Settles (model_of t))
     may-walk-exactly s = (
       λ e. let p = walk_fine (rw e at s) in (p.image, p.settles),
       λ p. passes-fine t entry_of r p.0 ((entry-exactly (model_of t) (well-formed t p.0)).1 p.1) s,
     )
 
     -- "systems that pass check 18 work as before", open or not
-    pub confluent-may-walk : Confluently t Fine → MayWalk t r → r ≡ Fine
+    pub confluent-may-walk : Confluently t (Ok tt) → MayWalk t r → r ≡ (Ok tt)
     confluent-may-walk e s =
         let p = confluent-fine t e in
         (may-walk-exactly s).1 (p.0.image, record { conforms = p.0.conforming; joins = p.0.joinable; either = inl p.2 })
 
-    pub orderly-may-walk : OrderlyCall t Fine → MayWalk t r → r ≡ Fine
+    pub orderly-may-walk : OrderlyCall t (Ok tt) → MayWalk t r → r ≡ (Ok tt)
     orderly-may-walk e s =
         let p = orderly-fine e in
         let o = p.1 in

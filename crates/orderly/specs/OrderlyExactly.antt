@@ -1,7 +1,7 @@
 -- What `orderly` and `may_walk` answer, in the terms of document 000: 20 where the table holds no model, else the first check of that model that refuses.
 use Rattle.std.specs.Prelude.{List, ◌∷◌, ℕ}
 use Rattle.answer.specs.Told.{Answer}
-use Rattle.answer.specs.declared.Checked.{Checked}
+use Rattle.answer.specs.Told.{Checked}
 use Rattle.model.specs.Model.{Comp}
 use Rattle.iosa.specs.InOrder.{◌▹◌, Leaves, accepted}
 use Rattle.answering.specs.Answers.{Fine}

@@ -1,17 +1,15 @@
 -- The answer of `start`, by whether the table was recognised; and the words of a table that it is made of.
-use mathlib.Core.Path.{◌≡◌, sym, ◌∙◌, ap}
+use mathlib.Core.Path.{◌≡◌, refl, sym, ◌∙◌, ap}
 use mathlib.Core.Bool.{Bool, true, false}
-use mathlib.Core.Option.{some}
 use mathlib.Core.List.{List}
 use Prim.Native.Nat.{ℕ, ◌<◌}
 use native.Mathlib.Omega.{arith}
 use native.Mathlib.Decide.{dec_lt}
 use lib.ListN.{length, get_or, get_or-eq_default}
-use Rattle.answer.specs.Limits.{max_components, max_states, no_state}
-use Rattle.answer.specs.Told.{answered, done_of, told, says_checked}
-use Rattle.answer.specs.declared.Checked.TheVariants.{Fine, Refused}
+use Rattle.answer.specs.Limits.{max_components, max_states}
+use Rattle.answer.specs.Told.{answered, told}
+use Rattle.std.specs.Prelude.{Ok, Err}
 use Rattle.answer.specs.declared.Place.TheVariants.{Whole}
-use Rattle.answer.specs.declared.State.{State}
 use Rattle.iosa.specs.Start.{start_all, started_all, start_of}
 use Rattle.iosa.proofs.Settling.Start.{start-length, start-at}
 use Rattle.layout.specs.Layout.{count_of, block_word}
@@ -24,7 +22,8 @@ use Rattle.table.specs.IsImage.{is_image}
 use Rattle.table.proofs.OnTableLaws.{on-image, on-no-image}
 use Rattle.table.proofs.ImageExactly.{image-exactly}
 use Rattle.words.specs.Bytes.{state_of}
-use Rattle.outset.specs.Start.{started_in, state_in, StartCall}
+use Rattle.outset.specs.declared.Outset.{Outset}
+use Rattle.outset.specs.Start.{StartCall}
 
 module _ (t : List ℕ) (im : Image t) where
   -- as many numbers as components
@@ -52,17 +51,9 @@ module _ (t : List ℕ) (w : Bool) (e : w ≡ is_image t) where
   pub is-image : w ≡ true → Image t
   is-image f = (image-exactly t).0 (sym e ∙ f)
 
-  -- 20, and zeros
-  pub refused-20 : w ≡ false → (x : State) → x ≡ no_state
-      → StartCall t (record { checked = Refused (record { number = 20; place = Whole }); started = 0; state = x })
-  unfolding says_checked told
-  refused-20 f x q =
-      let o = on-no-image t (λ m. answered (start_of m)) (sym e ∙ f) in
-      record { checked = ap (λ v. some (done_of v)) (sym o); started = ap started_in (sym o); state = q ∙ ap state_in (sym o) }
+  pub refused-20 : w ≡ false → StartCall t (Err (record { number = 20; place = Whole }))
+  unfolding told
+  refused-20 f = rw (on-no-image t (λ m. answered (start_of m)) (sym e ∙ f)) refl
 
-  pub begins : w ≡ true → (s : ℕ) (x : State) → s ≡ started_all (model_of t) → x ≡ state_of (start_all (model_of t))
-      → StartCall t (record { checked = Fine; started = s; state = x })
-  unfolding says_checked
-  begins f s x p q =
-      let o = on-image t (λ m. answered (start_of m)) (sym e ∙ f) in
-      record { checked = ap (λ v. some (done_of v)) (sym o); started = p ∙ ap started_in (sym o); state = q ∙ ap state_in (sym o) }
+  pub begins : w ≡ true → (r : Outset) → r.started ≡ started_all (model_of t) → r.state ≡ state_of (start_all (model_of t)) → StartCall t (Ok r)
+  begins f r p q = rw (on-image t (λ m. answered (start_of m)) (sym e ∙ f)) (record { started = p; state = q })

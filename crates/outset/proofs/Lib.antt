@@ -1,3 +1,4 @@
+pub mod Made
 pub mod Called
 pub mod Determined
 pub mod Exactly

@@ -1,9 +1,9 @@
 -- What the call `start` answers on every table: 20, and else where the table's model begins.
-use Rattle.std.specs.Prelude.{◌≡◌, List, ◌∷◌, ℕ}
-use Rattle.std.proofs.Math.Option.{some}
+use Rattle.std.specs.Prelude.{◌≡◌, List, ◌∷◌, ℕ, Result, IsOkAnd}
 use Rattle.answer.specs.Limits.{no_state}
-use Rattle.answer.specs.Told.{Answer, answered, refused, done_of, says_checked}
+use Rattle.answer.specs.Told.{Answer, answered, refused, RefusedWith}
 use Rattle.answer.specs.declared.State.{State}
+use Rattle.answer.specs.declared.Refusal.{Refusal}
 use Rattle.answer.specs.State.{parts_of}
 use Rattle.model.specs.Model.{Comp}
 use Rattle.iosa.specs.Start.{Beginning, start_of, StartOf}
@@ -16,22 +16,22 @@ use Rattle.outset.specs.declared.Outset.{Outset}
 abbrev pub start_on : List ℕ → Answer Beginning
 start_on t = on_table t (λ m. answered (start_of m))
 
--- the clocks and the state that stand beside the answer: "A refusal returns its number and place", and all else is zero
-abbrev pub started_in : Answer Beginning → ℕ
-started_in (answered b) = b.started
-started_in (refused f) = 0
-
+-- the state in which it begins, and no state where it is refused: "A refusal returns its number and place", and all else is zero
 abbrev pub state_in : Answer Beginning → State
 state_in (answered b) = state_of b.state
 state_in (refused f) = no_state
 
--- r says this answer, with its clocks and its state
-pub record StartLeaves (r : Outset) (a : Answer Beginning) : Type 0 where
-  pub checked : says_checked r.checked ≡ some (done_of a)
-  pub started : r.started ≡ started_in a
-  pub state : r.state ≡ state_in a
+-- the clocks and the state of this beginning
+pub record StartGives (b : Beginning) (r : Outset) : Type 0 where
+  pub started : r.started ≡ b.started
+  pub state : r.state ≡ state_of b.state
 
-abbrev pub StartCall : List ℕ → Outset → Type 0
+-- r says this answer
+abbrev pub StartLeaves : Result Outset Refusal → Answer Beginning → Type 0
+StartLeaves r (answered b) = IsOkAnd r (λ p. StartGives b p)
+StartLeaves r (refused f) = RefusedWith f r
+
+abbrev pub StartCall : List ℕ → Result Outset Refusal → Type 0
 StartCall t r = StartLeaves r (start_on t)
 
 -- the table is the image of a model; its product begins in the state answered, whose places past the last component are 0, and sets the clocks answered

@@ -8,12 +8,12 @@ ghost use Rattle.layout.specs.Image.{Image, model_of};
 ghost use Rattle.words.specs.Bytes.{state_of};
 ghost use Rattle.outset.specs.Start.{StartCall};
 
-use answer::{Checked, Place, Refusal, State};
+use answer::{Place, Refusal, State};
+use std::array;
 
-// The start state and the clocks set there stand beside the answer; beside a refusal they are zero.
+// Where a system begins: its state, and the clocks that are set there.
 #[derive(Drop)]
 pub struct Outset {
-    pub checked: Checked,
     pub started: u64,
     pub state: State,
 }
@@ -31,35 +31,24 @@ pub fn start_state(t: &[u64]) -> State
     requires { Image t.now }
     ensures { result ≡ state_of (start_all (model_of t.now)) }
 {
-    let mut parts = [0u8; State::PARTS];
-    let mut i = 0usize;
-    while i < State::PARTS {
-        parts[i] = start_at(t, i);
-        i += 1;
-    }
     State {
         count: layout::count_of(t) as usize,
-        parts,
+        parts: array::from_fn(|i| start_at(t, i)),
     }
 }
 
 // The start state of the table's model and the clocks that are set there, whatever conditions the model meets; 20 where there is no model.
-pub fn start(table: &[u64]) -> Outset
+pub fn start(table: &[u64]) -> Result<Outset, Refusal>
     ensures { StartCall table.now result }
 {
     if !table::recognise(table) {
-        return Outset {
-            checked: Checked::Refused(Refusal {
-                number: 20,
-                place: Place::Whole,
-            }),
-            started: 0,
-            state: answer::no_state(),
-        };
+        return Err(Refusal {
+            number: 20,
+            place: Place::Whole,
+        });
     }
-    Outset {
-        checked: Checked::Fine,
+    Ok(Outset {
         started: layout::joined(table, layout::STARTED),
         state: start_state(table),
-    }
+    })
 }

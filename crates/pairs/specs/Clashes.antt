@@ -1,6 +1,6 @@
 -- 15 to 17 by sets: two components clash where the left of one meets the right of the other (01, "Conditions on a component", compatibility).
-use Rattle.std.specs.Prelude.{◌≡◌, Bool, List, [], ◌∷◌, ℕ, suc, ◌+◌}
-use Rattle.std.proofs.Math.Option.{Option, none, some}
+use Rattle.std.specs.Prelude.{List, ℕ, ◌+◌}
+use Rattle.std.proofs.Math.Option.{Option}
 use Rattle.laws.specs.Sets.{has, ◌∪◌, ◌∩◌}
 use Rattle.laws.specs.Search.{seek, when, map_some}
 use Rattle.laws.specs.Fold.{over}

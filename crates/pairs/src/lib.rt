@@ -10,10 +10,9 @@ ghost use Rattle.rows.specs.Ranges.{found_of};
 ghost use Rattle.layout.specs.Layout.{count_of, block_word};
 ghost use Rattle.layout.specs.Image.{Image, comp_of, model_of};
 ghost use Rattle.parts.specs.Faults.{Says};
-ghost use Rattle.pairs.specs.Clashes.{left_of, right_of, clash_set, partner_of, number_of, shared_fault};
+ghost use Rattle.pairs.specs.Clashes.{left_of, right_of, clash_of, clash_set, partner_of, number_of, shared_fault};
 
-use answer::{Checked, Place, Refusal};
-use rows::Found;
+use answer::{Place, Refusal};
 
 // What no two components may share: outputs, clocks, or an action that is urgent in one of them alone.
 #[derive(Clone, Copy)]
@@ -73,27 +72,30 @@ fn clash_set(t: &[u64], kind: Shared) -> u64
     all
 }
 
+// Whether components i and j clash by x.
+fn clashes(t: &[u64], kind: Shared, x: u64, i: usize, j: usize) -> bool
+    requires { Image t.now × (i < count_of t.now) × (j < count_of t.now) × (x < word_bits) }
+    ensures { result ≡ has (clash_of kind (comp_of t.now i) (comp_of t.now j)) x }
+{
+    let a = sides_of(t, i, kind);
+    let b = sides_of(t, j, kind);
+    sets::has((a.left & b.right) | (a.right & b.left), x)
+}
+
 // The first component after i that clashes with it by x.
-fn partner(t: &[u64], kind: Shared, x: u64, i: usize) -> Found
+fn partner(t: &[u64], kind: Shared, x: u64, i: usize) -> Option<usize>
     requires { Image t.now × (i < count_of t.now) × (x < word_bits) }
     ensures { result ≡ found_of (partner_of kind t.now x i) }
 {
     let n = layout::count_of(t) as usize;
-    let a = sides_of(t, i, kind);
-    for j in i + 1..n {
-        let b = sides_of(t, j, kind);
-        if sets::has((a.left & b.right) | (a.right & b.left), x) {
-            return Found::At(j);
-        }
-    }
-    Found::Nothing
+    (i + 1..n).find(|j| clashes(t, kind, x, i, *j))
 }
 
-fn refusal(kind: Shared, x: u64, i: usize, j: usize) -> Checked
+fn refusal(kind: Shared, x: u64, i: usize, j: usize) -> Result<(), Refusal>
     ensures { Says result (some (tell (number_of kind) (x ∷ i ∷ j ∷ []))) }
 {
     match kind {
-        Shared::Outputs => Checked::Refused(Refusal {
+        Shared::Outputs => Err(Refusal {
             number: 15,
             place: Place::SharedAction {
                 action: x,
@@ -101,7 +103,7 @@ fn refusal(kind: Shared, x: u64, i: usize, j: usize) -> Checked
                 second: j,
             },
         }),
-        Shared::Clocks => Checked::Refused(Refusal {
+        Shared::Clocks => Err(Refusal {
             number: 16,
             place: Place::SharedClock {
                 clock: x,
@@ -109,7 +111,7 @@ fn refusal(kind: Shared, x: u64, i: usize, j: usize) -> Checked
                 second: j,
             },
         }),
-        Shared::Urgency => Checked::Refused(Refusal {
+        Shared::Urgency => Err(Refusal {
             number: 17,
             place: Place::SharedAction {
                 action: x,
@@ -121,21 +123,20 @@ fn refusal(kind: Shared, x: u64, i: usize, j: usize) -> Checked
 }
 
 // 15, 16 or 17.
-pub fn check_shared(t: &[u64], kind: Shared) -> Checked
+pub fn check_shared(t: &[u64], kind: Shared) -> Result<(), Refusal>
     requires { Image t.now }
     ensures { Says result (shared_fault kind (model_of t.now)) }
 {
     let all = clash_set(t, kind);
     if all == 0 {
-        return Checked::Fine;
+        return Ok(());
     }
     let x = sets::lowest(all);
     let n = layout::count_of(t) as usize;
     for i in 0..n {
-        let f = partner(t, kind, x, i);
-        if let Found::At(j) = f {
+        if let Some(j) = partner(t, kind, x, i) {
             return refusal(kind, x, i, j);
         }
     }
-    Checked::Fine
+    Ok(())
 }

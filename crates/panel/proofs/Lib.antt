@@ -1,4 +1,5 @@
 pub mod Kept
+pub mod Called
 pub mod Lengths
 pub mod Determined
 pub mod AsStep

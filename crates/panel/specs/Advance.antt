@@ -1,14 +1,15 @@
 -- What the call `advance` answers, and what the lent state is then ("a composed state lent to one urgent step and advanced there").
-use Rattle.std.specs.Prelude.{◌≡◌, Bool, true, false, List, ℕ}
+use Rattle.std.specs.Prelude.{◌≡◌, Bool, true, false, List, ℕ, Result, Ok, Err}
 use Rattle.std.proofs.Math.Option.{some}
-use Rattle.answer.specs.Told.{Answer, answered, refused, Step, moved, stable, says_outcome}
+use Rattle.answer.specs.Told.{Answer, answered, refused, Step, moved, stable, step_said, says}
 use Rattle.answer.specs.State.{with_parts}
 use Rattle.answer.specs.declared.Outcome.{Outcome}
-use Rattle.answer.specs.declared.Outcome.TheVariants.{Moved, Stable, Refused}
+use Rattle.answer.specs.declared.Outcome.TheVariants.{Moved, Stable}
+use Rattle.answer.specs.declared.Refusal.{Refusal}
 use Rattle.answer.specs.declared.State.{State}
+use Rattle.answer.specs.declared.Stepped.{Stepped}
 use Rattle.iosa.specs.Stepped.{Stepping}
 use Rattle.run.specs.Calls.{step_on}
-use Rattle.panel.specs.declared.Taken.{Taken}
 
 -- "Each step's outcome is one of moved, stable or refused"
 abbrev pub outcome_of : Answer Stepping → Answer Step
@@ -26,22 +27,21 @@ state_after x (answered v) = moved_to x v.step v.state
 state_after x (refused f) = x
 
 -- t is the table; x is the lent state before the call, and y after it
-pub record AdvanceCall (t : List ℕ) (x y : State) (r : Outcome) : Type 0 where
-  pub outcome : says_outcome r ≡ some (outcome_of (step_on t x))
+pub record AdvanceCall (t : List ℕ) (x y : State) (r : Result Outcome Refusal) : Type 0 where
+  pub outcome : says step_said r ≡ some (outcome_of (step_on t x))
   pub state : y ≡ state_after x (step_on t x)
+
+-- the same of a state by value: the state after stands beside the outcome, and a refusal has none
+pub record AdvancedCall (t : List ℕ) (x : State) (r : Result Stepped Refusal) : Type 0 where
+  pub outcome : says (λ p. step_said p.outcome) r ≡ some (outcome_of (step_on t x))
+  pub state : (p : Stepped) → r ≡ Ok p → p.state ≡ state_after x (step_on t x)
 
 -- whether an outcome is a move: only then is there a state to store
 abbrev pub is_move : Outcome → Bool
 is_move (Moved a r) = true
 is_move Stable = false
-is_move (Refused f) = false
 
--- the lent state once the new one was stored, or not
-abbrev pub stored_over : State → State → Bool → State
-stored_over x y true = y
-stored_over x y false = x
-
--- the step by value: it is marked to be stored exactly where it moved, and the lent state is then what `AdvanceCall` says
-pub record TakenCall (t : List ℕ) (x : State) (r : Taken) : Type 0 where
-  pub moved : r.moved ≡ is_move r.outcome
-  pub call : AdvanceCall t x (stored_over x r.state r.moved) r.outcome
+-- what a step did, without the state after it
+abbrev pub outcome_in : Result Stepped Refusal → Result Outcome Refusal
+outcome_in (Ok p) = Ok p.outcome
+outcome_in (Err q) = Err q

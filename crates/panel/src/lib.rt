@@ -1,55 +1,37 @@
 // A composed state behind `&mut`, advanced by one urgent step.
 #![tactic(auto)]
 
-ghost use Rattle.panel.specs.Advance.{AdvanceCall, TakenCall};
+ghost use Rattle.std.specs.Prelude.{◌≡◌};
+ghost use Rattle.panel.specs.Advance.{AdvanceCall, AdvancedCall, is_move};
 
-use answer::{Outcome, State, Stepped};
+use answer::{Outcome, Refusal, State, Stepped};
 
-// A step by value, of a state that is lent: whether it moved, beside what it answers.
-#[derive(Drop)]
-struct Taken {
-    moved: bool,
-    outcome: Outcome,
-    state: State,
-}
-
-// The step by value. Where it moved, its state is to be stored; else nothing is.
-fn take_step(table: &[u64], given: State) -> Taken
-    ensures { TakenCall table.now given result }
+// Whether a step moved: only then is there a state to store.
+fn is_move(outcome: Outcome) -> bool
+    ensures { result ≡ is_move outcome }
 {
-    let stepped = run::step(table, given);
-    let outcome = stepped.outcome;
-    let state = stepped.state;
-    let moved = match outcome {
+    match outcome {
         Outcome::Moved { .. } => true,
         Outcome::Stable => false,
-        Outcome::Refused(_) => false,
-    };
-    Taken {
-        moved,
-        outcome,
-        state,
     }
 }
 
 // One urgent step by our rule, of a state that is lent: on stable and on refusal nothing is stored.
-pub fn advance(table: &[u64], state: &mut State) -> Outcome
+pub fn advance(table: &[u64], state: &mut State) -> Result<Outcome, Refusal>
     ensures { AdvanceCall table.now state.old state.new result }
 {
-    let given = *state;
-    let taken = take_step(table, given);
-    if taken.moved {
-        let next = taken.state;
-        *state = next;
+    let stepped = run::step(table, *state)?;
+    if is_move(stepped.outcome) {
+        *state = stepped.state;
     }
-    taken.outcome
+    Ok(stepped.outcome)
 }
 
 // The same of a state that the caller holds by value: it is lent to `advance` here.
-pub fn advanced(table: &[u64], given: State) -> Stepped
-    ensures { AdvanceCall table.now given result.state result.outcome }
+pub fn advanced(table: &[u64], given: State) -> Result<Stepped, Refusal>
+    ensures { AdvancedCall table.now given result }
 {
     let mut state = given;
-    let outcome = advance(table, &mut state);
-    Stepped { outcome, state }
+    let outcome = advance(table, &mut state)?;
+    Ok(Stepped { outcome, state })
 }

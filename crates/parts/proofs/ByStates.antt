@@ -15,8 +15,7 @@ use Rattle.layout.specs.Layout.{count_of, block_word, first_of}
 use Rattle.layout.specs.Image.{Image, comp_of}
 use Rattle.layout.proofs.RowsOfRange.{range-from}
 use Rattle.layout.proofs.WalkByStates.{seek-rows}
-use Rattle.parts.specs.declared.Asked.TheVariants.{Clocks, Inputs, Single}
-use Rattle.parts.specs.Faults.{fault10, fault11, fault12, fault13, fault14, state_fault}
+use Rattle.parts.specs.Faults.{fault10, fault11, fault12, fault13, fault14, lack_fault, repeat_fault, twice_fault}
 
 -- places of a state and an action, told as number n of component i
 by-cells : (f : ℕ → ℕ → Bool) (n i states : ℕ)
@@ -31,20 +30,20 @@ by-cells f n i states =
     ∙ sym (map-seek (λ p. tell n (i ∷ p)) (λ s. seek (λ a. when (f s a) (cell_of s a)) 0 max_actions) 0 states)
 
 module _ (t : List ℕ) (im : Image t) (i : ℕ) (h : i < count_of t) where
-  pub inputs-by-states : seek (state_fault Inputs t i) 0 (block_word t i 0) ≡ fault12 i (comp_of t i)
-  unfolding state_fault fault12 check12 comp_of
+  pub inputs-by-states : seek (lack_fault t i) 0 (block_word t i 0) ≡ fault12 i (comp_of t i)
+  unfolding lack_fault fault12 check12 comp_of
   inputs-by-states = by-cells (lacks_row (comp_of t i)) 12 i (block_word t i 0)
 
-  pub single-by-states : seek (state_fault Single t i) 0 (block_word t i 0) ≡ fault13 i (comp_of t i)
-  unfolding state_fault fault13 check13 comp_of
+  pub single-by-states : seek (twice_fault t i) 0 (block_word t i 0) ≡ fault13 i (comp_of t i)
+  unfolding twice_fault fault13 check13 comp_of
   single-by-states = by-cells (twice (comp_of t i)) 13 i (block_word t i 0)
 
-  pub clocks-by-states : seek (state_fault Clocks t i) 0 (block_word t i 0) ≡ fault11 (first_of t i 0) (comp_of t i)
-  unfolding state_fault fault11 check11
+  pub clocks-by-states : seek (repeat_fault t i) 0 (block_word t i 0) ≡ fault11 (first_of t i 0) (comp_of t i)
+  unfolding repeat_fault fault11 check11
   clocks-by-states =
       let n = first_of t i 0 in
       let c = comp_of t i in
-      seek-ext (state_fault Clocks t i) (λ s. seek (λ r. when (repeats c (r - n)) (tell 11 ((n + (r - n)) ∷ []))) (first_of t i s)
+      seek-ext (repeat_fault t i) (λ s. seek (λ r. when (repeats c (r - n)) (tell 11 ((n + (r - n)) ∷ []))) (first_of t i s)
       (first_of t i (suc s))) 0 (block_word t i 0)
       (λ s p q. seek-ext (λ r. when (repeats c (r - n)) (tell 11 (r ∷ []))) (λ r. when (repeats c (r - n)) (tell 11 ((n + (r - n)) ∷ [])))
       (first_of t i s) (first_of t i (suc s))
@@ -61,7 +60,7 @@ in-turn i n c = refl
 
 -- as the code asks them
 pub turn-by-states : (t : List ℕ) (im : Image t) (i : ℕ) (h : i < count_of t)
-    → or_else (fault10 (first_of t i 0) (comp_of t i)) (or_else (seek (state_fault Clocks t i) 0 (block_word t i 0))
-    (or_else (seek (state_fault Inputs t i) 0 (block_word t i 0)) (or_else (seek (state_fault Single t i) 0 (block_word t i 0)) (fault14 i (comp_of t i)))))
+    → or_else (fault10 (first_of t i 0) (comp_of t i)) (or_else (seek (repeat_fault t i) 0 (block_word t i 0))
+    (or_else (seek (lack_fault t i) 0 (block_word t i 0)) (or_else (seek (twice_fault t i) 0 (block_word t i 0)) (fault14 i (comp_of t i)))))
     ≡ fault_at i (first_of t i 0) (comp_of t i)
 turn-by-states t im i h = rw (clocks-by-states t im i h, inputs-by-states t im i h, single-by-states t im i h) (in-turn i (first_of t i 0) (comp_of t i))

@@ -23,8 +23,7 @@ use Rattle.layout.specs.Image.{Image, comp_of}
 use Rattle.layout.proofs.RowsOfRange.{row-there, row_from, row-to, range-from, range-to, range-row}
 use Rattle.layout.proofs.ImageIsSane.{row-ranges}
 use Rattle.layout.proofs.LowestAction.{actions-ascend}
-use Rattle.parts.specs.declared.Asked.TheVariants.{Single}
-use Rattle.parts.specs.Faults.{state_fault, again_at}
+use Rattle.parts.specs.Faults.{twice_fault, again_at}
 
 -- two rows of c leave s by action a
 pub record Two (c : Comp) (s a : ℕ) : Type 0 where
@@ -112,8 +111,8 @@ module _ (t : List ℕ) (im : Image t) (i : ℕ) (h : i < count_of t) (s : ℕ) 
   abbrev first_again : Option ℕ
   first_again = seek (λ r. when (again_at t (unclocked c) r) r) (first_of t i s + 1) (first_of t i (suc s))
 
-  pub none-again : first_again ≡ none → state_fault Single t i s ≡ none
-  unfolding state_fault
+  pub none-again : first_again ≡ none → twice_fault t i s ≡ none
+  unfolding twice_fault
   none-again e =
       none-seek (λ a. when (twice c s a) (tell 13 (i ∷ s ∷ a ∷ []))) 0 max_actions
       (λ a p q. ap (λ v. when v (tell 13 (i ∷ s ∷ a ∷ []))) (not_so (twice c s a) (λ w.
@@ -121,8 +120,8 @@ module _ (t : List ℕ) (im : Image t) (i : ℕ) (h : i < count_of t) (s : ℕ) 
       true≢false (sym r.2.2 ∙ when-none (again_at t (unclocked c) r.0) r.0
       (seek-none (λ r. when (again_at t (unclocked c) r) r) (first_of t i s + 1) (first_of t i (suc s)) e r.0 r.2.0 r.2.1)))))
 
-  pub some-again : (r : ℕ) → first_again ≡ some r → state_fault Single t i s ≡ some (tell 13 (i ∷ s ∷ action_at t r ∷ []))
-  unfolding state_fault
+  pub some-again : (r : ℕ) → first_again ≡ some r → twice_fault t i s ≡ some (tell 13 (i ∷ s ∷ action_at t r ∷ []))
+  unfolding twice_fault
   some-again r e =
       let f = seek-some (λ r. when (again_at t (unclocked c) r) r) (first_of t i s + 1) (first_of t i (suc s)) r e in
       let w = when-some (again_at t (unclocked c) f.place) f.place f.here in

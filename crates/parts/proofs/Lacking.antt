@@ -25,8 +25,7 @@ use Rattle.layout.specs.Layout.{count_of, block_word, first_of, action_at}
 use Rattle.layout.specs.Image.{Image, comp_of, row_in}
 use Rattle.layout.proofs.Bridge.{row-for}
 use Rattle.layout.proofs.RowsOfRange.{well-comp}
-use Rattle.parts.specs.declared.Asked.TheVariants.{Inputs}
-use Rattle.parts.specs.Faults.{state_fault, actions_in}
+use Rattle.parts.specs.Faults.{lack_fault, actions_in}
 
 has-only : (x a : ℕ) → has (only x) a ≡ eqb x a
 has-only x a =
@@ -52,14 +51,14 @@ module _ (t : List ℕ) (im : Image t) (i : ℕ) (h : i < count_of t) (s : ℕ) 
   unfolding lacks_row
   lacks-is a = ap (λ v. has (inputs (comp_of t i)) a && not v) (sym (has-actions a)) ∙ sym (has-without (inputs (comp_of t i)) (actions_in t i s) a)
 
-  pub none-lacking : lacking ≡ 0 → state_fault Inputs t i s ≡ none
-  unfolding state_fault
+  pub none-lacking : lacking ≡ 0 → lack_fault t i s ≡ none
+  unfolding lack_fault
   none-lacking z =
       none-seek (λ a. when (lacks_row (comp_of t i) s a) (tell 12 (i ∷ s ∷ a ∷ []))) 0 max_actions
       (λ a p q. ap (λ v. when v (tell 12 (i ∷ s ∷ a ∷ []))) (lacks-is a ∙ ap (λ n. has n a) z ∙ not_so (has 0 a) (none_in a)))
 
-  pub lowest-lacking : (lacking ≡ 0 → ⊥) → state_fault Inputs t i s ≡ some (tell 12 (i ∷ s ∷ lowest_of lacking ∷ []))
-  unfolding state_fault
+  pub lowest-lacking : (lacking ≡ 0 → ⊥) → lack_fault t i s ≡ some (tell 12 (i ∷ s ∷ lowest_of lacking ∷ []))
+  unfolding lack_fault
   lowest-lacking ne =
       seek-ext (λ a. when (lacks_row (comp_of t i) s a) (tell 12 (i ∷ s ∷ a ∷ []))) (λ a. when (has lacking a) (tell 12 (i ∷ s ∷ a ∷ []))) 0 max_actions
       (λ a p q. ap (λ v. when v (tell 12 (i ∷ s ∷ a ∷ []))) (lacks-is a))

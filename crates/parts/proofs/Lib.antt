@@ -1,3 +1,4 @@
+pub mod EachState
 pub mod Saying
 pub mod Guarding
 pub mod Repeating

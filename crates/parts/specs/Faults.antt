@@ -1,19 +1,17 @@
 -- 10 to 14 of one component, part by part, and what an answer says of a fault (01, "Refusal numbers").
-use Rattle.std.specs.Prelude.{◌≡◌, Bool, true, false, ◌&&◌, ◌||◌, not, List, [], ◌∷◌, ℕ, suc, ◌+◌, ◌-◌, ◌<◌, eqb}
-use Rattle.std.proofs.Math.Option.{Option, none, some}
+use Rattle.std.specs.Prelude.{◌≡◌, Bool, ◌&&◌, ◌||◌, not, List, [], ◌∷◌, ℕ, suc, ◌+◌, ◌-◌, ◌<◌, eqb}
+use Rattle.std.proofs.Math.Option.{Option, some}
 use Rattle.laws.specs.Sets.{has, ◌∪◌, only}
 use Rattle.laws.specs.Search.{seek, when, map_some}
 use Rattle.laws.specs.Fold.{over}
 use Rattle.answer.specs.Limits.{max_actions}
 use Rattle.answer.specs.Told.{Told, tell, says_checked}
-use Rattle.answer.specs.declared.Checked.{Checked}
+use Rattle.answer.specs.Told.{Checked}
 use Rattle.model.specs.Model.{Comp}
 use Rattle.iosa.specs.Checks.{check10, check11, check12, check13, check14, repeats, lacks_row, twice}
 use Rattle.iosa.specs.Step.{unless}
 use Rattle.layout.specs.Layout.{first_of, action_at}
 use Rattle.layout.specs.Image.{comp_of}
-use Rattle.parts.specs.declared.Asked.{Asked}
-use Rattle.parts.specs.declared.Asked.TheVariants.{Clocks, Inputs, Single}
 
 -- the answer is this fault, or fine where there is none
 abbrev pub Says : Checked → Option Told → Type 0
@@ -40,10 +38,14 @@ unfoldable pub bad_guard_by : ℕ → ℕ → ℕ → ℕ → Bool
 bad_guard_by calm outs a g = (has calm a && not (eqb g 0)) || (has outs a && eqb g 0)
 
 -- ---- 11, 12 and 13 in state s of component i of a table
-unfoldable pub state_fault : Asked → List ℕ → ℕ → ℕ → Option Told
-state_fault Clocks t i s = seek (λ r. when (repeats (comp_of t i) (r - first_of t i 0)) (tell 11 (r ∷ []))) (first_of t i s) (first_of t i (suc s))
-state_fault Inputs t i s = seek (λ a. when (lacks_row (comp_of t i) s a) (tell 12 (i ∷ s ∷ a ∷ []))) 0 max_actions
-state_fault Single t i s = seek (λ a. when (twice (comp_of t i) s a) (tell 13 (i ∷ s ∷ a ∷ []))) 0 max_actions
+unfoldable pub repeat_fault : List ℕ → ℕ → ℕ → Option Told
+repeat_fault t i s = seek (λ r. when (repeats (comp_of t i) (r - first_of t i 0)) (tell 11 (r ∷ []))) (first_of t i s) (first_of t i (suc s))
+
+unfoldable pub lack_fault : List ℕ → ℕ → ℕ → Option Told
+lack_fault t i s = seek (λ a. when (lacks_row (comp_of t i) s a) (tell 12 (i ∷ s ∷ a ∷ []))) 0 max_actions
+
+unfoldable pub twice_fault : List ℕ → ℕ → ℕ → Option Told
+twice_fault t i s = seek (λ a. when (twice (comp_of t i) s a) (tell 13 (i ∷ s ∷ a ∷ []))) 0 max_actions
 
 -- the actions that leave s, as a set
 unfoldable pub actions_in : List ℕ → ℕ → ℕ → ℕ

@@ -2,22 +2,13 @@
 #![tactic(auto)]
 
 ghost use Rattle.std.specs.Prelude.{◌≡◌, Bool, true, false, ℕ, ◌+◌, ◌≤◌, ◌<◌, length};
-ghost use Rattle.laws.specs.Search.{seek};
 ghost use Rattle.answer.specs.Limits.{max_actions, max_rows};
 ghost use Rattle.iosa.specs.Checks.{unclocked, fault_at};
 ghost use Rattle.layout.specs.Layout.{image_words, count_of, block_word, first_of};
 ghost use Rattle.layout.specs.Image.{Image, comp_of};
-ghost use Rattle.parts.specs.Faults.{Says, bad_guard_by, fault10, fault14, actions_in, again_at, state_fault, LowAction};
+ghost use Rattle.parts.specs.Faults.{Says, bad_guard_by, fault10, fault14, actions_in, again_at, repeat_fault, lack_fault, twice_fault, LowAction};
 
-use answer::{Checked, Model, Place, Refusal};
-
-// The conditions that are asked of one state after the other.
-#[derive(Clone, Copy)]
-pub enum Asked {
-    Clocks,
-    Inputs,
-    Single,
-}
+use answer::{Model, Place, Refusal};
 
 // The actions whose rows have no clock.
 fn unclocked(t: &[u64], i: usize) -> u64
@@ -43,7 +34,7 @@ fn bad_guard(calm: u64, outs: u64, a: u64, g: u64) -> bool
 }
 
 // 10.
-pub fn check_guards(t: &[u64], i: usize) -> Checked
+pub fn check_guards(t: &[u64], i: usize) -> Result<(), Refusal>
     requires { Image t.now × (i < count_of t.now) }
     ensures { Says result (fault10 (first_of t.now i 0) (comp_of t.now i)) }
 {
@@ -54,19 +45,19 @@ pub fn check_guards(t: &[u64], i: usize) -> Checked
     let hi = layout::first_of(t, i, states);
     for k in lo..hi {
         if bad_guard(calm, outs, layout::action_at(t, k), layout::guard_at(t, k)) {
-            return Checked::Refused(Refusal {
+            return Err(Refusal {
                 number: 10,
                 place: Place::Row(k),
             });
         }
     }
-    Checked::Fine
+    Ok(())
 }
 
 // 11 in state s: the clocks seen so far, as one set.
-fn repeat_at(t: &[u64], i: usize, s: usize) -> Checked
+fn repeat_at(t: &[u64], i: usize, s: usize) -> Result<(), Refusal>
     requires { Image t.now × (i < count_of t.now) × (s < block_word t.now i 0) }
-    ensures { Says result (state_fault Asked.Clocks t.now i s) }
+    ensures { Says result (repeat_fault t.now i s) }
 {
     let lo = layout::first_of(t, i, s);
     let hi = layout::first_of(t, i, s + 1);
@@ -74,14 +65,14 @@ fn repeat_at(t: &[u64], i: usize, s: usize) -> Checked
     for r in lo..hi {
         let g = active::guard_set(layout::guard_at(t, r));
         if (seen & g) != 0 {
-            return Checked::Refused(Refusal {
+            return Err(Refusal {
                 number: 11,
                 place: Place::Row(r),
             });
         }
         seen = sets::union(seen, g);
     }
-    Checked::Fine
+    Ok(())
 }
 
 // The actions that leave s, as one set.
@@ -99,17 +90,17 @@ fn actions_at(t: &[u64], i: usize, s: usize) -> u64
 }
 
 // 12 in state s: the lowest input that does not leave it.
-fn lack_at(t: &[u64], i: usize, s: usize) -> Checked
+fn lack_at(t: &[u64], i: usize, s: usize) -> Result<(), Refusal>
     requires { Image t.now × (i < count_of t.now) × (s < block_word t.now i 0) }
-    ensures { Says result (state_fault Asked.Inputs t.now i s) }
+    ensures { Says result (lack_fault t.now i s) }
 {
     let ins = layout::block_word(t, i, layout::INS);
     let uins = layout::block_word(t, i, layout::UINS);
     let lacking = sets::minus(sets::union(ins, uins), actions_at(t, i, s));
     if lacking == 0 {
-        return Checked::Fine;
+        return Ok(());
     }
-    Checked::Refused(Refusal {
+    Err(Refusal {
         number: 12,
         place: Place::Cell {
             component: i,
@@ -125,24 +116,20 @@ fn again_at(t: &[u64], calm: u64, k: usize) -> bool
     ensures { result ≡ again_at t.now calm k }
 {
     let a = layout::action_at(t, k);
-    if a == layout::action_at(t, k - 1) {
-        sets::has(calm, a)
-    } else {
-        false
-    }
+    a == layout::action_at(t, k - 1) && sets::has(calm, a)
 }
 
 // 13 in state s: its rows ascend by action, so rows with the same action are neighbours.
-fn double_at(t: &[u64], i: usize, s: usize) -> Checked
+fn double_at(t: &[u64], i: usize, s: usize) -> Result<(), Refusal>
     requires { Image t.now × (i < count_of t.now) × (s < block_word t.now i 0) }
-    ensures { Says result (state_fault Asked.Single t.now i s) }
+    ensures { Says result (twice_fault t.now i s) }
 {
     let calm = unclocked(t, i);
     let second = layout::first_of(t, i, s) + 1;
     let hi = layout::first_of(t, i, s + 1);
     for k in second..hi {
         if again_at(t, calm, k) {
-            return Checked::Refused(Refusal {
+            return Err(Refusal {
                 number: 13,
                 place: Place::Cell {
                     component: i,
@@ -152,37 +139,11 @@ fn double_at(t: &[u64], i: usize, s: usize) -> Checked
             });
         }
     }
-    Checked::Fine
-}
-
-fn check_state(t: &[u64], i: usize, s: usize, asked: Asked) -> Checked
-    requires { Image t.now × (i < count_of t.now) × (s < block_word t.now i 0) }
-    ensures { Says result (state_fault asked t.now i s) }
-{
-    match asked {
-        Asked::Clocks => repeat_at(t, i, s),
-        Asked::Inputs => lack_at(t, i, s),
-        Asked::Single => double_at(t, i, s),
-    }
-}
-
-// 11, 12 or 13: the lowest state that has the fault.
-pub fn check_states(t: &[u64], i: usize, asked: Asked) -> Checked
-    requires { Image t.now × (i < count_of t.now) }
-    ensures { Says result (seek (state_fault asked t.now i) 0 (block_word t.now i 0)) }
-{
-    let states = layout::block_word(t, i, layout::STATES) as usize;
-    for s in 0..states {
-        let r = check_state(t, i, s, asked);
-        let Checked::Fine = r else {
-            return r;
-        };
-    }
-    Checked::Fine
+    Ok(())
 }
 
 // 14: what guards a state's rows must be active there.
-pub fn check_active(t: &[u64], i: usize) -> Checked
+pub fn check_active(t: &[u64], i: usize) -> Result<(), Refusal>
     requires { Image t.now × (i < count_of t.now) }
     ensures { Says result (fault14 i (comp_of t.now i)) }
 {
@@ -191,35 +152,24 @@ pub fn check_active(t: &[u64], i: usize) -> Checked
     active::solve(t, i, &mut greatest);
     for s in 0..states {
         if !sets::lies_in(active::enabling(t, i, s), greatest[s]) {
-            return Checked::Refused(Refusal {
+            return Err(Refusal {
                 number: 14,
                 place: Place::Component(i),
             });
         }
     }
-    Checked::Fine
+    Ok(())
 }
 
-// One component's 10 to 14.
-pub fn check_component(t: &[u64], i: usize) -> Checked
+// One component's 10 to 14: of 11, 12 and 13 each the lowest state that has the fault.
+pub fn check_component(t: &[u64], i: usize) -> Result<(), Refusal>
     requires { Image t.now × (i < count_of t.now) }
     ensures { Says result (fault_at i (first_of t.now i 0) (comp_of t.now i)) }
 {
-    let guards = check_guards(t, i);
-    let Checked::Fine = guards else {
-        return guards;
-    };
-    let clocks = check_states(t, i, Asked::Clocks);
-    let Checked::Fine = clocks else {
-        return clocks;
-    };
-    let inputs = check_states(t, i, Asked::Inputs);
-    let Checked::Fine = inputs else {
-        return inputs;
-    };
-    let single = check_states(t, i, Asked::Single);
-    let Checked::Fine = single else {
-        return single;
-    };
+    check_guards(t, i)?;
+    let states = layout::block_word(t, i, layout::STATES) as usize;
+    (0..states).try_for_each(|s| repeat_at(t, i, s))?;
+    (0..states).try_for_each(|s| lack_at(t, i, s))?;
+    (0..states).try_for_each(|s| double_at(t, i, s))?;
     check_active(t, i)
 }

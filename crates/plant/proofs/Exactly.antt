@@ -8,7 +8,7 @@ use lib.ListN.{length}
 use lib.Dec.{ltb}
 use Rattle.laws.specs.Search.{when}
 use Rattle.answer.specs.Told.{Answer, answered, refused}
-use Rattle.answer.specs.declared.Checked.{Checked}
+use Rattle.answer.specs.Told.{Checked}
 use Rattle.model.specs.Model.{Model}
 use Rattle.iosa.specs.InOrder.{◌▹◌, refuses, passes, Gives, room}
 use Rattle.iosa.proofs.Settling.Called.{no_answer, same_answer}

@@ -12,8 +12,8 @@ use Rattle.laws.specs.Search.{when}
 use Rattle.answer.specs.Told.{told, Answer, answered, refused, says_checked, done_of}
 use Rattle.answer.specs.declared.Place.TheVariants.{Bytes, Whole}
 use Rattle.answer.specs.declared.Refusal.{Refusal}
-use Rattle.answer.specs.declared.Checked.{Checked}
-use Rattle.answer.specs.declared.Checked.TheVariants.{Fine, Refused}
+use Rattle.answer.specs.Told.{Checked}
+use Rattle.std.specs.Prelude.{Ok, Err}
 use Rattle.answer.proofs.SaysFixes.{checked-fixed}
 use Rattle.model.specs.Model.{Model}
 use Rattle.layout.specs.Layout.{image_words}
@@ -32,15 +32,15 @@ use Rattle.treetests.specs.Gathering.{proper_of, limited}
 use Rattle.treetests.proofs.PassLaws.{read-limited, well-refused, well-fine}
 use Rattle.plant.specs.ReadTreeCall.{read_tree_on, ReadTreeCall}
 
-says-fine : says_checked Fine ≡ some (answered tt)
+says-fine : says_checked (Ok tt) ≡ some (answered tt)
 unfolding says_checked
 says-fine = refl
 
-says-too-short : (n : ℕ) → n ≡ image_words * word_bytes → says_checked (Refused (record { number = 24; place = Bytes n })) ≡ some (refused table_too_short)
+says-too-short : (n : ℕ) → n ≡ image_words * word_bytes → says_checked (Err (record { number = 24; place = Bytes n })) ≡ some (refused table_too_short)
 unfolding says_checked told
 says-too-short n e = rw e
 
-says-too-large : says_checked (Refused (record { number = 48; place = Whole })) ≡ some (refused limit_told)
+says-too-large : says_checked (Err (record { number = 48; place = Whole })) ≡ some (refused limit_told)
 unfolding says_checked told
 says-too-large = refl
 
@@ -57,17 +57,17 @@ module _ (t old : List ℕ) where
   called new r a e p q = record { answer = p ∙ ap (λ b. some (done_of b)) (sym e); table = q ∙ ap (λ b. table_after b old) (sym e) }
 
   -- 2, 4, 6, 5 or 47
-  pub no-tree : (f : Refusal) → says_checked (Refused f) ≡ some (done_of (proper_of t)) → ReadTreeCall t old old (Refused f)
+  pub no-tree : (f : Refusal) → says_checked (Err f) ≡ some (done_of (proper_of t)) → ReadTreeCall t old old (Err f)
   unfolding read_tree_on
   no-tree f e = go (read_tree_of t) refl (well-refused t f e)
     where
-      go : (a : Answer Model) → read_tree_of t ≡ a → says_checked (Refused f) ≡ some (done_of a) → ReadTreeCall t old old (Refused f)
-      go (refused g) h e = called old (Refused f) (refused g) (ap (room_for (length old)) h) e refl
+      go : (a : Answer Model) → read_tree_of t ≡ a → says_checked (Err f) ≡ some (done_of a) → ReadTreeCall t old old (Err f)
+      go (refused g) h e = called old (Err f) (refused g) (ap (room_for (length old)) h) e refl
       go (answered m) h e =
-          let same : Refused f ≡ Fine = checked-fixed (Refused f) Fine (answered tt) e says-fine in
+          let same : Err f ≡ (Ok tt) = checked-fixed (Err f) (Ok tt) (answered tt) e says-fine in
           let z : ◌≡◌ {A = ℕ} 0 1 = cc in absurd (omega arith)
 
-  module _ (good : says_checked Fine ≡ some (done_of (proper_of t))) where
+  module _ (good : says_checked (Ok tt) ≡ some (done_of (proper_of t))) where
     pub good-lines : LinesOf t (tree_in t)
     good-lines =
         let d = ((tree-read-exactly t (tree_in t)).0 (well-fine t good).0).0 in
@@ -78,7 +78,7 @@ module _ (t old : List ℕ) where
 
     -- the table as the counting walk leaves it
     module _ (mid : List ℕ) (same : mid ≡ old) where
-      pub too_large : fitting (tree_in t) ≡ false → ReadTreeCall t old mid (Refused (record { number = 48; place = Whole }))
+      pub too_large : fitting (tree_in t) ≡ false → ReadTreeCall t old mid (Err (record { number = 48; place = Whole }))
       unfolding read_tree_on
       too_large h =
           let a = limits ∙ ap (λ b. unless (when (not b) limit_told) (answered (tree_model (tree_in t)))) h in
@@ -92,7 +92,7 @@ module _ (t old : List ℕ) where
         long = ap (λ (l : List ℕ). length l) same
 
         pub no_room : (n : ℕ) → n ≡ image_words * word_bytes → length mid < image_words
-            → ReadTreeCall t old mid (Refused (record { number = 24; place = Bytes n }))
+            → ReadTreeCall t old mid (Err (record { number = 24; place = Bytes n }))
         unfolding read_tree_on
         no_room n p q =
             let k = long in
@@ -106,10 +106,10 @@ module _ (t old : List ℕ) where
             let end : 0 + length n ≡ image_words = omega (arith, e) in
             sets-eq n old 0 (omega (arith, e, q)) ∙ ap (λ k. n ++ drop k old) end
 
-        pub planted : (new : List ℕ) → image_words ≤ length mid → new ≡ sets mid 0 (image_of (tree_model (tree_in t))) → ReadTreeCall t old new Fine
+        pub planted : (new : List ℕ) → image_words ≤ length mid → new ≡ sets mid 0 (image_of (tree_model (tree_in t))) → ReadTreeCall t old new (Ok tt)
         unfolding read_tree_on
         planted new q e =
             let k = long in
             let r : image_words ≤ length old = omega (arith, q, k) in
-            called new Fine (answered (tree_model (tree_in t))) (ap (room_for (length old)) model ∙ long-room (length old) _ r) says-fine
+            called new (Ok tt) (answered (tree_model (tree_in t))) (ap (room_for (length old)) model ∙ long-room (length old) _ r) says-fine
             (e ∙ ap (λ (l : List ℕ). sets l 0 (image_of (tree_model (tree_in t)))) same ∙ written r)

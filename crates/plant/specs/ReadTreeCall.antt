@@ -2,7 +2,7 @@
 use Rattle.std.specs.Prelude.{◌≡◌, List, ℕ, length}
 use Rattle.std.proofs.Math.Option.{some}
 use Rattle.answer.specs.Told.{Answer, says_checked, done_of}
-use Rattle.answer.specs.declared.Checked.{Checked}
+use Rattle.answer.specs.Told.{Checked}
 use Rattle.model.specs.Model.{Model}
 use Rattle.layout.specs.Lent.{table_after}
 use Rattle.reading.specs.Read.{room_for}

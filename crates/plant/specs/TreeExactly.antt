@@ -1,7 +1,7 @@
 -- What `read_tree` answers, said of trees as they are drawn, and what it leaves in the lent table.
 use Rattle.std.specs.Prelude.{List, ℕ}
 use Rattle.answer.specs.Told.{Answer, answered, refused}
-use Rattle.answer.specs.declared.Checked.{Checked}
+use Rattle.answer.specs.Told.{Checked}
 use Rattle.model.specs.Model.{Model}
 use Rattle.iosa.specs.InOrder.{Check, ◌▹◌, Gives, room, Leaves}
 use Rattle.layout.specs.OnImage.{FillsTable, bytes_of, image_bytes}

@@ -3,30 +3,25 @@
 
 ghost use Rattle.plant.specs.ReadTreeCall.{ReadTreeCall};
 
-use answer::{Checked, Place, Refusal};
+use answer::{Place, Refusal};
 
 // 2, 4 and 6 line by line, then 5, 47, 48, then 24 with the bytes needed; else the image at the front of the table. No word is written before all is checked.
-pub fn read_tree(text: &[u8], table: &mut [u64]) -> Checked
+pub fn read_tree(text: &[u8], table: &mut [u64]) -> Result<(), Refusal>
     ensures { ReadTreeCall text.now table.old table.new result }
 {
-    match treetests::check_well_formed(text) {
-        Checked::Refused(f) => Checked::Refused(f),
-        Checked::Fine => {
-            let fits = treesize::fits(text, table);
-            if !fits {
-                return Checked::Refused(Refusal {
-                    number: 48,
-                    place: Place::Whole,
-                });
-            }
-            if table.len() < layout::WORDS {
-                return Checked::Refused(Refusal {
-                    number: 24,
-                    place: Place::Bytes(layout::WORDS * 8),
-                });
-            }
-            planting::put_image(text, table);
-            Checked::Fine
-        }
+    treetests::check_well_formed(text)?;
+    if !treesize::fits(text, table) {
+        return Err(Refusal {
+            number: 48,
+            place: Place::Whole,
+        });
     }
+    if table.len() < layout::WORDS {
+        return Err(Refusal {
+            number: 24,
+            place: Place::Bytes(layout::WORDS * 8),
+        });
+    }
+    planting::put_image(text, table);
+    Ok(())
 }

@@ -31,10 +31,7 @@ fn started_of(sort: Sort, k: u64) -> u64
     let fc = sets::single(2 * k);
     match sort {
         Sort::Be => fc,
-        Sort::And => 0,
-        Sort::Or => 0,
-        Sort::Pand => 0,
-        Sort::Rbox => 0,
+        Sort::And | Sort::Or | Sort::Pand | Sort::Rbox => 0,
     }
 }
 

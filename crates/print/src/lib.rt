@@ -22,13 +22,8 @@ pub fn put_word(out: &mut [u8], at: usize, w: &[u8]) -> usize
     requires { Room out.old at w.now }
     ensures { Put out.old at w.now out.new result }
 {
-    let mut next = at;
-    let mut i = 0;
-    while i < w.len() {
-        out[next] = w[i];
-        next += 1;
-        i += 1;
-    }
+    let next = at + w.len();
+    out[at..next].copy_from_slice(w);
     next
 }
 

@@ -8,8 +8,8 @@ use lib.ListN.{length, take, drop}
 use lib.Seq.{take_at}
 use borrow.Author.Tests.{le-ltb}
 use Rattle.answer.specs.Told.{Told, told, Answer, answered, refused, as_refused, says_checked, done_of}
-use Rattle.answer.specs.declared.Checked.{Checked}
-use Rattle.answer.specs.declared.Checked.TheVariants.{Fine, Refused}
+use Rattle.answer.specs.Told.{Checked}
+use Rattle.std.specs.Prelude.{Ok, Err}
 use Rattle.answer.specs.declared.Refusal.{Refusal}
 use Rattle.model.specs.Model.{Model}
 use Rattle.model.specs.WellFormed.{WellFormed}
@@ -33,7 +33,7 @@ module _ (a : Answer Model) (well : (m : Model) → a ≡ answered m → WellFor
   table : new ≡ table_after a old
   table = e.table ∙ ap (λ x. table_after x old) (room-enough (length old) a h)
 
-  pub leaves-model : r ≡ Fine → (m : Model) × (a ≡ answered m) × Image new × (model_of new ≡ m)
+  pub leaves-model : r ≡ (Ok tt) → (m : Model) × (a ≡ answered m) × Image new × (model_of new ≡ m)
   unfolding says_checked
   leaves-model f = go a refl (ap says_checked (sym f) ∙ says) table
     where
@@ -46,7 +46,7 @@ module _ (a : Answer Model) (well : (m : Model) → a ≡ answered m → WellFor
           let im : Image new = record { model = m; well = w; front = front } in
           (m, q, im, model_of_lem new im)
 
-  pub leaves-refusal : (g : Refusal) → r ≡ Refused g → (t : Told) × (a ≡ refused t) × (told g ≡ some t)
+  pub leaves-refusal : (g : Refusal) → r ≡ Err g → (t : Told) × (a ≡ refused t) × (told g ≡ some t)
   unfolding says_checked
   leaves-refusal g f = go (told g) a refl refl (ap says_checked (sym f) ∙ says)
     where

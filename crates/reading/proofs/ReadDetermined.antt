@@ -3,7 +3,7 @@ use mathlib.Core.Path.{◌≡◌, sym, ◌∙◌}
 use mathlib.Core.List.{List}
 use Prim.Native.Nat.{ℕ}
 use Rattle.answer.specs.Told.{done_of}
-use Rattle.answer.specs.declared.Checked.{Checked}
+use Rattle.answer.specs.Told.{Checked}
 use Rattle.reading.specs.Read.{ReadCall, read_on}
 use Rattle.answer.proofs.SaysFixes.{checked-fixed}
 

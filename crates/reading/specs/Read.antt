@@ -2,7 +2,7 @@
 use Rattle.std.specs.Prelude.{◌≡◌, true, false, List, ℕ, length, ltb}
 use Rattle.std.proofs.Math.Option.{some}
 use Rattle.answer.specs.Told.{Answer, answered, refused, says_checked, done_of}
-use Rattle.answer.specs.declared.Checked.{Checked}
+use Rattle.answer.specs.Told.{Checked}
 use Rattle.model.specs.Model.{Model}
 use Rattle.model.specs.Reading.{read_of}
 use Rattle.layout.specs.Layout.{image_words}

@@ -20,11 +20,8 @@ pub fn raise_words(table: &mut [u64], lo: usize, hi: usize)
     requires { (lo ≤ hi) × (hi ≤ length table.old) × ((j : ℕ) → lo ≤ j → j < hi → get_or table.old j 0 < max_rows) }
     ensures { Raised table.old lo hi table.new }
 {
-    let mut j = lo;
-    while j < hi {
-        let old = table[j];
-        table[j] = old + 1;
-        j += 1;
+    for j in lo..hi {
+        table[j] += 1;
     }
 }
 
@@ -33,11 +30,7 @@ pub fn fill_words(table: &mut [u64], lo: usize, hi: usize, v: u64)
     requires { (lo ≤ hi) × (hi ≤ length table.old) }
     ensures { Filled table.old lo hi v table.new }
 {
-    let mut j = lo;
-    while j < hi {
-        table[j] = v;
-        j += 1;
-    }
+    table[lo..hi].fill(v);
 }
 
 // A new block i: the count, states and start, and first[0] to first[states], where so many rows stand before.

@@ -11,7 +11,7 @@ use Rattle.laws.specs.Search.{when, or_else}
 use Rattle.laws.proofs.TestLaws.{or-false}
 use Rattle.answer.specs.Limits.{max_rows, max_bytes}
 use Rattle.answer.specs.Told.{tell, Answer, answered}
-use Rattle.answer.specs.declared.Written.{Written}
+use Rattle.answer.specs.Told.{Written}
 use Rattle.model.specs.Model.{Comp, Model, row_count}
 use Rattle.model.specs.Text.{text_of}
 use Rattle.model.specs.WellFormed.{WellFormed}

@@ -7,7 +7,6 @@ use native.Mathlib.Omega.{arith}
 use lib.ListN.{length, get_or, drop, length-append}
 use lib.Seq.{sets, sets-eq}
 use lib.Dec.{ltb}
-use borrow.Author.Tests.{lt-ltb, le-ltb}
 use Rattle.laws.specs.Fold.{spread}
 use Rattle.laws.proofs.TabLaws.{spread-length, sum-at-most}
 use Rattle.laws.proofs.ListLaws.{All, at_all, in-at}
@@ -174,10 +173,3 @@ module _ (m : Model) (w : WellFormed m) (bytes : ℕ) (l : List ℕ) (eb : bytes
     size-there rows b er eb =
         let e : row_count (repaired_of m) ≡ rows + n.rows = repaired-row-count m w ∙ ap₂ (λ x y. x + y) (sym er) (sym dry-rows) in
         ap₂ (λ x y. ltb max_rows x || ltb max_bytes y) e (sym dry-bytes) ∙ sym eb
-
--- ---- the two tests of 26
-pub over-rows : (rows bytes : ℕ) → max_rows < rows → true ≡ (ltb max_rows rows || ltb max_bytes bytes)
-over-rows rows bytes h = rw (lt-ltb max_rows rows h)
-
-pub over-bytes : (rows bytes : ℕ) → rows ≤ max_rows → ltb max_bytes bytes ≡ (ltb max_rows rows || ltb max_bytes bytes)
-over-bytes rows bytes h = rw (le-ltb max_rows rows h)

@@ -11,7 +11,7 @@ use lib.Dec.{ltb}
 use Rattle.laws.specs.Search.{when, or_else}
 use Rattle.answer.specs.Limits.{max_rows, max_bytes}
 use Rattle.answer.specs.Told.{Told, tell, Answer, answered, refused, says_written}
-use Rattle.answer.specs.declared.Written.TheVariants.{Length}
+use Rattle.std.specs.Prelude.{Ok}
 use Rattle.model.specs.Model.{Comp, Model, row_count}
 use Rattle.model.specs.Text.{text_of}
 use Rattle.model.specs.WellFormed.{WellFormed}
@@ -41,13 +41,13 @@ pub record Done (t t' : List ℕ) : Type 0 where
   pub now-held : model_of t' ≡ repaired_of model
   pub image : Image t'
 
-module _ (t l t' l' : List ℕ) (n : ℕ) (g : Repairing t l (Length n) t' l') where
-  told : (a : Answer Mended) → says_written (Length n) ≡ some (number_in a) → answered n ≡ number_in a
+module _ (t l t' l' : List ℕ) (n : ℕ) (g : Repairing t l (Ok n) t' l') where
+  told : (a : Answer Mended) → says_written (Ok n) ≡ some (number_in a) → answered n ≡ number_in a
   unfolding says_written
   told a e = some_inj.0 e
 
   pub repair-done : Done t t'
-  repair-done = let k = (repair-answers-exactly t l (Length n) t' l').0 g in of_image k.answer k.right (told k.answer k.left.answer)
+  repair-done = let k = (repair-answers-exactly t l (Ok n) t' l').0 g in of_image k.answer k.right (told k.answer k.left.answer)
       k.left.table
     where
       fine : (c : Comp) (cs : List Comp) → Holds t (c ∷ cs) → Small (repaired_of (c ∷ cs)) → t' ≡ image_of (repaired_of (c ∷ cs)) ++ drop image_words t → Done t t'

@@ -2,7 +2,7 @@
 use Rattle.std.specs.Prelude.{◌≡◌, List, ◌∷◌, ℕ, ◌*◌, length}
 use Rattle.std.proofs.Math.Option.{some}
 use Rattle.answer.specs.Told.{Answer, says_written}
-use Rattle.answer.specs.declared.Written.{Written}
+use Rattle.answer.specs.Told.{Written}
 use Rattle.model.specs.Model.{Comp}
 use Rattle.iosa.specs.InOrder.{◌▹◌, Gives, Leaves, needs, room}
 use Rattle.layout.specs.OnImage.{OnImage}

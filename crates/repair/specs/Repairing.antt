@@ -4,7 +4,7 @@ use Rattle.std.proofs.Math.Option.{some, none}
 use Rattle.laws.specs.Search.{when, or_else}
 use Rattle.answer.specs.Limits.{max_rows, max_bytes}
 use Rattle.answer.specs.Told.{tell, Answer, answered, refused, says_written}
-use Rattle.answer.specs.declared.Written.{Written}
+use Rattle.answer.specs.Told.{Written}
 use Rattle.model.specs.Model.{Model, row_count}
 use Rattle.model.specs.Text.{text_of}
 use Rattle.layout.specs.Layout.{image_words}

@@ -1,20 +1,19 @@
 // Missing self-loops put in.
 #![tactic(auto)]
 
-ghost use Rattle.std.specs.Prelude.{◌≡◌, ◌||◌, not, length, ltb};
+ghost use Rattle.std.specs.Prelude.{◌≡◌, ◌||◌, not, length, ltb, Err};
 ghost use Rattle.answer.specs.Limits.{max_rows, max_bytes};
-ghost use Rattle.answer.specs.declared.Written.TheVariants as Written;
 ghost use Rattle.model.specs.Model.{row_count};
 ghost use Rattle.layout.specs.Image.{Image, model_of};
 ghost use Rattle.repair.specs.Repairing.{Repairing};
 
-use answer::{Model, Place, Refusal, Written};
+use answer::{Model, Place, Refusal};
 use lacking::Tally;
 
-fn refused(number: u8, place: Place) -> Written
-    ensures { result ≡ Written.Refused (record { number = number; place = place }) }
+fn refused(number: u8, place: Place) -> Result<usize, Refusal>
+    ensures { result ≡ Err (record { number = number; place = place }) }
 {
-    Written::Refused(Refusal { number, place })
+    Err(Refusal { number, place })
 }
 
 // The rows of the table's model.
@@ -31,15 +30,11 @@ fn row_count(t: &[u64]) -> usize
 fn too_large(rows: usize, bytes: usize) -> bool
     ensures { result ≡ (ltb max_rows rows || ltb max_bytes bytes) }
 {
-    if Model::ROWS < rows {
-        true
-    } else {
-        Model::BYTES < bytes
-    }
+    Model::ROWS < rows || Model::BYTES < bytes
 }
 
 // 24, 26, and else the table and the list, of an image: everything is counted before anything is written.
-fn repaired(t: &mut [u64], list: &mut [u8]) -> Written
+fn repaired(t: &mut [u64], list: &mut [u8]) -> Result<usize, Refusal>
     requires { Image t.old }
     ensures { Repairing t.old list.old result t.new list.new }
 {
@@ -56,11 +51,11 @@ fn repaired(t: &mut [u64], list: &mut [u8]) -> Written
     let k = n.rows;
     lacking::walk(t, list, true, Tally { rows: 0, bytes });
     mending::mend(t, k);
-    Written::Length(k)
+    Ok(k)
 }
 
 // A self-loop for each state that lacks a row of an input: 20, 24 of the list, 26; else in the lent table, each added row in the lent list, and their number.
-pub fn repair(table: &mut [u64], list: &mut [u8]) -> Written
+pub fn repair(table: &mut [u64], list: &mut [u8]) -> Result<usize, Refusal>
     ensures { Repairing table.old list.old result table.new list.new }
 {
     if !table::recognise(table) {

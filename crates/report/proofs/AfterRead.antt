@@ -7,8 +7,8 @@ use native.Mathlib.Omega.{arith}
 use lib.ListN.{length, take, drop, length-drop}
 use lib.Seq.{take_all}
 use Rattle.answer.specs.Told.{Told, told, answered, refused}
-use Rattle.answer.specs.declared.Checked.{Checked}
-use Rattle.answer.specs.declared.Checked.TheVariants.{Fine, Refused}
+use Rattle.answer.specs.Told.{Checked}
+use Rattle.std.specs.Prelude.{Ok, Err}
 use Rattle.answer.specs.declared.Refusal.{Refusal}
 use Rattle.model.specs.Model.{Model}
 use Rattle.answer.specs.State.{parts_of}
@@ -29,10 +29,10 @@ module _ (text old new : List ℕ) (r : Checked) (e : ReadCall text old new r) (
   unfolding read_on
   fills = record { answer = e.answer; table = e.table }
 
-  pub fine-read : r ≡ Fine → (m : Model) × (read_of text ≡ answered m) × Image new × (model_of new ≡ m)
+  pub fine-read : r ≡ (Ok tt) → (m : Model) × (read_of text ≡ answered m) × Image new × (model_of new ≡ m)
   fine-read f = leaves-model (read_of text) (λ m q. (text-of-read text m q).0) old new r fills h f
 
-  pub refused-read : (g : Refusal) → r ≡ Refused g → (t : Told) × (read_of text ≡ refused t) × (told g ≡ some t)
+  pub refused-read : (g : Refusal) → r ≡ Err g → (t : Told) × (read_of text ≡ refused t) × (told g ≡ some t)
   refused-read g f = leaves-refusal (read_of text) (λ m q. (text-of-read text m q).0) old new r fills h g f
 
 -- the request and the model that was read, as they are kept, give the report

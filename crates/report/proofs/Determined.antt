@@ -2,7 +2,7 @@
 use mathlib.Core.Path.{◌≡◌, sym, ◌∙◌}
 use mathlib.Core.List.{List}
 use Prim.Native.Nat.{ℕ}
-use Rattle.answer.specs.declared.Written.{Written}
+use Rattle.answer.specs.Told.{Written}
 use Rattle.answer.proofs.SaysFixes.{written-fixed}
 use Rattle.report.specs.Reported.{length_told, Reported}
 

@@ -13,7 +13,7 @@ use Rattle.laws.specs.Search.{when}
 use Rattle.laws.proofs.SearchLaws.{no-some}
 use Rattle.answer.specs.Limits.{max_request}
 use Rattle.answer.specs.Told.{tell, Answer, answered, refused}
-use Rattle.answer.specs.declared.Written.{Written}
+use Rattle.answer.specs.Told.{Written}
 use Rattle.model.specs.Model.{Model}
 use Rattle.model.specs.Reading.{Got, Scan, is, stops, read_of}
 use Rattle.iosa.specs.Settle.{settle_of}

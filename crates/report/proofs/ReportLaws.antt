@@ -10,8 +10,8 @@ use Rattle.laws.proofs.SearchLaws.{or_else_none}
 use Rattle.answer.specs.Told.{Told, tell, told, Answer, answered, refused, as_refused, says_checked}
 use Rattle.answer.specs.State.{parts_of}
 use Rattle.answer.specs.declared.State.{State}
-use Rattle.answer.specs.declared.Checked.{Checked}
-use Rattle.answer.specs.declared.Checked.TheVariants.{Fine, Refused}
+use Rattle.answer.specs.Told.{Checked}
+use Rattle.std.specs.Prelude.{Ok, Err}
 use Rattle.answer.specs.declared.Refusal.{Refusal}
 use Rattle.model.specs.Model.{Model}
 use Rattle.iosa.specs.Checks.{confluent_of}
@@ -102,11 +102,11 @@ module _ (t : List ℕ) (x : State) (r : Checked) (here : Says r (entry_fault x 
   abbrev m : Model
   m = model_of t
 
-  pub checked-fine : r ≡ Fine → (confluent_of m ≡ none) × (begin_fault m (parts_of x) ≡ none)
+  pub checked-fine : r ≡ (Ok tt) → (confluent_of m ≡ none) × (begin_fault m (parts_of x) ≡ none)
   unfolding says_checked
   checked-fine f = or_else_none (confluent_of m) (begin_fault m (parts_of x)) (fine-told (entry_fault x m) (ap says_checked (sym f) ∙ here))
 
-  pub checked_refused : (f : Refusal) → r ≡ Refused f → (n : ℕ) → refused_text f ≡ answer_lines m (parts_of x) (settle_of m (parts_of x) n n)
+  pub checked_refused : (f : Refusal) → r ≡ Err f → (n : ℕ) → refused_text f ≡ answer_lines m (parts_of x) (settle_of m (parts_of x) n n)
   unfolding says_checked
   checked_refused f g n =
       let p = refusal-told f (entry_fault x m) (ap says_checked (sym g) ∙ here) in

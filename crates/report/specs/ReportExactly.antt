@@ -1,6 +1,6 @@
 -- What `report` answers, said of what the program prints, and what it leaves in the lent buffer.
 use Rattle.std.specs.Prelude.{List, ℕ, length}
-use Rattle.answer.specs.declared.Written.{Written}
+use Rattle.answer.specs.Told.{Written}
 use Rattle.iosa.specs.InOrder.{◌▹◌, Gives, Leaves, room}
 use Rattle.iosa.specs.Lent.{Fills}
 use Rattle.answering.specs.Printed.{Prints}

@@ -2,7 +2,7 @@
 use Rattle.std.specs.Prelude.{◌≡◌, cond, List, [], ◌∷◌, ◌++◌, ℕ, length, drop, ltb}
 use Rattle.std.proofs.Math.Option.{some}
 use Rattle.answer.specs.Told.{Answer, answered, refused, tell, says_written}
-use Rattle.answer.specs.declared.Written.{Written}
+use Rattle.answer.specs.Told.{Written}
 use Rattle.answering.specs.Report.{report_of}
 use Rattle.steplines.specs.Run.{most_bytes}
 

@@ -10,7 +10,7 @@ ghost use Rattle.layout.specs.Image.{Image, model_of};
 ghost use Rattle.print.specs.Put.{Put};
 ghost use Rattle.steplines.specs.Run.{most_bytes};
 
-use answer::{Checked, Place, Refusal, State, Written};
+use answer::{Place, Refusal, State};
 
 // The checks of settling in order, and else the run: 10 to 18, 21, 19, 22.
 fn put_answer(t: &[u64], x: State, budget: u64, out: &mut [u8]) -> usize
@@ -19,10 +19,9 @@ fn put_answer(t: &[u64], x: State, budget: u64, out: &mut [u8]) -> usize
         (answer_lines (model_of t.now) (parts_of x) (settle_of (model_of t.now) (parts_of x) budget budget))
         out.new result }
 {
-    let checked = entry::check_entry(t, x);
-    match checked {
-        Checked::Refused(f) => tell::put_refused(out, 0, f),
-        Checked::Fine => steplines::put_settled(t, x, budget, out),
+    match entry::check_entry(t, x) {
+        Err(f) => tell::put_refused(out, 0, f),
+        Ok(()) => steplines::put_settled(t, x, budget, out),
     }
 }
 
@@ -31,31 +30,26 @@ fn put_report(input: &[u8], out: &mut [u8]) -> usize
     requires { most_bytes ≤ length out.old }
     ensures { Put out.old 0 (report_of input.now) out.new result }
 {
-    let asked = request::request_of(input);
-    if !asked.found {
+    let Some(asked) = request::request_of(input) else {
         return steplines::put_whole(out, 9);
-    }
-    let mut table = [0u64; layout::WORDS];
+    };
     let at = asked.at;
-    let checked = text::read(&input[at..], &mut table);
-    match checked {
-        Checked::Refused(f) => tell::put_refused(out, 0, f),
-        Checked::Fine => {
-            let x = asked.state;
-            put_answer(&table, x, asked.budget, out)
-        },
+    let mut table = [0u64; layout::WORDS];
+    match text::read(&input[at..], &mut table) {
+        Err(f) => tell::put_refused(out, 0, f),
+        Ok(()) => put_answer(&table, asked.state, asked.budget, out),
     }
 }
 
 // Fills a lent buffer with what the program prints for this input.
-pub fn report(input: &[u8], out: &mut [u8]) -> Written
+pub fn report(input: &[u8], out: &mut [u8]) -> Result<usize, Refusal>
     ensures { Reported input.now out.old out.new result }
 {
     if out.len() < steplines::REPORT {
-        return Written::Refused(Refusal {
+        return Err(Refusal {
             number: 24,
             place: Place::Bytes(steplines::REPORT),
         });
     }
-    Written::Length(put_report(input, out))
+    Ok(put_report(input, out))
 }

@@ -1,19 +1,18 @@
 -- What is kept of a request: its numbers as a composed state, and its budget.
 use Rattle.std.proofs.Math.Option.{Option, none, some}
-use Rattle.std.specs.Prelude.{Bool, true, false, cond, List, [], ◌∷◌, ℕ, ◌+◌, drop, set, ltb}
+use Rattle.std.specs.Prelude as Answered
+use Rattle.std.specs.Prelude.{Bool, true, false, cond, List, [], ◌∷◌, ℕ, ◌+◌, drop, set, ltb, Result, Ok, Err, Some, None}
 use Rattle.answer.specs.Limits.{max_components, no_state}
 use Rattle.answer.specs.declared.State.{State}
-use Rattle.model.specs.Reading.{Got, Scan, is, stops}
+use Rattle.model.specs.Reading.{Got, Scan, stops, got}
 use Rattle.answering.specs.Report.{Request}
-use Rattle.request.specs.declared.PartsScan.{PartsScan}
+use Rattle.fields.specs.declared.Cursor.{Cursor}
+use Rattle.fields.specs.Fields.{scanned}
 use Rattle.request.specs.declared.Asked.{Asked}
 
 -- a number of a state fits a byte, as max_states is no more than that; the last byte stands for every larger one
 abbrev pub byte_of : ℕ → ℕ
 byte_of n = cond (ltb n 255) n 255
-
-abbrev pub less_of : ℕ → ℕ → ℕ
-less_of n m = cond (ltb n m) n m
 
 -- one number more; a model has at most max_components components: a number past them, and every further one, leaves one number too many
 abbrev pub with : State → ℕ → State
@@ -37,11 +36,6 @@ pub record Kept : Type 0 where
 abbrev pub keep : Request → Kept
 keep r = record { state = held r.state; budget = r.budget }
 
--- 9 has no column: a scan that stops is no request, wherever it does
-abbrev pub heard : {A : Type 0} → Scan A → Option (Got A)
-heard (stops cs) = none
-heard (is g) = some g
-
 -- a value and the bytes behind it, and the same with the value changed
 abbrev pub there : {A : Type 0} → A → List ℕ → Option (Got A)
 there x bs = some (record { value = x; rest = bs })
@@ -51,11 +45,17 @@ kept f none = none
 kept f (some g) = there (f g.value) g.rest
 
 -- what the scans answer
-abbrev pub got_parts : List ℕ → PartsScan → Option (Got State)
-got_parts t r = cond r.found (there r.state (drop r.at t)) none
+abbrev pub got_parts : List ℕ → Result (Cursor × State) Cursor → Scan State
+got_parts t r = scanned (λ x. x) t r
 
-abbrev pub asked : List ℕ → Asked → Option (Got Kept)
-asked t r = cond r.found (there (record { state = r.state; budget = r.budget }) (drop r.at t)) none
+abbrev pub kept_of : Asked → Kept
+kept_of a = record { state = a.state; budget = a.budget }
 
-abbrev pub not_asked : Asked
-not_asked = record { found = false; state = no_state; budget = 0; at = 0 }
+abbrev pub got_asked : List ℕ → Result Asked Cursor → Scan Kept
+got_asked t (Ok a) = got (kept_of a) (drop a.at t)
+got_asked t (Err c) = stops (drop c.at t)
+
+-- 9 has no column: a scan that stops is no request, wherever it does
+abbrev pub asked : List ℕ → Answered.Option Asked → Option (Got Kept)
+asked t None = none
+asked t (Some a) = there (kept_of a) (drop a.at t)

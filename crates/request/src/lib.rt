@@ -1,31 +1,22 @@
 // The request line of the program (paper 01, "The program and its example"): one scan of its bytes from left to right.
 #![tactic(auto)]
 
-ghost use Rattle.std.specs.Prelude.{◌≡◌, ◌≤◌, length, drop};
+ghost use Rattle.std.specs.Prelude.{◌≡◌, ◌≤◌, IfSome, length, drop};
 ghost use Rattle.answer.specs.Limits.{no_state};
 ghost use Rattle.model.specs.Reading.{more_numbers, numbers, field};
 ghost use Rattle.answering.specs.Report.{request_line, request_of};
 ghost use Rattle.fields.specs.Resets.{valued};
-ghost use Rattle.request.specs.Kept.{byte_of, with, with_all, held, keep, heard, kept, got_parts, asked, not_asked, less_of};
+ghost use Rattle.request.specs.Kept.{byte_of, with, with_all, held, keep, kept, got_parts, got_asked, asked};
 
 use answer::{Model, State};
-use fields::{Cursor, NumberScan, Sign, Step};
+use fields::{Cursor, Scan, Sign};
 
 // What stands for a number that no byte holds: no component has such a state.
 const NO_PART: u8 = 255;
 
-// Numbers joined by commas, kept as a state, and where they end. An enum holds no array: a flag tells whether they are there.
-#[derive(Drop)]
-pub struct PartsScan {
-    pub found: bool,
-    pub state: State,
-    pub at: usize,
-}
-
-// A request, and where the model's text begins.
+// A request: a state, a budget, and where the model's text begins.
 #[derive(Drop)]
 pub struct Asked {
-    pub found: bool,
     pub state: State,
     pub budget: u64,
     pub at: usize,
@@ -34,7 +25,7 @@ pub struct Asked {
 fn byte_of(n: u64) -> u8
     ensures { result ≡ byte_of n }
 {
-    if n < NO_PART as u64 { n as u8 } else { NO_PART }
+    u8::try_from(n).unwrap_or(NO_PART)
 }
 
 // One number more: past the last place only that there are too many is kept.
@@ -58,111 +49,53 @@ fn with_part(x: State, n: u64) -> State
 }
 
 // Further numbers, each behind a comma.
-fn more_parts(text: &[u8], x: State, c: Cursor) -> PartsScan
+fn more_parts(text: &[u8], x: State, c: Cursor) -> Scan<State>
     ensures { got_parts text.now result
-        ≡ heard (valued (with_all x) (more_numbers (length (drop c.at text.now)) (drop c.at text.now))) }
+        ≡ valued (with_all x) (more_numbers (length (drop c.at text.now)) (drop c.at text.now)) }
 {
     let mut cur = x;
     let mut at = c.at;
     while at < text.len() {
         if text[at] != Sign::COMMA {
-            return PartsScan {
-                found: true,
-                state: cur,
-                at,
-            };
+            return Ok((Cursor { at }, cur));
         }
-        let NumberScan::Is(next, n) = fields::number(text, Cursor { at: at + 1 }) else {
-            return PartsScan {
-                found: false,
-                state: cur,
-                at,
-            };
-        };
-        let more = with_part(cur, n);
-        cur = more;
+        let (next, n) = fields::number(text, Cursor { at: at + 1 })?;
+        cur = with_part(cur, n);
         at = next.at;
     }
-    PartsScan {
-        found: true,
-        state: cur,
-        at,
-    }
+    Ok((Cursor { at }, cur))
 }
 
 // "state numbers joined by commas", behind a tab.
-fn parts_field(text: &[u8], c: Cursor) -> PartsScan
-    ensures { got_parts text.now result ≡ heard (valued held (field numbers (drop c.at text.now))) }
+fn parts_field(text: &[u8], c: Cursor) -> Scan<State>
+    ensures { got_parts text.now result ≡ valued held (field numbers (drop c.at text.now)) }
 {
-    let NumberScan::Is(d, n) = fields::number_field(text, c) else {
-        return PartsScan {
-            found: false,
-            state: answer::no_state(),
-            at: 0,
-        };
-    };
+    let (d, n) = fields::number_field(text, c)?;
     more_parts(text, with_part(answer::no_state(), n), d)
 }
 
-fn not_asked() -> Asked
-    ensures { result ≡ not_asked }
+fn request_line(text: &[u8]) -> Result<Asked, Cursor>
+    ensures { got_asked text.now result ≡ valued keep (request_line text.now) }
 {
-    Asked {
-        found: false,
-        state: answer::no_state(),
-        budget: 0,
-        at: 0,
-    }
-}
-
-fn request_line(text: &[u8]) -> Asked
-    ensures { asked text.now result ≡ heard (valued keep (request_line text.now)) }
-{
-    let Step::Past(c1) = fields::word(text, Cursor { at: 0 }, b"from") else {
-        return not_asked();
-    };
-    let p = parts_field(text, c1);
-    if !p.found {
-        return not_asked();
-    }
-    let NumberScan::Is(c2, budget) = fields::number_field(text, Cursor { at: p.at }) else {
-        return not_asked();
-    };
-    let Step::Past(c3) = fields::byte(text, c2, Sign::LF) else {
-        return not_asked();
-    };
-    let state = p.state;
-    Asked {
-        found: true,
+    let c1 = fields::word(text, Cursor { at: 0 }, b"from")?;
+    let (c2, state) = parts_field(text, c1)?;
+    let (c3, budget) = fields::number_field(text, c2)?;
+    let c4 = fields::byte(text, c3, Sign::LF)?;
+    Ok(Asked {
         state,
         budget,
-        at: c3.at,
-    }
+        at: c4.at,
+    })
 }
 
-fn less_of(n: usize, m: usize) -> usize
-    ensures { result ≡ less_of n m }
+// None is 9, which has no column: "request line of the program of wrong shape, or over 256 bytes with its LF".
+pub fn request_of(text: &[u8]) -> Option<Asked>
+    ensures { (asked text.now result ≡ kept keep (request_of text.now)) × IfSome result (λ r. r.at ≤ length text.now) }
 {
-    if n < m { n } else { m }
-}
-
-// 9 where there is none: "request line of the program of wrong shape, or over 256 bytes with its LF".
-pub fn request_of(text: &[u8]) -> Asked
-    ensures { (asked text.now result ≡ kept keep (request_of text.now)) × (result.at ≤ length text.now) }
-{
-    let r = request_line(text);
-    if !r.found {
-        return not_asked();
-    }
-    let at = less_of(r.at, text.len());
+    let r = request_line(text).ok()?;
+    let at = r.at.min(text.len());
     if Model::REQUEST < at {
-        return not_asked();
+        return None;
     }
-    let state = r.state;
-    Asked {
-        found: true,
-        state,
-        budget: r.budget,
-        at,
-    }
+    Some(Asked { at, ..r })
 }

@@ -15,7 +15,15 @@ use Rattle.trees.specs.Modules.{box-r, box_move, plain_move}
 use Rattle.roles.specs.declared.Signal.{Signal}
 use Rattle.roles.specs.declared.Signal.TheVariants as OfSignal
 use Rattle.roles.specs.declared.GateRole.TheVariants as OfRole
-use Rattle.roles.specs.Roles.{signal_is, gate_is, told_as, gate_of, meant_as}
+use Rattle.std.specs.Prelude.{Option as Answered, Some, None}
+use Rattle.std.specs.Bool.{then_some}
+use Rattle.roles.specs.declared.Move.{Move}
+use Rattle.roles.specs.Roles.{signal_is, move_as, move_is, gate_is, told_as, gate_of, meant_as}
+
+-- a move where there is one
+pub move-when : (b : Bool) (m : Move) (r : Answered Move) → r ≡ then_some b m → move_is r ≡ when b (move_as m)
+move-when true m r e = ap move_is e
+move-when false m r e = ap move_is e
 
 -- a target where there is one
 pub map-when : (b : Bool) (x y : ℕ) → x ≡ y → when b (plain_move x) ≡ map_some plain_move (when b y)
@@ -65,16 +73,16 @@ module _ (number first second of : ℕ) (signal : Signal) where
       go OfSignal.U = refl
       go OfSignal.R = refl
 
-  pub none_told : ¬ (of ≡ number) → ¬ (of ≡ first) → ¬ (of ≡ second) → gate_is OfRole.None ≡ gate_role (gate_of number first second) (meant_as of signal)
+  pub none_told : ¬ (of ≡ number) → ¬ (of ≡ first) → ¬ (of ≡ second) → gate_is None ≡ gate_role (gate_of number first second) (meant_as of signal)
   unfolding gate_role
   none_told h k l = rw (ne_eqb of number h, ne_eqb of first k, ne_eqb of second l)
 
 module _ (e : Element) (of : ℕ) where
-  pub ticks-fl : gate_is OfRole.Tick ≡ pand_role e (meant_as of OfSignal.Fl)
+  pub ticks-fl : gate_is (Some OfRole.Tick) ≡ pand_role e (meant_as of OfSignal.Fl)
   unfolding pand_role
   ticks-fl = refl
 
-  pub ticks-up : gate_is OfRole.Tick ≡ pand_role e (meant_as of OfSignal.Up)
+  pub ticks-up : gate_is (Some OfRole.Tick) ≡ pand_role e (meant_as of OfSignal.Up)
   unfolding pand_role
   ticks-up = refl
 

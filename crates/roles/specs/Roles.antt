@@ -1,7 +1,6 @@
 -- Signals, roles, kinds and moves as the code has them, and what they are in the definitions.
 use Rattle.std.proofs.Math.Option.{Option, none, some}
-use Rattle.std.specs.Prelude.{List, [], ◌∷◌, ℕ}
-use Rattle.laws.specs.Search.{when}
+use Rattle.std.specs.Prelude.{List, [], ◌∷◌, ℕ, Option as Answered, Some, None}
 use Rattle.model.specs.Text.{Kind as TheKind, in-kind, out-kind, uin-kind, uout-kind}
 use Rattle.trees.specs.Module.{Move as TheMove}
 use Rattle.trees.specs.Tree.{Element, and-sort, Signal as TheSignal, fl, up, f, u, r, Meaning}
@@ -21,32 +20,44 @@ signal_is OfSignal.F = f
 signal_is OfSignal.U = u
 signal_is OfSignal.R = r
 
-abbrev pub kind_is : Kind → Option TheKind
-kind_is OfKind.None = none
-kind_is OfKind.In = some in-kind
-kind_is OfKind.Out = some out-kind
-kind_is OfKind.Uin = some uin-kind
-kind_is OfKind.Uout = some uout-kind
+abbrev pub kind_as : Kind → TheKind
+kind_as OfKind.In = in-kind
+kind_as OfKind.Out = out-kind
+kind_as OfKind.Uin = uin-kind
+kind_as OfKind.Uout = uout-kind
 
-abbrev pub move_is : Move → Option TheMove
-move_is m = when m.there (record { guard = m.guard; resets = m.resets; target = m.target })
+-- a kind, or none of a module's actions
+abbrev pub kind_is : Answered Kind → Option TheKind
+kind_is None = none
+kind_is (Some k) = some (kind_as k)
 
-abbrev pub gate_is : GateRole → Option TheGateRole
-gate_is OfRole.None = none
-gate_is OfRole.OwnF = some own-f
-gate_is OfRole.OwnU = some own-u
-gate_is OfRole.F0 = some f0
-gate_is OfRole.U0 = some u0
-gate_is OfRole.F1 = some f1
-gate_is OfRole.U1 = some u1
-gate_is OfRole.Tick = some tick
+abbrev pub move_as : Move → TheMove
+move_as m = record { guard = m.guard; resets = m.resets; target = m.target }
 
-abbrev pub told_as : GateRole → GateRole → Signal → GateRole
-told_as a b OfSignal.Fl = OfRole.None
-told_as a b OfSignal.Up = OfRole.None
-told_as a b OfSignal.F = a
-told_as a b OfSignal.U = b
-told_as a b OfSignal.R = OfRole.None
+-- where an action leads, if it leads anywhere
+abbrev pub move_is : Answered Move → Option TheMove
+move_is None = none
+move_is (Some m) = some (move_as m)
+
+abbrev pub gate_as : GateRole → TheGateRole
+gate_as OfRole.OwnF = own-f
+gate_as OfRole.OwnU = own-u
+gate_as OfRole.F0 = f0
+gate_as OfRole.U0 = u0
+gate_as OfRole.F1 = f1
+gate_as OfRole.U1 = u1
+gate_as OfRole.Tick = tick
+
+abbrev pub gate_is : Answered GateRole → Option TheGateRole
+gate_is None = none
+gate_is (Some x) = some (gate_as x)
+
+abbrev pub told_as : GateRole → GateRole → Signal → Answered GateRole
+told_as a b OfSignal.Fl = None
+told_as a b OfSignal.Up = None
+told_as a b OfSignal.F = Some a
+told_as a b OfSignal.U = Some b
+told_as a b OfSignal.R = None
 
 -- a gate by its number and its inputs; its role asks for nothing else
 abbrev pub gate_of : ℕ → ℕ → ℕ → Element

@@ -9,7 +9,7 @@ ghost use Rattle.answer.specs.Limits.{max_clocks, max_inputs, max_elements};
 ghost use Rattle.trees.specs.Tree.{r as begin};
 ghost use Rattle.trees.specs.Modules.{be_kind, be_move, gate_kind, gate_role as gate_role_of, pand_role, f0, u0, f1, u1, tick};
 ghost use Rattle.trees.specs.Modules.{one_more, one_less, count_move, pand_state, pand_move, box_kind, box-r, box_move, box_hears, bound, plain_move};
-ghost use Rattle.roles.specs.Roles.{signal_is, kind_is, move_is, gate_is, told_as, gate_of, meant_as};
+ghost use Rattle.roles.specs.Roles.{signal_is, kind_as, kind_is, move_is, gate_is, told_as, gate_of, meant_as};
 
 // "fl", "up", "f", "u", "r": failure and repair by the clock, failure and repair told, start of repair.
 #[derive(Clone, Copy)]
@@ -21,10 +21,9 @@ pub enum Signal {
     R,
 }
 
-// What kind of action it is to a module, or none of its actions.
-#[derive(Drop)]
+// What kind of action it is to a module.
+#[derive(Clone, Copy)]
 pub enum Kind {
-    None,
     In,
     Out,
     Uin,
@@ -32,9 +31,8 @@ pub enum Kind {
 }
 
 // What an action is to a gate: its own, of its first input, of its second, or, to PAND, any passing of time.
-#[derive(Drop)]
+#[derive(Clone, Copy)]
 pub enum GateRole {
-    None,
     OwnF,
     OwnU,
     F0,
@@ -44,30 +42,28 @@ pub enum GateRole {
     Tick,
 }
 
-// Where an action leads, if it leads anywhere.
-#[derive(Drop)]
+// Where an action leads.
+#[derive(Clone, Copy)]
 pub struct Move {
-    pub there: bool,
     pub guard: u64,
     pub resets: u64,
     pub target: u64,
 }
 
-// A move with no guard and no resets.
-fn to(there: bool, target: u64) -> Move
+// A move with no guard and no resets, where there is one.
+fn to(there: bool, target: u64) -> Option<Move>
     ensures { move_is result ≡ when there (plain_move target) }
 {
-    Move {
-        there,
+    there.then_some(Move {
         guard: 0,
         resets: 0,
         target,
-    }
+    })
 }
 
 // ---- BE: state = 3 signal + broken; clocks fc = 2 k and rc = 2 k + 1.
 pub fn be_kind(signal: Signal) -> Kind
-    ensures { kind_is result ≡ some (be_kind (signal_is signal)) }
+    ensures { kind_as result ≡ be_kind (signal_is signal) }
 {
     match signal {
         Signal::Fl => Kind::Out,
@@ -79,43 +75,40 @@ pub fn be_kind(signal: Signal) -> Kind
 }
 
 // The order to begin the repair is heard in every state, and followed where the element is broken.
-fn ordered(k: u64, told: u64, broken: u64) -> Move
+fn ordered(k: u64, told: u64, broken: u64) -> Option<Move>
     requires { (2 * k + 1 < max_clocks) × (told < max_elements) × (broken < max_elements) }
     ensures { move_is result ≡ be_move k told broken begin }
 {
     if broken == 1 {
-        Move {
-            there: true,
+        Some(Move {
             guard: 0,
             resets: sets::single(2 * k + 1),
             target: told * 3 + 2,
-        }
+        })
     } else {
         to(true, told * 3 + broken)
     }
 }
 
-pub fn be_move(k: u64, s: u64, signal: Signal) -> Move
+pub fn be_move(k: u64, s: u64, signal: Signal) -> Option<Move>
     requires { (2 * k + 1 < max_clocks) × (s < max_elements) }
     ensures { move_is result ≡ be_move k (s / 3) (s % 3) (signal_is signal) }
 {
     let told = s / 3;
     let broken = s % 3;
     match signal {
-        Signal::Fl => Move {
-            there: broken == 0,
+        Signal::Fl => (broken == 0).then_some(Move {
             guard: 2 * k + 1,
             resets: 0,
             target: 4,
-        },
+        }),
         Signal::Up => {
             let fc = sets::single(2 * k);
-            Move {
-                there: broken == 2,
+            (broken == 2).then_some(Move {
                 guard: 2 * k + 1 + 1,
                 resets: fc,
                 target: 6,
-            }
+            })
         }
         Signal::F => to(told == 1, broken),
         Signal::U => to(told == 2, broken),
@@ -124,35 +117,33 @@ pub fn be_move(k: u64, s: u64, signal: Signal) -> Move
 }
 
 // ---- gates
-pub fn gate_kind(role: GateRole) -> Kind
+pub fn gate_kind(role: Option<GateRole>) -> Option<Kind>
     ensures { kind_is result ≡ map_some gate_kind (gate_is role) }
 {
-    match role {
-        GateRole::None => Kind::None,
-        GateRole::OwnF => Kind::Uout,
-        GateRole::OwnU => Kind::Uout,
-        GateRole::F0 => Kind::Uin,
-        GateRole::U0 => Kind::Uin,
-        GateRole::F1 => Kind::Uin,
-        GateRole::U1 => Kind::Uin,
-        GateRole::Tick => Kind::In,
+    let r = role?;
+    match r {
+        GateRole::OwnF => Some(Kind::Uout),
+        GateRole::OwnU => Some(Kind::Uout),
+        GateRole::F0 => Some(Kind::Uin),
+        GateRole::U0 => Some(Kind::Uin),
+        GateRole::F1 => Some(Kind::Uin),
+        GateRole::U1 => Some(Kind::Uin),
+        GateRole::Tick => Some(Kind::In),
     }
 }
 
 // Of an element's signals a gate hears failure and repair told.
-fn told(f: GateRole, u: GateRole, signal: Signal) -> GateRole
+fn told(f: GateRole, u: GateRole, signal: Signal) -> Option<GateRole>
     ensures { result ≡ told_as f u signal }
 {
     match signal {
-        Signal::Fl => GateRole::None,
-        Signal::Up => GateRole::None,
-        Signal::F => f,
-        Signal::U => u,
-        Signal::R => GateRole::None,
+        Signal::F => Some(f),
+        Signal::U => Some(u),
+        _ => None,
     }
 }
 
-pub fn gate_role(number: u64, first: u64, second: u64, of: u64, signal: Signal) -> GateRole
+pub fn gate_role(number: u64, first: u64, second: u64, of: u64, signal: Signal) -> Option<GateRole>
     ensures { gate_is result ≡ gate_role_of (gate_of number first second) (meant_as of signal) }
 {
     if of == number {
@@ -164,17 +155,17 @@ pub fn gate_role(number: u64, first: u64, second: u64, of: u64, signal: Signal) 
     if of == second {
         return told(GateRole::F1, GateRole::U1, signal);
     }
-    GateRole::None
+    None
 }
 
 // "The PAND row for any passing of time becomes one input for every failure and repair of a basic element in the tree".
-pub fn pand_role(number: u64, first: u64, second: u64, of: u64, signal: Signal) -> GateRole
+pub fn pand_role(number: u64, first: u64, second: u64, of: u64, signal: Signal) -> Option<GateRole>
     ensures { gate_is result ≡ pand_role (gate_of number first second) (meant_as of signal) }
 {
     let role = gate_role(number, first, second, of, signal);
     match signal {
-        Signal::Fl => GateRole::Tick,
-        Signal::Up => GateRole::Tick,
+        Signal::Fl => Some(GateRole::Tick),
+        Signal::Up => Some(GateRole::Tick),
         Signal::F => role,
         Signal::U => role,
         Signal::R => role,
@@ -210,15 +201,15 @@ fn one_less(n: u64, sf: u64, su: u64, c: u64) -> u64
 }
 
 // The gate is down where at least n inputs are: n is 2 for AND and 1 for OR.
-pub fn count_move(n: u64, s: u64, role: GateRole) -> Move
+pub fn count_move(n: u64, s: u64, role: Option<GateRole>) -> Option<Move>
     requires { s < max_elements }
     ensures { move_is result ≡ bound (gate_is role) (λ x. map_some plain_move (count_move n (s / 6) (s / 3 % 2) (s % 3) x)) }
 {
     let sf = s / 6;
     let su = s / 3 % 2;
     let c = s % 3;
-    match role {
-        GateRole::None => to(false, 0),
+    let r = role?;
+    match r {
         GateRole::OwnF => to((sf == 1) & (n <= c), su * 3 + c),
         GateRole::OwnU => to((su == 1) & (c < n), sf * 6 + c),
         GateRole::F0 => to(true, one_more(n, sf, su, c)),
@@ -306,15 +297,15 @@ fn time_passes(x: u64, y: u64, st: u64) -> u64
     pand_state(x, y, st)
 }
 
-pub fn pand_move(s: u64, role: GateRole) -> Move
+pub fn pand_move(s: u64, role: Option<GateRole>) -> Option<Move>
     requires { s < max_elements }
     ensures { move_is result ≡ bound (gate_is role) (λ x. map_some plain_move (pand_move (s / 10) (s / 5 % 2) (s % 5) x)) }
 {
     let x = s / 10;
     let y = s / 5 % 2;
     let st = s % 5;
-    match role {
-        GateRole::None => to(false, 0),
+    let r = role?;
+    match r {
         GateRole::OwnF => to(st == 1, pand_state(x, y, 2)),
         GateRole::OwnU => to(st == 3, pand_state(x, y, 0)),
         GateRole::F0 => to(true, first_fails(x, y, st)),
@@ -326,15 +317,15 @@ pub fn pand_move(s: u64, role: GateRole) -> Move
 }
 
 // ---- RBOX of n inputs: broken[i] is digit n - i of the state, busy digit 0.
-pub fn box_kind(signal: Signal) -> Kind
+pub fn box_kind(signal: Signal) -> Option<Kind>
     ensures { (i : ℕ) → kind_is result ≡ map_some box_kind (box_hears (signal_is signal) i) }
 {
     match signal {
-        Signal::Fl => Kind::In,
-        Signal::Up => Kind::In,
-        Signal::F => Kind::None,
-        Signal::U => Kind::None,
-        Signal::R => Kind::Uout,
+        Signal::Fl => Some(Kind::In),
+        Signal::Up => Some(Kind::In),
+        Signal::F => None,
+        Signal::U => None,
+        Signal::R => Some(Kind::Uout),
     }
 }
 
@@ -360,7 +351,7 @@ fn earlier(n: u64, s: u64, i: u64) -> bool
 }
 
 // The box is not busy, and input i is the first of those that are broken: its repair begins.
-fn begins(n: u64, s: u64, i: u64) -> Move
+fn begins(n: u64, s: u64, i: u64) -> Option<Move>
     requires { (i < n) × (n ≤ max_inputs) }
     ensures { move_is result ≡ map_some plain_move (box_move n s (box-r i)) }
 {
@@ -370,7 +361,7 @@ fn begins(n: u64, s: u64, i: u64) -> Move
     to(!busy & (broken & !before), sets::union(s, 1))
 }
 
-pub fn box_move(n: u64, s: u64, signal: Signal, i: u64) -> Move
+pub fn box_move(n: u64, s: u64, signal: Signal, i: u64) -> Option<Move>
     requires { (i < n) × (n ≤ max_inputs) }
     ensures { move_is result ≡ bound (box_hears (signal_is signal) i) (λ x. map_some plain_move (box_move n s x)) }
 {
@@ -378,8 +369,8 @@ pub fn box_move(n: u64, s: u64, signal: Signal, i: u64) -> Move
     match signal {
         Signal::Fl => to(true, sets::union(s, place)),
         Signal::Up => to(true, sets::minus(sets::minus(s, place), 1)),
-        Signal::F => to(false, 0),
-        Signal::U => to(false, 0),
+        Signal::F => None,
+        Signal::U => None,
         Signal::R => begins(n, s, i),
     }
 }

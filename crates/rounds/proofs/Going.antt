@@ -1,6 +1,6 @@
 -- The rounds one after the other: what is left to simulate from here on is what is left from round 0 on.
 use mathlib.Core.Path.{◌≡◌, refl, sym, ◌∙◌, ap, ap₂, subst}
-use mathlib.Core.Bool.{Bool, true, false}
+use mathlib.Core.Bool.{true≢false}
 use mathlib.Core.Option.{Option, none, some}
 use mathlib.Core.List.{List}
 use Prim.Native.Nat.{ℕ, zero, suc, ◌+◌, ◌-◌, ◌≤◌, ◌<◌}
@@ -9,11 +9,11 @@ use native.Mathlib.Omega.{arith}
 use lib.ListN.{length, replicate, length-replicate}
 use lib.IntN.{ℤ, pos}
 use Rattle.answer.specs.Limits.{max_clocks, max_components}
-use Rattle.answer.specs.Told.{Told, told, Answer, answered, refused, as_refused, Shot, fired, quiet, says_ended}
+use Rattle.answer.specs.Told.{Answer, answered, refused, Shot, fired, quiet}
 use Rattle.answer.specs.declared.Refusal.{Refusal}
 use Rattle.answer.specs.declared.State.{State}
 use Rattle.answer.specs.declared.Simulated.{Simulated}
-use Rattle.answer.specs.declared.Ended.TheVariants as OfEnded
+use Rattle.std.specs.Prelude.{Some, None, Result, Ok, Err}
 use Rattle.answer.specs.State.{parts_of}
 use Rattle.model.specs.Model.{Model}
 use Rattle.iosa.specs.Start.{start_all, started_all}
@@ -30,10 +30,8 @@ use Rattle.simulation.specs.Simulate.{Supply, Round, close_of, and_then, Simulat
 use Rattle.feed.specs.Supply.{Lent, Supplies}
 use Rattle.feed.proofs.Feeding.{count-tick}
 use Rattle.feed.specs.declared.Source.{Source}
-use Rattle.rounds.specs.declared.Closed.{Closed}
-use Rattle.rounds.specs.declared.Closing.{Closing}
-use Rattle.rounds.specs.declared.Closing.TheVariants.{Done, Quiet, Refused}
-use Rattle.rounds.specs.Rounds.{says_closing, Posed, Placed, RoundIs, Closes, later_of, Later, CloseCall, LaterCall, Runnable, Runs, refused_with, RoundsCall, FirstCall, RunCall}
+use Rattle.rounds.specs.declared.Stand.{Stand}
+use Rattle.rounds.specs.Rounds.{Posed, Placed, RoundIs, Closing, Closes, later_of, Later, CloseCall, LaterCall, Runnable, Runs, RoundsCall, FirstCall, RunCall}
 
 -- ---- one later round of those that are left
 module _ (m : Model) (p : Supply) (n r : ℕ) (q : Round) where
@@ -80,43 +78,13 @@ no-round m p n r q e = rw (e, rounds_from)
 abbrev ended : State → List ℤ → List ℕ → Round
 ended x vs ts = record { state = parts_of x; values = vs; taken = ts }
 
-round_is : (t : List ℕ) (l : Lent) (p : Supply) (q : Round) (r : Closed) (at used : List ℕ) (vs : List ℤ) → Posed t r.state vs → RoundIs l p q r at used vs
-    → ended r.state vs q.taken ≡ q
+round_is : (t : List ℕ) (l : Lent) (p : Supply) (q : Round) (x : State) (at used : List ℕ) (vs : List ℤ) → Posed t x vs → RoundIs l p q x at used vs
+    → ended x vs q.taken ≡ q
 unfolding state_of
-round_is t l p q r at used vs k i =
-    let c : r.state.count ≡ length q.state = ap (λ (x : State). x.count) i.state in
-    let few : length q.state ≤ max_components = omega (arith, c, count-few t r.state k.ready.standing) in
+round_is t l p q x at used vs k i =
+    let c : x.count ≡ length q.state = ap (λ (y : State). y.count) i.state in
+    let few : length q.state ≤ max_components = omega (arith, c, count-few t x k.ready.standing) in
     ap₂ (λ a b. record { state = a; values = b; taken = q.taken }) (ap parts_of i.state ∙ state-numbers q.state few) i.values
-
--- no two of the three endings of a round are one
-not-quiet : {c : Closing} → c ≡ Done → c ≡ Quiet → ⊥
-not-quiet e f = let z : ◌≡◌ {A = ℕ} 0 1 = cc in omega arith
-
-not-refused : {c : Closing} {q : Refusal} → c ≡ Done → c ≡ Refused q → ⊥
-not-refused e f = let z : ◌≡◌ {A = ℕ} 0 1 = cc in omega arith
-
-quiet-not-refused : {c : Closing} {q : Refusal} → c ≡ Quiet → c ≡ Refused q → ⊥
-quiet-not-refused e f = let z : ◌≡◌ {A = ℕ} 0 1 = cc in omega arith
-
-done-not-told : (c : Closing) (f : Told) → says_closing c ≡ some (refused f) → c ≡ Done → ⊥
-unfolding says_closing
-done-not-told c f h e = let q : some (answered true) ≡ some (refused f) = ap says_closing (sym e) ∙ h in let z : ◌≡◌ {A = ℕ} 0 1 = cc in omega arith
-
-quiet-not-told : (c : Closing) (f : Told) → says_closing c ≡ some (refused f) → c ≡ Quiet → ⊥
-unfolding says_closing
-quiet-not-told c f h e = let q : some (answered false) ≡ some (refused f) = ap says_closing (sym e) ∙ h in let z : ◌≡◌ {A = ℕ} 0 1 = cc in omega arith
-
--- the refusal of a round is the simulation's
-refusal_is : (c : Closing) (q : Refusal) (f : Told) (r : Simulated) (vs : List ℤ) → says_closing c ≡ some (refused f) → c ≡ Refused q → r ≡ refused_with q → Runs (refused f) r vs
-unfolding says_closing says_ended
-refusal_is c q f r vs h e i = record {
-  ended = ap (λ (s : Simulated). says_ended s.ended) i ∙ ap as_refused (go (told q) refl (ap says_closing (sym e) ∙ h));
-  state = ap (λ (s : Simulated). s.state) i;
-}
-  where
-    go : (o : Option Told) → told q ≡ o → ◌≡◌ {A = Option (Answer Bool)} (as_refused o) (some (refused f)) → told q ≡ some f
-    go none k h = let z : ◌≡◌ {A = ℕ} 0 1 = cc in absurd (omega arith)
-    go (some g) k h = let z : g ≡ f = cc in k ∙ ap some z
 
 -- ---- the loop
 -- x₀, at₀, used₀ and was are the state, places and values after round 0, and the others those after round k
@@ -138,21 +106,20 @@ going-none t l n x at used vs c k = record {
 module _ (t : List ℕ) (l : Lent) (n : ℕ) (x₀ : State) (at₀ used₀ : List ℕ) (was : List ℤ) (x : State) (at used : List ℕ) (vs : List ℤ) (k : ℕ)
     (w : Going t l n x₀ at₀ used₀ was x at used vs k) where
   -- the rounds are all done
-  pub going_end : n ≤ k → (r : Simulated) → r ≡ record { ended = OfEnded.Rounds k; state = x } → RoundsCall t l n x₀ at₀ used₀ was r vs
-  unfolding says_ended
-  going_end h r e = record {
+  pub going_end : n ≤ k → RoundsCall t l n x₀ at₀ used₀ was (Ok (record { rounds = n; state = x })) vs
+  going_end h = record {
     runs = λ p ts m.
         let g = w.along p ts m in
         let z : n - k ≡ 0 = omega arith in
-        subst (λ a. Runs a r vs) (sym (no-round (model_of t) p (n - k) k (ended x vs g.0) z) ∙ g.2) (record {
-          ended = ap (λ (q : Simulated). says_ended q.ended) e;
-          state = ap (λ (q : Simulated). q.state) e ∙ w.posed.zeros;
-          values = refl;
-        });
+        let e : n ≡ k = omega (arith, w.below) in
+        subst (λ a. Runs a (Ok (record { rounds = n; state = x })) vs) (sym (no-round (model_of t) p (n - k) k (ended x vs g.0) z) ∙ g.2)
+        (record { rounds = e; state = w.posed.zeros; values = refl });
   }
 
-  module _ (h : k < n) (from : Source) (c : Closed) (at' used' : List ℕ) (us : List ℤ)
-      (call : LaterCall t l (record { from = from; round = k + 1; state = x; resets = 0 }) at used vs c at' used' us) where
+  module _ (h : k < n) (from : Source) (at' used' : List ℕ) (us : List ℤ) where
+    abbrev stand : Stand
+    stand = record { from = from; round = k + 1; state = x; resets = 0 }
+
     -- what is left is one round and the others
     Left : (p : Supply) (ts : List ℕ) → Type 0
     Left p ts = (ws : List ℕ) × Supplies l p ws at used
@@ -171,58 +138,55 @@ module _ (t : List ℕ) (l : Lent) (n : ℕ) (x₀ : State) (at₀ used₀ : Lis
               ∙ g.2,
         )
 
-    pub going_more : c.closing ≡ Done → Going t l n x₀ at₀ used₀ was c.state at' used' us (k + 1)
+    pub going_more : (y : State) → LaterCall t l stand at used vs (Ok (Some y)) at' used' us → Going t l n x₀ at₀ used₀ was y at' used' us (k + 1)
     unfolding Left
-    going_more d = record { below = omega arith; placed = call.placed; posed = call.posed; along = λ p ts m. on p ts (left p ts m) }
+    going_more y call = record { below = omega arith; placed = call.placed; posed = call.posed; along = λ p ts m. on p ts (left p ts m) }
       where
         on : (p : Supply) (ts : List ℕ) → Left p ts
             → (xs : List ℕ) × Supplies l p xs at' used'
-            × (rounds_from (model_of t) p (n - (k + 1)) (k + 1) (ended c.state us xs) ≡ rounds_from (model_of t) p n 0 (ended x₀ was ts))
+            × (rounds_from (model_of t) p (n - (k + 1)) (k + 1) (ended y us xs) ≡ rounds_from (model_of t) p n 0 (ended x₀ was ts))
         on p ts g = go (later_of (model_of t) p (k + 1) (parts_of x) vs g.0) (call.goes p g.0 g.1) g.2
           where
-            go : (o : Answer (Option Round)) → Later o l p vs c at' used' us
+            go : (o : Answer (Option Round)) → Later o l p vs (Ok (Some y)) at' used' us
                 → onward (model_of t) p (n - (k + 1)) k (ended x vs g.0) o ≡ rounds_from (model_of t) p n 0 (ended x₀ was ts)
                 → (xs : List ℕ) × Supplies l p xs at' used'
-                × (rounds_from (model_of t) p (n - (k + 1)) (k + 1) (ended c.state us xs) ≡ rounds_from (model_of t) p n 0 (ended x₀ was ts))
+                × (rounds_from (model_of t) p (n - (k + 1)) (k + 1) (ended y us xs) ≡ rounds_from (model_of t) p n 0 (ended x₀ was ts))
             go (answered (some q)) i e = (
               q.taken,
               i.supplies,
-              ap₂ (rounds_from (model_of t) p (n - (k + 1))) (add-one k) (round_is t l p q c at' used' us call.posed i) ∙ e,
+              ap₂ (rounds_from (model_of t) p (n - (k + 1))) (add-one k) (round_is t l p q y at' used' us call.posed i) ∙ e,
             )
-            go (answered none) i e = absurd (not-quiet d i.0)
-            go (refused f) i e = absurd (done-not-told c.closing f i d)
+            go (answered none) i e = absurd (true≢false i.0)
+            go (refused f) i e = absurd i
 
-    pub going-quiet : c.closing ≡ Quiet → (r : Simulated) → r ≡ record { ended = OfEnded.Rounds k; state = x } → RoundsCall t l n x₀ at₀ used₀ was r us
-    unfolding says_ended Left
-    going-quiet d r e = record {
-      runs = λ p ts m.
-          let g = left p ts m in go p ts (later_of (model_of t) p (k + 1) (parts_of x) vs g.0) (call.goes p g.0 g.1) g.0 g.2;
-    }
-      where
-        go : (p : Supply) (ts : List ℕ) (o : Answer (Option Round)) → Later o l p vs c at' used' us → (ws : List ℕ)
-            → onward (model_of t) p (n - (k + 1)) k (ended x vs ws) o ≡ rounds_from (model_of t) p n 0 (ended x₀ was ts)
-            → Runs (rounds_from (model_of t) p n 0 (ended x₀ was ts)) r us
-        go p ts (answered (some q)) i ws q' = absurd (not-quiet i.closing d)
-        go p ts (answered none) i ws q' = subst (λ a. Runs a r us) q' (record {
-          ended = ap (λ (q : Simulated). says_ended q.ended) e;
-          state = ap (λ (q : Simulated). q.state) e ∙ w.posed.zeros;
-          values = i.1;
-        })
-        go p ts (refused f) i ws q' = absurd (quiet-not-told c.closing f i d)
-
-    pub going-refused : (q : Refusal) → c.closing ≡ Refused q → (r : Simulated) → r ≡ refused_with q → RoundsCall t l n x₀ at₀ used₀ was r us
+    pub going-quiet : LaterCall t l stand at used vs (Ok None) at' used' us → RoundsCall t l n x₀ at₀ used₀ was (Ok (record { rounds = k; state = x })) us
     unfolding Left
-    going-refused q d r e = record {
+    going-quiet call = record {
       runs = λ p ts m.
           let g = left p ts m in go p ts (later_of (model_of t) p (k + 1) (parts_of x) vs g.0) (call.goes p g.0 g.1) g.0 g.2;
     }
       where
-        go : (p : Supply) (ts : List ℕ) (o : Answer (Option Round)) → Later o l p vs c at' used' us → (ws : List ℕ)
+        go : (p : Supply) (ts : List ℕ) (o : Answer (Option Round)) → Later o l p vs (Ok None) at' used' us → (ws : List ℕ)
             → onward (model_of t) p (n - (k + 1)) k (ended x vs ws) o ≡ rounds_from (model_of t) p n 0 (ended x₀ was ts)
-            → Runs (rounds_from (model_of t) p n 0 (ended x₀ was ts)) r us
-        go p ts (answered (some o)) i ws q' = absurd (not-refused i.closing d)
-        go p ts (answered none) i ws q' = absurd (quiet-not-refused i.0 d)
-        go p ts (refused f) i ws q' = subst (λ a. Runs a r us) q' (refusal_is c.closing q f r us i d e)
+            → Runs (rounds_from (model_of t) p n 0 (ended x₀ was ts)) (Ok (record { rounds = k; state = x })) us
+        go p ts (answered (some q)) i ws q' = absurd i
+        go p ts (answered none) i ws q' =
+            subst (λ a. Runs a (Ok (record { rounds = k; state = x })) us) q' (record { rounds = refl; state = w.posed.zeros; values = i.1 })
+        go p ts (refused f) i ws q' = absurd i
+
+    pub going-refused : (q : Refusal) → LaterCall t l stand at used vs (Err q) at' used' us → RoundsCall t l n x₀ at₀ used₀ was (Err q) us
+    unfolding Left
+    going-refused q call = record {
+      runs = λ p ts m.
+          let g = left p ts m in go p ts (later_of (model_of t) p (k + 1) (parts_of x) vs g.0) (call.goes p g.0 g.1) g.0 g.2;
+    }
+      where
+        go : (p : Supply) (ts : List ℕ) (o : Answer (Option Round)) → Later o l p vs (Err q) at' used' us → (ws : List ℕ)
+            → onward (model_of t) p (n - (k + 1)) k (ended x vs ws) o ≡ rounds_from (model_of t) p n 0 (ended x₀ was ts)
+            → Runs (rounds_from (model_of t) p n 0 (ended x₀ was ts)) (Err q) us
+        go p ts (answered (some o)) i ws q' = absurd i
+        go p ts (answered none) i ws q' = absurd i.0
+        go p ts (refused f) i ws q' = subst (λ a. Runs a (Err q) us) q' i
 
 -- ---- round 0
 zero-at : (n x : ℕ) → value_of (replicate n (pos 0)) x ≡ pos 0
@@ -248,7 +212,7 @@ module _ (t : List ℕ) (k : Runnable t) (x : State) (e : x ≡ state_of (start_
     ticking = rw v (record { count = length-replicate {A = ℤ} max_clocks (pos 0); each = λ y h. subst Tick (sym (zero-at max_clocks y)) (count-tick 0 (omega arith)) });
   }
 
-  pub first-closes : (l : Lent) (from : Source) (at used : List ℕ) (R : ℕ) → R ≡ started_all (model_of t) → (vs : List ℤ) → vs ≡ no_values → (r : Closed) (at' used' : List ℕ) (us : List ℤ)
+  pub first-closes : (l : Lent) (from : Source) (at used : List ℕ) (R : ℕ) → R ≡ started_all (model_of t) → (vs : List ℤ) → vs ≡ no_values → (r : Closing) (at' used' : List ℕ) (us : List ℤ)
       → CloseCall t l (record { from = from; round = 0; state = x; resets = R }) at used vs r at' used' us → FirstCall t l at used r at' used' us
   unfolding round_zero
   first-closes l from at used R er vs v r at' used' us c = record {
@@ -259,6 +223,7 @@ module _ (t : List ℕ) (k : Runnable t) (x : State) (e : x ≡ state_of (start_
         (c.closes p none_taken m);
     placed = c.placed;
     posed = c.posed;
+    ticking = c.ticking;
   }
 
 pub no-values-count : {vs : List ℤ} → vs ≡ no_values → length vs ≡ max_clocks
@@ -266,29 +231,23 @@ unfolding no_values
 no-values-count e = ap length e ∙ length-replicate {A = ℤ} max_clocks (pos 0)
 
 -- ---- all rounds
-module _ (t : List ℕ) (l : Lent) (n : ℕ) (at used : List ℕ) (b : Closed) (at' used' : List ℕ) (vs : List ℤ) (first : FirstCall t l at used b at' used' vs)
-    (r : Simulated) (us : List ℤ) where
-  by_first : ((p : Supply) (o : Answer Round) → Closes o l p b at' used' vs → Runs (and_then o (rounds_from (model_of t) p n 0)) r us) → RunCall t l n at used r us
+module _ (t : List ℕ) (l : Lent) (n : ℕ) (at used : List ℕ) (at' used' : List ℕ) (vs : List ℤ) where
+  by_first : (b : Closing) (first : FirstCall t l at used b at' used' vs) (r : Result Simulated Refusal) (us : List ℤ)
+      → ((p : Supply) (o : Answer Round) → Closes o l p b at' used' vs → Runs (and_then o (rounds_from (model_of t) p n 0)) r us) → RunCall t l n at used r us
   unfolding simulate_of
-  by_first go = record { runs = λ p m. go p (round_zero (model_of t) p) (first.closes p m) }
+  by_first b first r us go = record { runs = λ p m. go p (round_zero (model_of t) p) (first.closes p m) }
 
-  pub run_on : b.closing ≡ Done → RoundsCall t l n b.state at' used' vs r us → RunCall t l n at used r us
-  run_on d c = by_first go
+  pub run_on : (y : State) → FirstCall t l at used (Ok y) at' used' vs → (r : Result Simulated Refusal) (us : List ℤ) → RoundsCall t l n y at' used' vs r us
+      → RunCall t l n at used r us
+  run_on y first r us c = by_first (Ok y) first r us go
     where
-      go : (p : Supply) (o : Answer Round) → Closes o l p b at' used' vs → Runs (and_then o (rounds_from (model_of t) p n 0)) r us
-      go p (answered q) i = subst (λ a. Runs a r us) (ap (rounds_from (model_of t) p n 0) (round_is t l p q b at' used' vs first.posed i)) (c.runs p q.taken i.supplies)
-      go p (refused g) i = absurd (done-not-told b.closing g i d)
+      go : (p : Supply) (o : Answer Round) → Closes o l p (Ok y) at' used' vs → Runs (and_then o (rounds_from (model_of t) p n 0)) r us
+      go p (answered q) i = subst (λ a. Runs a r us) (ap (rounds_from (model_of t) p n 0) (round_is t l p q y at' used' vs first.posed i)) (c.runs p q.taken i.supplies)
+      go p (refused g) i = absurd i
 
-  pub run-not : b.closing ≡ Quiet → RunCall t l n at used r us
-  run-not d = by_first go
+  pub run-refused : (q : Refusal) → FirstCall t l at used (Err q) at' used' vs → RunCall t l n at used (Err q) vs
+  run-refused q first = by_first (Err q) first (Err q) vs go
     where
-      go : (p : Supply) (o : Answer Round) → Closes o l p b at' used' vs → Runs (and_then o (rounds_from (model_of t) p n 0)) r us
-      go p (answered q) i = absurd (not-quiet i.closing d)
-      go p (refused g) i = absurd (quiet-not-told b.closing g i d)
-
-  pub run-refused : (q : Refusal) → b.closing ≡ Refused q → r ≡ refused_with q → RunCall t l n at used r us
-  run-refused q d e = by_first go
-    where
-      go : (p : Supply) (o : Answer Round) → Closes o l p b at' used' vs → Runs (and_then o (rounds_from (model_of t) p n 0)) r us
-      go p (answered o) i = absurd (not-refused i.closing d)
-      go p (refused g) i = refusal_is b.closing q g r us i d e
+      go : (p : Supply) (o : Answer Round) → Closes o l p (Err q) at' used' vs → Runs (and_then o (rounds_from (model_of t) p n 0)) (Err q) vs
+      go p (answered o) i = absurd i
+      go p (refused g) i = i

@@ -5,7 +5,7 @@ use Prim.Native.Nat.{ℕ}
 use native.Mathlib.Omega.{arith}
 use lib.IntN.{ℤ, pos}
 use Rattle.laws.proofs.TickLaws.{count-of}
-use Rattle.answer.specs.Told.{tell, answered, refused, fired, quiet}
+use Rattle.answer.specs.Told.{tell, values_at, answered, refused, fired, quiet}
 use Rattle.model.specs.Model.{Model, declared}
 use Rattle.model.specs.WellFormed.{WellFormed}
 use Rattle.iosa.specs.Automaton.{Conforming, Joinable}
@@ -20,9 +20,9 @@ use Rattle.iosa.proofs.Settling.ProductOfMany.{wells}
 use Rattle.timing.proofs.Timing.Enabling.{declared-below}
 use Rattle.timing.proofs.Timing.Shots.{waiting, fire-is-a-row}
 use Rattle.timing.proofs.Timing.Values.{aged-falls, falls-in-ticks}
-use Rattle.firing.specs.declared.Choice.{Choice}
-use Rattle.firing.specs.declared.Choice.TheVariants.{Negative, Shared, Quiet, Fires}
-use Rattle.firing.specs.Choices.{choice_of, answer_of}
+use Rattle.std.specs.Prelude.{Some, None, Ok, Err}
+use Rattle.answer.specs.declared.Refusal.{Refusal}
+use Rattle.firing.specs.Choices.{Choice, choice_of, answer_of}
 use Rattle.firing.proofs.Choosing.{timed-by-choice, fires-chosen}
 
 -- what a shot keeps
@@ -33,19 +33,15 @@ pub record Kept (m : Model) (vs : List ℤ) (τ : Timing) : Type 0 where
 
 -- ---- what each choice answers
 module _ (m : Model) (s : List ℕ) (vs : List ℤ) where
-  answer-negative : (x : ℕ) → answer_of m s vs (Negative x) ≡ refused (tell 29 (x ∷ []))
+  answer-refused : (q : Refusal) → answer_of m s vs (Err q) ≡ refused (tell q.number (values_at q.place))
   unfolding answer_of
-  answer-negative x = refl
+  answer-refused q = refl
 
-  answer-shared : (x : ℕ) → answer_of m s vs (Shared x) ≡ refused (tell 30 (x ∷ []))
-  unfolding answer_of
-  answer-shared x = refl
-
-  answer-quiet : answer_of m s vs Quiet ≡ answered (quietly s vs)
+  answer-quiet : answer_of m s vs (Ok None) ≡ answered (quietly s vs)
   unfolding answer_of
   answer-quiet = refl
 
-  answer-fires : (x : ℕ) → answer_of m s vs (Fires x) ≡ answered (fire m s vs x)
+  answer-fires : (x : ℕ) → answer_of m s vs (Ok (Some x)) ≡ answered (fire m s vs x)
   unfolding answer_of
   answer-fires x = refl
 
@@ -58,7 +54,7 @@ pub shot-keeps : (m : Model) → WellFormed m → Conforming m → Joinable m �
 shot-keeps [] well good fit s w vs k τ e = absurd (omega (arith, well.some))
 shot-keeps (c ∷ cs) well good fit s w vs k τ e = go (choice_of (enabling_all (c ∷ cs) s) vs) refl (sym (timed-by-choice (c ∷ cs) s vs (enabling_all (c ∷ cs) s)) ∙ e)
   where
-    fires : (x : ℕ) → choice_of (enabling_all (c ∷ cs) s) vs ≡ Fires x → fire (c ∷ cs) s vs x ≡ τ → Kept (c ∷ cs) vs τ
+    fires : (x : ℕ) → choice_of (enabling_all (c ∷ cs) s) vs ≡ Ok (Some x) → fire (c ∷ cs) s vs x ≡ τ → Kept (c ∷ cs) vs τ
     fires x q f =
         let chosen = fires-chosen (enabling_all (c ∷ cs) s) vs x q in
         let v = count-of (value_of vs x) chosen.from_zero in
@@ -75,7 +71,6 @@ shot-keeps (c ∷ cs) well good fit s w vs k τ e = go (choice_of (enabling_all 
     go d q h = by d q (sym (ap (answer_of (c ∷ cs) s vs) q) ∙ h)
       where
         by : (d : Choice) → choice_of (enabling_all (c ∷ cs) s) vs ≡ d → answer_of (c ∷ cs) s vs d ≡ answered τ → Kept (c ∷ cs) vs τ
-        by (Negative x) q h = absurd (no_answer (sym (answer-negative (c ∷ cs) s vs x) ∙ h))
-        by (Shared x) q h = absurd (no_answer (sym (answer-shared (c ∷ cs) s vs x) ∙ h))
-        by Quiet q h = subst (Kept (c ∷ cs) vs) (same_answer (sym (answer-quiet (c ∷ cs) s vs) ∙ h)) (record { within = w; ticks = k; rests = λ _. refl })
-        by (Fires x) q h = fires x q (same_answer (sym (answer-fires (c ∷ cs) s vs x) ∙ h))
+        by (Err f) q h = absurd (no_answer (sym (answer-refused (c ∷ cs) s vs f) ∙ h))
+        by (Ok None) q h = subst (Kept (c ∷ cs) vs) (same_answer (sym (answer-quiet (c ∷ cs) s vs) ∙ h)) (record { within = w; ticks = k; rests = λ _. refl })
+        by (Ok (Some x)) q h = fires x q (same_answer (sym (answer-fires (c ∷ cs) s vs x) ∙ h))

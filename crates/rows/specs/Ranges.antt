@@ -1,16 +1,19 @@
 -- Searches over a range of rows of the system.
 use Rattle.std.proofs.Math.Option.{Option, none, some}
-use Rattle.std.specs.Prelude.{List, ℕ, ◌≤◌, ◌<◌, eqb}
+use Rattle.std.specs.Prelude as Answered
+use Rattle.std.specs.Prelude.{Some, None, List, ℕ, ◌≤◌, ◌<◌, eqb}
 use Rattle.laws.specs.Sets.{has}
 use Rattle.laws.specs.Search.{seek, when}
 use Rattle.answer.specs.Limits.{max_actions}
 use Rattle.layout.specs.Layout.{action_at, guard_at}
-use Rattle.rows.specs.declared.Found.{Found}
-use Rattle.rows.specs.declared.Found.TheVariants.{At, Nothing}
+
+-- what the engine answers of a search
+abbrev pub Found : Type 0
+Found = Answered.Option ℕ
 
 unfoldable pub found_of : Option ℕ → Found
-found_of none = Nothing
-found_of (some k) = At k
+found_of none = None
+found_of (some k) = Some k
 
 -- the first row of lo .. hi with the action a, with the guard g, with an action of the set
 unfoldable pub by_action : List ℕ → ℕ → ℕ → ℕ → Option ℕ

@@ -4,11 +4,12 @@ use mathlib.Core.Bool.{true, false, not}
 use mathlib.Core.Option.{Option, none, some}
 use mathlib.Core.List.{List, [], ◌∷◌}
 use Prim.Native.Nat.{ℕ, ◌≤◌, ◌<◌}
+use Rattle.std.specs.Prelude.{Result}
 use lib.ListN.{length}
 use borrow.Author.Tests.{lt-ltb, le-ltb}
 use Rattle.laws.specs.Search.{when, or_else}
 use Rattle.answer.specs.Limits.{max_budget}
-use Rattle.answer.specs.Told.{Told, tell, told, Answer, answered, refused, as_refused, says_outcome, says_verdict}
+use Rattle.answer.specs.Told.{Told, tell, Answer, answered, refused}
 use Rattle.answer.specs.declared.State.{State}
 use Rattle.answer.specs.declared.Refusal.{Refusal}
 use Rattle.answer.specs.declared.Stepped.{Stepped}
@@ -20,22 +21,13 @@ use Rattle.iosa.specs.Stepped.{Stepping}
 use Rattle.iosa.specs.Settle.{settle, play, begin_fault, budget_fault, trace_fault, settle_of, settle_list_of}
 use Rattle.iosa.specs.Orders.{Settling}
 use Rattle.settling.specs.Gives.{StepAnswers, SettleAnswers, by_rule_of, by_name_of}
-use Rattle.run.specs.Refusals.{refused_step, refused_settling}
 
 -- ---- an answer in hand
-pub step-answers : (v w : Answer Stepping) (x : State) (r : Stepped) → v ≡ w → StepAnswers w x r → StepAnswers v x r
+pub step-answers : (v w : Answer Stepping) (x : State) (r : Result Stepped Refusal) → v ≡ w → StepAnswers w x r → StepAnswers v x r
 step-answers v w x r e g = subst (λ (u : Answer Stepping). StepAnswers u x r) (sym e) g
 
-pub settle-answers : (v w : Answer (Settling (List ℕ))) (x : State) (r : Settled) → v ≡ w → SettleAnswers w x r → SettleAnswers v x r
+pub settle-answers : (v w : Answer (Settling (List ℕ))) (x : State) (r : Result Settled Refusal) → v ≡ w → SettleAnswers w x r → SettleAnswers v x r
 settle-answers v w x r e g = subst (λ (u : Answer (Settling (List ℕ))). SettleAnswers u x r) (sym e) g
-
-pub refuses-step : (q : Refusal) (f : Told) (x : State) → told q ≡ some f → StepAnswers (refused f) x (refused_step q)
-unfolding says_outcome
-refuses-step q f x e = (ap as_refused e, refl)
-
-pub refuses-settling : (q : Refusal) (f : Told) (x : State) → told q ≡ some f → SettleAnswers (refused f) x (refused_settling q)
-unfolding says_verdict
-refuses-settling q f x e = (ap as_refused e, refl, refl, refl)
 
 -- ---- the model's calls, refusal by refusal
 pub or-first {ℓ} : {A : Type ℓ} (o p : Option A) (x : A) → o ≡ some x → or_else o p ≡ some x

@@ -6,8 +6,8 @@ use mathlib.Core.List.{List}
 use Prim.Native.Nat.{ℕ}
 use Rattle.laws.proofs.SearchLaws.{or_else_none}
 use Rattle.answer.specs.Told.{Told, told, says_checked, refused}
-use Rattle.answer.specs.declared.Checked.{Checked}
-use Rattle.answer.specs.declared.Checked.TheVariants.{Fine, Refused}
+use Rattle.answer.specs.Told.{Checked}
+use Rattle.std.specs.Prelude.{Ok, Err}
 use Rattle.answer.specs.declared.Refusal.{Refusal}
 use Rattle.answer.specs.declared.State.{State}
 use Rattle.answer.specs.State.{parts_of}
@@ -47,8 +47,8 @@ pub record Passed (t : List ℕ) (check : Model → Option Told) : Type 0 where
   pub none : check (model_of t) ≡ Option.none
 
 module _ (t : List ℕ) (check : Model → Option Told) (ch : Checked) (says : says_checked ch ≡ some (check_on t check)) where
-  pub passed : ch ≡ Fine → Passed t check
+  pub passed : ch ≡ (Ok tt) → Passed t check
   passed e = let p = fine-passes t check (ap says_checked (sym e) ∙ says) in record { image = p.0; none = p.1 }
 
-  pub refused-by : (q : Refusal) → ch ≡ Refused q → (f : Told) × (told q ≡ some f) × (check_on t check ≡ refused f)
+  pub refused-by : (q : Refusal) → ch ≡ Err q → (f : Told) × (told q ≡ some f) × (check_on t check ≡ refused f)
   refused-by q e = refused-tells t check q (ap says_checked (sym e) ∙ says)

@@ -12,8 +12,7 @@ use Rattle.model.specs.Text.{lf, tab}
 use Rattle.model.specs.Reading.{Scan, is, stops, got, then, exactly, the_byte, field, number}
 use Rattle.fields.proofs.ScanLaws.{exactly-end, exactly-stop, byte-here, byte-other, then-stops, then_is}
 use Rattle.fields.specs.declared.Cursor.{Cursor}
-use Rattle.fields.specs.declared.NumberScan.{NumberScan}
-use Rattle.fields.specs.declared.NumberScan.TheVariants as OfNumber
+use Rattle.std.specs.Prelude.{Result, Ok, Err}
 use Rattle.fields.specs.Fields.{got_number}
 use Rattle.simulation.specs.Samples.{sample_at, samples_at, line_at}
 use Rattle.samples.specs.Lines.{done, Left, over, more, LineIs, LineBad}
@@ -73,16 +72,16 @@ module _ (t : List ℕ) (at₀ at : ℕ) (w : Turns t at₀ at) where
   pub turns-lf : at < length t → get_or t at 0 ≡ lf → got tt (drop (at + 1) t) ≡ done (samples_at (length (drop at₀ t)) (drop at₀ t))
   turns-lf h e = sym (ap done (at-lf w.turns (drop at t) (drop (at + 1) t) (byte-here t at lf h e))) ∙ w.same
 
-  module _ (h : at < length t) (e : get_or t at 0 ≡ lf → ⊥) (r : NumberScan) (scan : got_number t r ≡ field sample_at (drop at t)) where
-    pub turns-missing : (m : Cursor) (v : ℕ) → r ≡ OfNumber.Missing m v → stops (drop m.at t) ≡ done (samples_at (length (drop at₀ t)) (drop at₀ t))
-    turns-missing m v q = go w.turns w.enough w.same
+  module _ (h : at < length t) (e : get_or t at 0 ≡ lf → ⊥) (r : Result (Cursor × ℕ) Cursor) (scan : got_number t r ≡ field sample_at (drop at t)) where
+    pub turns-missing : (m : Cursor) → r ≡ Err m → stops (drop m.at t) ≡ done (samples_at (length (drop at₀ t)) (drop at₀ t))
+    turns-missing m q = go w.turns w.enough w.same
       where
         go : (k : ℕ) → length (drop at t) ≤ k → done (samples_at k (drop at t)) ≡ done (samples_at (length (drop at₀ t)) (drop at₀ t))
             → stops (drop m.at t) ≡ done (samples_at (length (drop at₀ t)) (drop at₀ t))
         go zero l s = absurd (omega (arith, length-drop at t))
         go (suc k) l s = sym (ap done (at-stop k (drop at t) (drop at t) (drop m.at t) (byte-other t at lf h e) (sym scan ∙ ap (got_number t) q))) ∙ s
 
-    module _ (n : ℕ) (next : Cursor) (q : r ≡ OfNumber.Is next n) where
+    module _ (n : ℕ) (next : Cursor) (q : r ≡ Ok (next, n)) where
       read : field sample_at (drop at t) ≡ got n (drop next.at t)
       read = sym scan ∙ ap (got_number t) q
 

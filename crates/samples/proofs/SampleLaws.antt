@@ -13,7 +13,6 @@ use Rattle.model.specs.Reading.{Got, Scan, is, stops, got, then, exactly, field,
 use Rattle.fields.proofs.ScanLaws.{front, is_digit_lem}
 use Rattle.fields.proofs.NumberLaws.{more-shortens}
 use Rattle.simulation.specs.Samples.{ticking, sample_at}
-use Rattle.samples.specs.Lines.{got_ticks}
 
 sample-nil : sample_at [] ≡ stops []
 unfolding sample_at
@@ -43,7 +42,7 @@ module _ (t : List ℕ) (at : ℕ) where
   sample-nought h e z = rw (front t at h) (sym (sample-zero (get_or t at 0) (drop (at + 1) t) e z))
 
   pub sample-on : at < length t → is_digit (get_or t at 0) ≡ true → (get_or t at 0 ≡ byte0 → ⊥)
-      → got_ticks (is (more_digits (max_tick_digits - 1) (get_or t at 0 - byte0) (drop (at + 1) t))) (drop at t) ≡ sample_at (drop at t)
+      → ticking (more_digits (max_tick_digits - 1) (get_or t at 0 - byte0) (drop (at + 1) t)) (drop at t) ≡ sample_at (drop at t)
   sample-on h e z = rw (front t at h) (sym (sample-digit (get_or t at 0) (drop (at + 1) t) e z))
 
 -- ---- a sample's range

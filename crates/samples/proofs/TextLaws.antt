@@ -16,8 +16,8 @@ use Rattle.model.specs.Reading.{stops, got}
 use Rattle.fields.proofs.ScanLaws.{front}
 use Rattle.simulation.specs.Simulate.{and_then}
 use Rattle.simulation.specs.Samples.{line_at, lists_from, samples_of}
-use Rattle.answer.specs.declared.Checked.{Checked}
-use Rattle.answer.specs.declared.Checked.TheVariants as OfChecked
+use Rattle.answer.specs.Told.{Checked}
+use Rattle.std.specs.Prelude.{Ok, Err}
 use Rattle.samples.specs.declared.Spot.{Spot}
 use Rattle.samples.specs.Lines.{Left, over, LineBad}
 use Rattle.samples.specs.Text.{Begun, in-line, no_line, bad_line, Scans}
@@ -143,15 +143,15 @@ module _ (t : List ℕ) (d : ℕ) (f : List ℕ) (p : Spot) (x : ℕ) (w : Betwe
       }
 
   -- ---- the end
-  told-40 : (r : Checked) → r ≡ bad_line p.line → refused (tell 40 (p.line ∷ [])) ≡ samples_of d t → Scans (samples_of d t) t r f
+  told-40 : (r : Checked) → r ≡ Err (bad_line p.line) → refused (tell 40 (p.line ∷ [])) ≡ samples_of d t → Scans (samples_of d t) t r f
   unfolding says_checked told
   told-40 r e s = subst (λ a. Scans a t r f) s (ap says_checked e)
 
-  pub bad-here : x < max_clocks → has d x ≡ true → LineBad x t p.at → (r : Checked) → r ≡ bad_line p.line → Scans (samples_of d t) t r f
+  pub bad-here : x < max_clocks → has d x ≡ true → LineBad x t p.at → (r : Checked) → r ≡ Err (bad_line p.line) → Scans (samples_of d t) t r f
   bad-here h e l r q =
       told-40 r q (sym (ap (after w.found) (rest h ∙ bad-line-here d (max_clocks - (x + 1)) x p.line (drop p.at t) l.stop e l.line)) ∙ w.same)
 
-  pub bad-behind : max_clocks ≤ x → p.at < length t → (r : Checked) → r ≡ bad_line p.line → Scans (samples_of d t) t r f
+  pub bad-behind : max_clocks ≤ x → p.at < length t → (r : Checked) → r ≡ Err (bad_line p.line) → Scans (samples_of d t) t r f
   bad-behind h k r q =
       let z : max_clocks - x ≡ 0 = omega arith in
       let s : lists_from d (max_clocks - x) x p.line (drop p.at t) ≡ refused (tell 40 (p.line ∷ []))
@@ -159,7 +159,7 @@ module _ (t : List ℕ) (d : ℕ) (f : List ℕ) (p : Spot) (x : ℕ) (w : Betwe
       ∙ line-too-many d (max_clocks - x) x p.line (get_or t p.at 0) (drop (p.at + 1) t) z in
       told-40 r q (sym (ap (after w.found) s) ∙ w.same)
 
-  pub all-good : max_clocks ≤ x → length t ≤ p.at → (r : Checked) → r ≡ OfChecked.Fine → Scans (samples_of d t) t r f
+  pub all-good : max_clocks ≤ x → length t ≤ p.at → (r : Checked) → r ≡ (Ok tt) → Scans (samples_of d t) t r f
   unfolding says_checked
   all-good h k r q =
       let z : max_clocks - x ≡ 0 = omega arith in

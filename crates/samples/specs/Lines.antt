@@ -1,14 +1,8 @@
 -- What the scans of a sample text find: whether a number is in range, whether a line is good, and where its samples begin.
-use Rattle.std.specs.Prelude.{◌≡◌, List, [], ◌∷◌, ℕ, drop}
+use Rattle.std.specs.Prelude.{◌≡◌, List, [], ◌∷◌, ℕ, drop, Result, Ok, Err}
 use Rattle.model.specs.Reading.{Scan, is, stops, got, field}
-use Rattle.simulation.specs.Samples.{ticking, sample_at, line_at}
-use Rattle.samples.specs.declared.Line.{Line}
-use Rattle.samples.specs.declared.Line.TheVariants.{Is, Missing}
-
--- "samples are 1 to 2^40", of a number that was scanned from bs
-abbrev pub got_ticks : Scan ℕ → List ℕ → Scan ℕ
-got_ticks (is g) bs = ticking g bs
-got_ticks (stops cs) bs = stops cs
+use Rattle.fields.specs.declared.Cursor.{Cursor}
+use Rattle.simulation.specs.Samples.{sample_at, line_at}
 
 -- a scan without its value
 abbrev pub done : {A : Type 0} → Scan A → Scan (Unit {0})
@@ -30,6 +24,6 @@ pub record LineBad (x : ℕ) (t : List ℕ) (at : ℕ) : Type 0 where
   pub stop : List ℕ
   pub line : line_at x (drop at t) ≡ stops stop
 
-abbrev pub LineGives : ℕ → List ℕ → ℕ → Line → Type 0
-LineGives x t at (Is b e) = LineIs x t at b.at e.at
-LineGives x t at Missing = LineBad x t at
+abbrev pub LineGives : ℕ → List ℕ → ℕ → Result (Cursor × Cursor) Cursor → Type 0
+LineGives x t at (Ok p) = LineIs x t at p.1.at p.0.at
+LineGives x t at (Err e) = LineBad x t at

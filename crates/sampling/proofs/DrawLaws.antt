@@ -1,14 +1,15 @@
 -- A draw by one number, or by two; and the distribution that it is from.
 use mathlib.Core.Path.{◌≡◌, refl, sym, ◌∙◌, ap, ap₂, subst}
-use mathlib.Core.Option.{Option, none, some, some_inj}
+use mathlib.Core.Option.{Option, none, some}
 use mathlib.Core.List.{List}
 use Prim.Native.Nat.{ℕ, ◌+◌}
 use native.Mathlib.Omega.{arith}
 use lib.ListN.{drop}
 use lib.Dec.{T}
 use lib.Ieee.{Float}
-use Rattle.laws.proofs.SearchLaws.{no-some}
-use Rattle.model.specs.Reading.{Scan, is, stops}
+use Rattle.std.specs.Prelude as Answered
+use Rattle.std.specs.Prelude.{None, Result, Ok, Err}
+use Rattle.model.specs.Reading.{got}
 use Rattle.fields.specs.declared.Cursor.{Cursor}
 use Rattle.draw.specs.declared.Law.{Law}
 use Rattle.draw.specs.declared.Law.TheVariants.{Uniform, Mixture}
@@ -16,11 +17,7 @@ use Rattle.draw.specs.Draw.{drawn, end_of, lawful, Between}
 use Rattle.drawing.specs.File.{law_at}
 use Rattle.drawing.specs.Draws.{by_two, draw_from, takes}
 use Rattle.drawing.proofs.Lines.{law-lawful}
-use Rattle.distributions.specs.declared.LawScan.{LawScan}
-use Rattle.distributions.specs.declared.LawScan.TheVariants as OfLaw
 use Rattle.distributions.specs.Found.{found, got_law, value_in, law_in}
-use Rattle.sampling.specs.declared.Draw.{Draw}
-use Rattle.sampling.specs.declared.Draw.TheVariants as OfDraw
 use Rattle.sampling.specs.Sampling.{OneNumber, TwoNumbers, from_law, DrawIs, DrawGives}
 
 -- ---- which numbers a draw takes
@@ -73,25 +70,18 @@ module _ (l : Law) (f : ℕ → Option ℕ) (u : ℕ) where
     second-lacks e = from-two l two f u ∙ ap (by_two l (f u)) (sym e) ∙ none_last l (f u)
 
 -- ---- the distribution at a place of the file
-found-lawful : (bs : List ℕ) (l : Law) (cs : List ℕ) → some (record { value = l; rest = cs }) ≡ found (law_at bs) → T (lawful l)
-found-lawful bs l cs e = go (law_at bs) refl e
-  where
-    go : (o : Scan Law) → law_at bs ≡ o → some (record { value = l; rest = cs }) ≡ found o → T (lawful l)
-    go (is g) q e = law-lawful bs l cs (q ∙ ap is (sym (some_inj.0 e)))
-    go (stops ds) q e = absurd (no-some refl (sym e))
-
-module _ (t : List ℕ) (at : ℕ) (r : LawScan) (scan : got_law t r ≡ found (law_at (drop at t))) where
-  module _ (c : Cursor) (l : Law) (e : r ≡ OfLaw.Is c l) where
-    stands : some (record { value = l; rest = drop c.at t }) ≡ found (law_at (drop at t))
-    stands = sym (ap (got_law t) e) ∙ scan
+module _ (t : List ℕ) (at : ℕ) (r : Result (Cursor × Law) Cursor) (scan : got_law t r ≡ law_at (drop at t)) where
+  module _ (c : Cursor) (l : Law) (e : r ≡ Ok (c, l)) where
+    stands : law_at (drop at t) ≡ got l (drop c.at t)
+    stands = sym scan ∙ ap (got_law t) e
 
     pub stands-lawful : T (lawful l)
-    stands-lawful = found-lawful (drop at t) l (drop c.at t) stands
+    stands-lawful = law-lawful (drop at t) l (drop c.at t) stands
 
-    pub law-draws : (f : ℕ → Option ℕ) (u : ℕ) (d : Draw) → DrawGives (some l) f u d → DrawGives (law_in t at) f u d
+    pub law-draws : (f : ℕ → Option ℕ) (u : ℕ) (d : Answered.Option (ℕ × ℕ)) → DrawGives (some l) f u d → DrawGives (law_in t at) f u d
     unfolding law_in
-    law-draws f u d g = subst (λ o. DrawGives o f u d) (ap value_in stands) g
+    law-draws f u d g = subst (λ o. DrawGives o f u d) (ap (λ o. value_in (found o)) (sym stands)) g
 
-  pub no-law-draws : r ≡ OfLaw.Missing → (f : ℕ → Option ℕ) (u : ℕ) → DrawGives (law_in t at) f u OfDraw.Lacks
+  pub no-law-draws : (c : Cursor) → r ≡ Err c → (f : ℕ → Option ℕ) (u : ℕ) → DrawGives (law_in t at) f u None
   unfolding law_in
-  no-law-draws e f u = subst (λ o. DrawGives o f u OfDraw.Lacks) (ap value_in (sym (ap (got_law t) e) ∙ scan)) refl
+  no-law-draws c e f u = subst (λ o. DrawGives o f u None) (ap (λ o. value_in (found o)) (sym (ap (got_law t) e) ∙ scan)) refl

@@ -1,17 +1,15 @@
 -- What a draw at a place of the file gives.
-use Rattle.std.specs.Prelude.{◌≡◌, ℕ, ◌+◌, ◌≤◌}
+use Rattle.std.specs.Prelude as Answered
+use Rattle.std.specs.Prelude.{Some, None, ◌≡◌, ℕ, ◌+◌, ◌≤◌}
 use Rattle.std.proofs.Math.Option.{Option, none, some}
 use Rattle.answer.specs.Limits.{max_ticks}
 use Rattle.draw.specs.declared.Law.{Law}
 use Rattle.drawing.specs.Draws.{draw_from, takes}
-use Rattle.sampling.specs.declared.Number.{Number}
-use Rattle.sampling.specs.declared.Number.TheVariants as OfNumber
-use Rattle.sampling.specs.declared.Draw.{Draw}
-use Rattle.sampling.specs.declared.Draw.TheVariants as OfDraw
 
-abbrev pub number_in : Number → Option ℕ
-number_in (OfNumber.Is n) = some n
-number_in OfNumber.Missing = none
+-- a number of a clock, if it is lent
+abbrev pub number_in : Answered.Option ℕ → Option ℕ
+number_in (Some n) = some n
+number_in None = none
 
 -- how many numbers a draw takes
 abbrev pub OneNumber : Law → Type 0
@@ -34,6 +32,7 @@ pub record DrawIs (o : Option Law) (f : ℕ → Option ℕ) (u v w : ℕ) : Type
   pub used : w ≡ u + takes_of o
   pub most : v ≤ max_ticks
 
-abbrev pub DrawGives : Option Law → (ℕ → Option ℕ) → ℕ → Draw → Type 0
-DrawGives o f u (OfDraw.Ticks v w) = DrawIs o f u v w
-DrawGives o f u OfDraw.Lacks = from_law o f u ≡ none
+-- the ticks, and how many numbers the clock has taken then; or nothing, where there are not enough
+abbrev pub DrawGives : Option Law → (ℕ → Option ℕ) → ℕ → Answered.Option (ℕ × ℕ) → Type 0
+DrawGives o f u (Some d) = DrawIs o f u d.0 d.1
+DrawGives o f u None = from_law o f u ≡ none

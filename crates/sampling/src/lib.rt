@@ -10,65 +10,45 @@ ghost use Rattle.distributions.specs.Found.{law_in};
 ghost use Rattle.sampling.specs.Sampling.{number_in, OneNumber, TwoNumbers, DrawGives};
 
 use answer::Model;
-use distributions::LawScan;
 use draw::Law;
 use fields::Cursor;
 
-#[derive(Drop)]
-pub enum Number {
-    Is(u64),
-    Missing,
-}
-
 // Number k of clock x: word 64 k + x of the lent numbers, if there is one.
-fn number_at(numbers: &[u64], x: u64, k: usize) -> Number
+fn number_at(numbers: &[u64], x: u64, k: usize) -> Option<u64>
     requires { x < max_clocks }
     ensures { number_in result ≡ lent numbers.now x k }
 {
     if numbers.len() / Model::CLOCKS < k {
-        return Number::Missing;
+        return None;
     }
     let row = k * Model::CLOCKS;
     let i = x as usize;
     if numbers.len() - row <= i {
-        return Number::Missing;
+        return None;
     }
-    Number::Is(numbers[row + i])
+    Some(numbers[row + i])
 }
 
-// The ticks, and how many numbers the clock has taken then; or there are not enough.
-#[derive(Drop)]
-pub enum Draw {
-    Ticks(u64, usize),
-    Lacks,
-}
-
-// A range takes one number.
-fn by_one(law: Law, numbers: &[u64], x: u64, used: usize) -> Draw
+// A range takes one number: the ticks, and how many numbers the clock has taken then; or there are not enough.
+fn by_one(law: Law, numbers: &[u64], x: u64, used: usize) -> Option<(u64, usize)>
     requires { (x < max_clocks) × T (lawful law) × OneNumber law }
     ensures { DrawGives (some law) (lent numbers.now x) used result }
 {
-    match number_at(numbers, x, used) {
-        Number::Is(n) => Draw::Ticks(draw::draw(law, n, n), used + 1),
-        Number::Missing => Draw::Lacks,
-    }
+    let n = number_at(numbers, x, used)?;
+    Some((draw::draw(law, n, n), used + 1))
 }
 
 // A mixture takes two.
-fn by_two(law: Law, numbers: &[u64], x: u64, used: usize) -> Draw
+fn by_two(law: Law, numbers: &[u64], x: u64, used: usize) -> Option<(u64, usize)>
     requires { (x < max_clocks) × T (lawful law) × TwoNumbers law }
     ensures { DrawGives (some law) (lent numbers.now x) used result }
 {
-    match number_at(numbers, x, used) {
-        Number::Is(m) => match number_at(numbers, x, used + 1) {
-            Number::Is(n) => Draw::Ticks(draw::draw(law, m, n), used + 2),
-            Number::Missing => Draw::Lacks,
-        },
-        Number::Missing => Draw::Lacks,
-    }
+    let m = number_at(numbers, x, used)?;
+    let n = number_at(numbers, x, used + 1)?;
+    Some((draw::draw(law, m, n), used + 2))
 }
 
-fn by_law(law: Law, numbers: &[u64], x: u64, used: usize) -> Draw
+fn by_law(law: Law, numbers: &[u64], x: u64, used: usize) -> Option<(u64, usize)>
     requires { (x < max_clocks) × T (lawful law) }
     ensures { DrawGives (some law) (lent numbers.now x) used result }
 {
@@ -79,12 +59,12 @@ fn by_law(law: Law, numbers: &[u64], x: u64, used: usize) -> Draw
 }
 
 // A draw of clock x from the distribution that stands at a place of the file, if one does, after so many numbers.
-pub fn draw_at(text: &[u8], numbers: &[u64], x: u64, at: usize, used: usize) -> Draw
+pub fn draw_at(text: &[u8], numbers: &[u64], x: u64, at: usize, used: usize) -> Option<(u64, usize)>
     requires { x < max_clocks }
     ensures { DrawGives (law_in text.now at) (lent numbers.now x) used result }
 {
     match distributions::law_at(text, Cursor { at }) {
-        LawScan::Is(_, law) => by_law(law, numbers, x, used),
-        LawScan::Missing => Draw::Lacks,
+        Ok((_, law)) => by_law(law, numbers, x, used),
+        Err(_) => None,
     }
 }

@@ -9,8 +9,8 @@ use lib.ListN.{length, take, drop, length-append}
 use lib.Seq.{take_at, length-take-le}
 use Rattle.answer.specs.Told.{Told, Answer, answered, told, as_refused, says_written}
 use Rattle.answer.specs.declared.Refusal.{Refusal}
-use Rattle.answer.specs.declared.Written.{Written}
-use Rattle.answer.specs.declared.Written.TheVariants.{Length, Refused}
+use Rattle.answer.specs.Told.{Written}
+use Rattle.std.specs.Prelude.{Ok, Err}
 use Rattle.answering.specs.Report.{report_of}
 use Rattle.steplines.specs.Run.{most_bytes}
 use Rattle.report.specs.Reported.{length_told, report_in, Reported}
@@ -26,7 +26,7 @@ module _ {input old new : List ℕ} {r : Written} (long : most_bytes ≡ length 
   unfolding report_in
   front = rw (le-ltb (length old) most_bytes (omega arith)) at g.buffer
 
-  pub is-filled : (k : ℕ) → r ≡ Length k → Filled input new k
+  pub is-filled : (k : ℕ) → r ≡ Ok k → Filled input new k
   unfolding says_written
   is-filled k e =
       let w : ◌≡◌ {A = Option (Answer ℕ)} (some (answered k)) (some (answered (length (report_of input)))) = ap says_written (sym e) ∙ length-told in
@@ -34,7 +34,7 @@ module _ {input old new : List ℕ} {r : Written} (long : most_bytes ≡ length 
       let within : k ≤ length new = omega (arith, ap length front, length-append (report_of input) (drop (length (report_of input)) old)) in
       record { within = within; long = sym (length-take-le k new within); report = ap (take k) front ∙ take_at (report_of input) _ k (sym n) }
 
-  pub never-refused : (f : Refusal) → r ≡ Refused f → ⊥
+  pub never-refused : (f : Refusal) → r ≡ Err f → ⊥
   unfolding says_written
   never-refused f e = go (told f) (ap says_written (sym e) ∙ length-told)
     where

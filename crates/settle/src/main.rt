@@ -7,8 +7,7 @@ ghost use Rattle.answer.specs.Limits.{max_request, max_bytes};
 ghost use Rattle.steplines.specs.Run.{most_bytes};
 ghost use Rattle.settle.specs.Filled.{Filled};
 
-use answer::{Model, Written};
-use stream::Moved;
+use answer::Model;
 
 // A request line, a text, and the byte that makes it too long: 9 and 1 are told from no more than these.
 const INPUT: usize = Model::REQUEST + Model::BYTES + 1;
@@ -32,8 +31,8 @@ fn filled(input: &[u8], out: &mut [u8]) -> usize
     ensures { Filled input.now out.new result }
 {
     match report::report(input, out) {
-        Written::Length(k) => k,
-        Written::Refused(_) => 0,
+        Ok(k) => k,
+        Err(_) => 0,
     }
 }
 
@@ -41,7 +40,7 @@ fn filled(input: &[u8], out: &mut [u8]) -> usize
 fn answer(rt: &HostRuntime, input: &[u8]) {
     let mut out = empty_report();
     let k = filled(input, &mut out);
-    if let Moved::Failed(e) = stream::write(rt, &mut rt.stdout(), &out[..k]) {
+    if let Err(e) = stream::write(rt, &mut rt.stdout(), &out[..k]) {
         failing::say(rt, b"settle: the report could not be written whole", e);
     }
 }
@@ -49,7 +48,7 @@ fn answer(rt: &HostRuntime, input: &[u8]) {
 fn main(rt: HostRuntime) {
     let mut input = empty_input();
     match stream::read(&rt, &mut rt.stdin(), &mut input) {
-        Moved::Bytes(n) => answer(&rt, &input[..n]),
-        Moved::Failed(e) => failing::say(&rt, b"settle: standard input could not be read", e),
+        Ok(n) => answer(&rt, &input[..n]),
+        Err(e) => failing::say(&rt, b"settle: standard input could not be read", e),
     }
 }

@@ -6,6 +6,8 @@ use mathlib.Core.List.{List, [], ◌∷◌}
 use Prim.Native.Nat.{ℕ, suc, ◌+◌, ◌≤◌, ◌<◌}
 use native.Mathlib.Omega.{arith}
 use native.Mathlib.Numerals.{add-one}
+use Rattle.std.specs.Prelude.{Ok}
+use Rattle.std.proofs.Common.{le_of_eq}
 use lib.ListN.{length, get_or, drop, drop_of_length-le}
 use lib.Seq.{drop-cons}
 use lib.Bits.{or_zero_r}
@@ -114,14 +116,15 @@ module _ (t list : List ℕ) (x : State) where
           (rw here at (no-offer-no-step (model_of t) good fit (parts_of cur) at.reached.standing.within a o)))
 
     -- the end of the list
-    pub plays-all : length list ≤ i → (r : Settled) → EndsAt (model_of t) cur i resets r → SettleAnswers (play (model_of t) 0 list (parts_of x)) x r
+    pub plays-all : i ≡ length list → (r : Settled) → EndsAt (model_of t) cur (length list) resets r
+        → SettleAnswers (play (model_of t) 0 list (parts_of x)) x (Ok r)
     unfolding plus_listed
     plays-all h r e =
-        let n : i + 0 ≡ i = omega arith in
+        let n : i + 0 ≡ length list = omega arith in
         let z = or_zero_r resets in
         let b = is_stable (model_of t) (parts_of cur) in
-        subst (λ (v : Answer (Settling (List ℕ))). SettleAnswers v x r)
-        (sym (ap (plus_listed i resets) (play-end (model_of t) i list (parts_of cur) h)
+        subst (λ (v : Answer (Settling (List ℕ))). SettleAnswers v x (Ok r))
+        (sym (ap (plus_listed i resets) (play-end (model_of t) i list (parts_of cur) (le_of_eq (sym h)))
         ∙ (λ j. answered (record { stable = b; steps = n j; resets = z j; trace = []; state = parts_of cur })))
         ∙ at.run)
         (record { verdict = e.verdict; steps = e.steps-are; resets = e.resets-are; state = e.state ∙ sym at.reached.same })

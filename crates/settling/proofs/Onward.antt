@@ -1,18 +1,17 @@
 -- Where the loop that settles stands: the state reached, and the steps done before what is left.
 use mathlib.Core.Path.{◌≡◌, refl, sym, ap, ap₂, ◌∙◌}
 use mathlib.Core.Bool.{false, not}
-use mathlib.Core.Option.{some}
 use mathlib.Core.List.{List, [], ◌∷◌, ◌++◌, append-nil}
 use Prim.Native.Nat.{ℕ, ◌+◌, ◌-◌, ◌%◌, ◌≤◌, ◌<◌}
 use native.Mathlib.Omega.{arith}
 use native.Mathlib.Nat.{mod-eq_of_lt}
 use native.Mathlib.Numerals.{add-one}
+use Rattle.std.proofs.Common.{le_of_eq}
 use lib.ListN.{length, take, drop, set, length-set, take-append-drop}
 use lib.Seq.{take-suc-set, drop-set-lt, drop-drop, length-take-le}
 use lib.Bits.{or_zero_r}
 use Rattle.laws.specs.Sets.{◌∪◌}
 use Rattle.answer.specs.Limits.{max_actions, max_components}
-use Rattle.answer.specs.Told.{answered}
 use Rattle.answer.specs.declared.State.{State}
 use Rattle.answer.specs.declared.Settled.{Settled}
 use Rattle.answer.specs.State.{parts_of, with_parts}
@@ -90,7 +89,7 @@ module _ (t : List ℕ) (budget : ℕ) (x : State) (old : List ℕ) (cur : State
       let taken : d.trace ≡ take k trace = sym (ap (λ v. v.trace) w) ∙ append-nil (take k trace) in
       let inside : k ≤ length trace = omega (arith, at.size, at.room, at.within) in (
         record {
-          verdict = f.verdict ∙ ap (λ v. some (answered v.stable)) w;
+          verdict = f.verdict ∙ ap (λ v. v.stable) w;
           steps = omega (arith, f.steps-are, ap (λ v. v.steps) w);
           resets = f.resets-are ∙ sym (or_zero_r resets) ∙ ap (λ v. v.resets) w;
           state = f.state ∙ sym at.reached.same ∙ ap (λ v. with_parts x v.state) w;
@@ -98,3 +97,9 @@ module _ (t : List ℕ) (budget : ℕ) (x : State) (old : List ℕ) (cur : State
         sym (take-append-drop k trace)
             ∙ ap₂ ◌++◌ (sym taken) (at.rest ∙ ap (λ n. drop n old) (sym (ap length taken ∙ length-take-le k trace inside))),
       )
+
+  -- the budget is used up
+  pub all-done : k ≡ budget → (r : Settled) → EndsAt (model_of t) cur budget resets r
+      → SettleGives (model_of t) budget x r × TraceHolds (model_of t) budget x old trace
+  all-done h r f =
+      ends (λ _. le_of_eq (sym h)) r (record { verdict = f.verdict; steps-are = f.steps-are ∙ sym h; resets-are = f.resets-are; state = f.state })

@@ -1,8 +1,6 @@
 -- What a step and settling give, in an accepted model and from a state of it.
-use Rattle.std.specs.Prelude.{◌≡◌, List, ◌++◌, ℕ, length, drop}
-use Rattle.std.proofs.Math.Option.{Option, none, some}
-use Rattle.answer.specs.Limits.{no_state}
-use Rattle.answer.specs.Told.{Answer, answered, refused, Step, moved, says_outcome, says_verdict}
+use Rattle.std.specs.Prelude.{◌≡◌, List, ◌++◌, ℕ, length, drop, Result, IsOkAnd}
+use Rattle.answer.specs.Told.{Answer, answered, refused, moved, step_said, stable_said, RefusedWith}
 use Rattle.answer.specs.State.{parts_of, with_parts}
 use Rattle.answer.specs.declared.State.{State}
 use Rattle.answer.specs.declared.Refusal.{Refusal}
@@ -27,12 +25,12 @@ pub record Ready (t : List ℕ) (x : State) : Type 0 where
 
 -- the answer says this step, with its state; places at and past the count stay
 pub record StepGives (v : Stepping) (x : State) (r : Stepped) : Type 0 where
-  pub outcome : says_outcome r.outcome ≡ some (answered v.step)
+  pub outcome : step_said r.outcome ≡ v.step
   pub state : r.state ≡ with_parts x v.state
 
 -- the answer says a step by this action
 pub record StepsBy (m : Model) (x : State) (a : ℕ) (r : Stepped) : Type 0 where
-  pub outcome : says_outcome r.outcome ≡ some (answered (moved a (reset_all m (parts_of x) a)))
+  pub outcome : step_said r.outcome ≡ moved a (reset_all m (parts_of x) a)
   pub state : r.state ≡ with_parts x (after_all m (parts_of x) a)
 
 -- the step by our rule
@@ -43,10 +41,10 @@ by_rule_of m s = taken s (lowest (urgent_step m) s)
 abbrev pub by_name_of : Model → List ℕ → ℕ → Answer Stepping
 by_name_of m s a = taken_by (named a (urgent_step m s a))
 
--- a step, or a refusal, beside which all else is zero
-abbrev pub StepAnswers : Answer Stepping → State → Stepped → Type 0
-StepAnswers (answered v) x r = StepGives v x r
-StepAnswers (refused f) x r = (says_outcome r.outcome ≡ some (refused f)) × (r.state ≡ no_state)
+-- a step, or a refusal
+abbrev pub StepAnswers : Answer Stepping → State → Result Stepped Refusal → Type 0
+StepAnswers (answered v) x r = IsOkAnd r (λ p. StepGives v x p)
+StepAnswers (refused f) x r = RefusedWith f r
 
 -- 23 at an index
 abbrev pub not_enabled_at : ℕ → Refusal
@@ -54,22 +52,22 @@ not_enabled_at i = record { number = 23; place = Index i }
 
 -- the answer says this settling
 pub record SettlingGives (d : Settling (List ℕ)) (x : State) (r : Settled) : Type 0 where
-  pub verdict : says_verdict r.verdict ≡ some (answered d.stable)
+  pub verdict : stable_said r.verdict ≡ d.stable
   pub steps : r.steps ≡ d.steps
   pub resets : r.resets ≡ d.resets
   pub state : r.state ≡ with_parts x d.state
 
 -- the answer says so many steps with these resets, and whether the state that they led to is stable
 pub record EndsAt (m : Model) (cur : State) (steps resets : ℕ) (r : Settled) : Type 0 where
-  pub verdict : says_verdict r.verdict ≡ some (answered (is_stable m (parts_of cur)))
+  pub verdict : stable_said r.verdict ≡ is_stable m (parts_of cur)
   pub steps-are : r.steps ≡ steps
   pub resets-are : r.resets ≡ resets
   pub state : r.state ≡ cur
 
--- a settling, or a refusal, beside which all else is zero
-abbrev pub SettleAnswers : Answer (Settling (List ℕ)) → State → Settled → Type 0
-SettleAnswers (answered d) x r = SettlingGives d x r
-SettleAnswers (refused f) x r = (says_verdict r.verdict ≡ some (refused f)) × (r.steps ≡ 0) × (r.resets ≡ 0) × (r.state ≡ no_state)
+-- a settling, or a refusal
+abbrev pub SettleAnswers : Answer (Settling (List ℕ)) → State → Result Settled Refusal → Type 0
+SettleAnswers (answered d) x r = IsOkAnd r (λ p. SettlingGives d x p)
+SettleAnswers (refused f) x r = RefusedWith f r
 
 abbrev pub SettleGives : Model → ℕ → State → Settled → Type 0
 SettleGives m budget x r = SettlingGives (settle (urgent_step m) budget (parts_of x)) x r

@@ -31,7 +31,7 @@ pub fn rule_step(t: &[u64], x: State) -> Stepped
     ensures { StepGives (by_rule_of (model_of t.now) (parts_of x)) x result }
 {
     let a = moves::lowest_all(t, x);
-    if a < answer::Model::ACTIONS as u64 {
+    if a < Model::ACTIONS as u64 {
         moved_by(t, x, a)
     } else {
         Stepped {
@@ -52,18 +52,14 @@ pub fn not_enabled(i: usize) -> Refusal
 }
 
 // One step by a named action.
-pub fn named_step(t: &[u64], x: State, a: u64) -> Stepped
+pub fn named_step(t: &[u64], x: State, a: u64) -> Result<Stepped, Refusal>
     requires { Ready t.now x }
     ensures { StepAnswers (by_name_of (model_of t.now) (parts_of x) a) x result }
 {
-    if moves::offered(t, x, a) {
-        moved_by(t, x, a)
-    } else {
-        Stepped {
-            outcome: Outcome::Refused(not_enabled(0)),
-            state: answer::no_state(),
-        }
+    if !moves::offered(t, x, a) {
+        return Err(not_enabled(0));
     }
+    Ok(moved_by(t, x, a))
 }
 
 // What settling answers after so many steps, which led to this state: stable or unsettled.
@@ -73,7 +69,7 @@ fn ended(t: &[u64], cur: State, steps: usize, resets: u64) -> Settled
 {
     let a = moves::lowest_all(t, cur);
     Settled {
-        verdict: if a < answer::Model::ACTIONS as u64 {
+        verdict: if a < Model::ACTIONS as u64 {
             Verdict::Unsettled
         } else {
             Verdict::Stable
@@ -92,18 +88,16 @@ pub fn by_rule(t: &[u64], x: State, budget: usize, trace: &mut [u8]) -> Settled
     let n = x.count;
     let mut parts = x.parts;
     let mut resets = 0u64;
-    let mut steps = 0usize;
-    while steps < budget {
+    for steps in 0..budget {
         let a = moves::lowest_of(t, &parts, n);
-        if answer::Model::ACTIONS as u64 <= a {
+        if Model::ACTIONS as u64 <= a {
             return ended(t, State { count: n, parts }, steps, resets);
         }
         let more = moves::move_in(t, &mut parts, n, a);
         trace[steps] = (a % 256) as u8;
         resets = sets::union(resets, more);
-        steps += 1;
     }
-    ended(t, State { count: n, parts }, steps, resets)
+    ended(t, State { count: n, parts }, budget, resets)
 }
 
 // The same without a trace: a round of a simulation keeps none.
@@ -114,48 +108,33 @@ pub fn untraced(t: &[u64], x: State, budget: usize) -> Settled
     let n = x.count;
     let mut parts = x.parts;
     let mut resets = 0u64;
-    let mut taken = 0usize;
-    while taken < budget {
+    for taken in 0..budget {
         let a = moves::lowest_of(t, &parts, n);
         if Model::ACTIONS as u64 <= a {
             return ended(t, State { count: n, parts }, taken, resets);
         }
         let reset = moves::move_in(t, &mut parts, n, a);
         resets = sets::union(resets, reset);
-        taken += 1;
     }
-    ended(t, State { count: n, parts }, taken, resets)
+    ended(t, State { count: n, parts }, budget, resets)
 }
 
 // Settling by a list: the listed actions in order.
-pub fn by_list(t: &[u64], x: State, list: &[u8]) -> Settled
+pub fn by_list(t: &[u64], x: State, list: &[u8]) -> Result<Settled, Refusal>
     requires { Ready t.now x }
     ensures { SettleAnswers (play (model_of t.now) 0 list.now (parts_of x)) x result }
 {
     let mut cur = x;
     let mut resets = 0u64;
-    let mut i = 0usize;
-    while i < list.len() {
-        let a = wide(list[i]);
+    for i in 0..list.len() {
+        let a = list[i] as u64;
         if !moves::offered(t, cur, a) {
-            return Settled {
-                verdict: Verdict::Refused(not_enabled(i)),
-                steps: 0,
-                resets: 0,
-                state: answer::no_state(),
-            };
+            return Err(not_enabled(i));
         }
         let m = moves::move_all(t, cur, a);
         let next = m.state;
         resets = sets::union(resets, m.resets);
         cur = next;
-        i += 1;
     }
-    ended(t, cur, i, resets)
-}
-
-fn wide(x: u8) -> u64
-    ensures { result ≡ x }
-{
-    x as u64
+    Ok(ended(t, cur, list.len(), resets))
 }

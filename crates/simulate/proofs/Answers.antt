@@ -5,6 +5,8 @@ use Prim.Native.Nat.{ℕ}
 use lib.IntN.{ℤ}
 use Rattle.answer.specs.Told.{Answer}
 use Rattle.answer.specs.declared.Simulated.{Simulated}
+use Rattle.answer.specs.declared.Refusal.{Refusal}
+use Rattle.std.specs.Prelude.{Result}
 use Rattle.model.specs.Model.{Comp}
 use Rattle.table.proofs.OnImageExactly.{on-table-leaves}
 use Rattle.simulation.specs.Call.{Simulating, simulate_text, SimulationAnswers}
@@ -13,7 +15,7 @@ use Rattle.simulation.proofs.Answers.{simulate-model-exactly}
 use Rattle.simulate.specs.Simulate.{SimulateCall}
 use Rattle.simulate.specs.SimulateExactly.{SimulateExactly}
 
-pub simulate-answers-exactly : (t samples : List ℕ) (n : ℕ) (was : List ℤ) (r : Simulated) (vs : List ℤ)
+pub simulate-answers-exactly : (t samples : List ℕ) (n : ℕ) (was : List ℤ) (r : Result Simulated Refusal) (vs : List ℤ)
     → SimulateCall t samples n was r vs ↔ SimulateExactly t samples n was r vs
 simulate-answers-exactly t samples n was r vs =
     let R : Comp → List Comp → Answer Simulating → Type 0 = λ c cs. SimulateAnswer c cs samples n was in

@@ -1,15 +1,16 @@
 -- The rounds of free simulations stand behind whatever the contract of `simulate` allows; and in the rounds it is refused with 30, 42 or 41 only.
 use mathlib.Core.Path.{◌≡◌, sym, ◌∙◌, subst}
 use mathlib.Core.Logic.{◌⊎◌}
-use mathlib.Core.Option.{Option, some}
+use mathlib.Core.Option.{some}
 use mathlib.Core.List.{List, ◌∷◌}
 use Prim.Native.Nat.{ℕ, ◌≤◌}
-use native.Mathlib.Omega.{arith}
 use lib.ListN.{length}
 use lib.IntN.{ℤ}
 use Rattle.answer.specs.Limits.{max_budget, max_clocks}
-use Rattle.answer.specs.Told.{Told, Answer, answered, refused, says_ended}
+use Rattle.answer.specs.Told.{Told, Answer, refused, RefusedWith}
 use Rattle.answer.specs.declared.Simulated.{Simulated}
+use Rattle.answer.specs.declared.Refusal.{Refusal}
+use Rattle.std.specs.Prelude.{Result, Ok, Err, IsOkAnd}
 use Rattle.model.specs.Model.{Comp, declared}
 use Rattle.iosa.specs.Automaton.{Joinable}
 use Rattle.iosa.specs.Thesis.{AllDefinition41}
@@ -29,20 +30,27 @@ use Rattle.simulate.specs.Simulate.{SimulateCall}
 use Rattle.simulate.specs.Rounds.{SimulatedFrom}
 use Rattle.simulate.proofs.Answers.{simulate-answers-exactly}
 
-module _ (t samples : List ℕ) (n : ℕ) (was : List ℤ) (r : Simulated) (vs : List ℤ) where
+-- a result is not both, and tells one thing
+pub not-both : {A : Type 0} (P : A → Type 0) (r : Result A Refusal) (f : Told) → IsOkAnd r P → RefusedWith f r → ⊥
+not-both P (Ok x) f a b = b
+not-both P (Err q) f a b = a
+
+pub one-told : {A : Type 0} (r : Result A Refusal) (g f : Told) → RefusedWith g r → RefusedWith f r → g ≡ f
+one-told (Ok x) g f a b = absurd a
+one-told (Err q) g f a b = let e : some g ≡ some f = sym a ∙ b in cc
+
+module _ (t samples : List ℕ) (n : ℕ) (was : List ℤ) (vs : List ℤ) where
   -- ---- an answer
-  module _ (k : ℕ) (says : says_ended r.ended ≡ some (answered k)) where
-    -- beside a number of rounds there is no refusal
-    refusal : {P : Type 0} {f : Told} → SimulationAnswers (refused f) was r vs → P
-    refusal {f = f} l =
-        let e : ◌≡◌ {A = Option (Answer ℕ)} (some (answered k)) (some (refused f)) = sym says ∙ l.ended in
-        let z : ◌≡◌ {A = ℕ} 0 1 = cc in absurd (omega arith)
+  module _ (p : Simulated) where
+    -- beside an answer there is no refusal
+    refusal : {P : Type 0} {f : Told} → SimulationAnswers (refused f) was (Ok p) vs → P
+    refusal l = absurd l.told
 
     from-rounds : {c : Comp} {cs : List Comp} {a : Answer Simulating} → Holds t (c ∷ cs) → AllDefinition41 (c ∷ cs) × Joinable (c ∷ cs)
-        → EitherTest (c ∷ cs) → RoundsAnswer c cs samples n was a → SimulationAnswers a was r vs → SimulatedFrom t samples n was k r vs
+        → EitherTest (c ∷ cs) → RoundsAnswer c cs samples n was a → SimulationAnswers a was (Ok p) vs → SimulatedFrom t samples n was p.rounds p vs
     from-rounds h d al (refused-in s x) l = refusal l
     from-rounds {c} {cs} h d al (gives {ls = ls} (are text) (is-done {k = j} {q = q} a most over) put) l =
-        let e : j ≡ k = let w : ◌≡◌ {A = Option (Answer ℕ)} (some (answered j)) (some (answered k)) = sym l.ended ∙ says in cc in
+        let e : j ≡ p.rounds = sym l.rounds in
         record {
           first = c;
           others = cs;
@@ -61,8 +69,8 @@ module _ (t samples : List ℕ) (n : ℕ) (was : List ℤ) (r : Simulated) (vs :
           values = rw l.values put;
         }
 
-    of_image : {a : Answer Simulating} → OnImage t (λ c cs. SimulateAnswer c cs samples n was) a → SimulationAnswers a was r vs
-        → SimulatedFrom t samples n was k r vs
+    of_image : {a : Answer Simulating} → OnImage t (λ c cs. SimulateAnswer c cs samples n was) a → SimulationAnswers a was (Ok p) vs
+        → SimulatedFrom t samples n was p.rounds p vs
     of_image (is20 x) l = refusal l
     of_image (of-model h (refuses x)) l = refusal l
     of_image (of-model h (passes d (refuses x))) l = refusal l
@@ -71,19 +79,16 @@ module _ (t samples : List ℕ) (n : ℕ) (was : List ℤ) (r : Simulated) (vs :
     of_image (of-model h (passes d (passes al (passes b (passes g (refuses x)))))) l = refusal l
     of_image (of-model h (passes d (passes al (passes b (passes g (passes s x)))))) l = from-rounds h d al x l
 
-    pub simulate-ends-as-any : SimulateCall t samples n was r vs → SimulatedFrom t samples n was k r vs
-    simulate-ends-as-any call = let e = (simulate-answers-exactly t samples n was r vs).0 call in of_image e.right e.left
+    pub simulate-ends-as-any : SimulateCall t samples n was (Ok p) vs → SimulatedFrom t samples n was p.rounds p vs
+    simulate-ends-as-any call = let e = (simulate-answers-exactly t samples n was (Ok p) vs).0 call in of_image e.right e.left
 
   -- ---- a refusal where nothing stands before the rounds
-  module _ (f : Told) (says : says_ended r.ended ≡ some (refused f)) where
+  module _ (r : Result Simulated Refusal) (f : Told) (says : RefusedWith f r) where
     why : {c : Comp} {cs : List Comp} {a : Answer Simulating} → RoundsAnswer c cs samples n was a → SimulationAnswers a was r vs
         → (f.number ≡ 30) ⊎ ((f.number ≡ 42) ⊎ (f.number ≡ 41))
-    why (gives {d = d} s x put) l =
-        let e : ◌≡◌ {A = Option (Answer ℕ)} (some (answered d.rounds)) (some (refused f)) = sym l.ended ∙ says in
-        let z : ◌≡◌ {A = ℕ} 0 1 = cc in absurd (omega arith)
+    why (gives s x put) l = absurd (not-both _ r f l says)
     why (refused-in {f = g} s x) l =
-        let e : ◌≡◌ {A = Option (Answer ℕ)} (some (refused g)) (some (refused f)) = sym l.ended ∙ says in
-        let same : g ≡ f = cc in
+        let same : g ≡ f = one-told r g f l.told says in
         subst (λ u. (u.number ≡ 30) ⊎ ((u.number ≡ 42) ⊎ (u.number ≡ 41))) same (refused_why x)
 
     -- the table holds an accepted model that passes either test, no more than 4,096 rounds are asked for, 64 values are lent, and the text is that of lists

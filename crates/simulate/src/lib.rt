@@ -11,9 +11,9 @@ ghost use Rattle.feed.specs.Supply.{lent};
 ghost use Rattle.rounds.specs.Rounds.{Runnable};
 ghost use Rattle.simulation.specs.Simulate.{each_from};
 ghost use Rattle.simulation.specs.Call.{put_at, simulate_text, SimulationAnswers};
-ghost use Rattle.simulate.specs.Simulate.{refused_with, PlayCall, SimulateCall};
+ghost use Rattle.simulate.specs.Simulate.{PlayCall, SimulateCall};
 
-use answer::{Checked, Ended, Model, Place, Refusal, Simulated, State};
+use answer::{Model, Place, Refusal, Simulated, State};
 use feed::Source;
 use rounds::Plan;
 
@@ -37,16 +37,6 @@ pub fn put(d: u64, values: &[i64], clocks: &mut [i64])
     }
 }
 
-// A refusal, with no state beside it.
-pub fn refused(f: Refusal) -> Simulated
-    ensures { result ≡ refused_with f }
-{
-    Simulated {
-        ended: Ended::Refused(f),
-        state: answer::no_state(),
-    }
-}
-
 // The rounds over the samples that stand at the places; the lent values are written once, at the end.
 pub fn play(
     t: &[u64],
@@ -55,67 +45,59 @@ pub fn play(
     numbers: &[u64],
     at: &mut [usize; Model::CLOCKS],
     clocks: &mut [i64],
-) -> Simulated
+) -> Result<Simulated, Refusal>
     requires { Runnable t.now × (length at.old ≡ max_clocks) × (length clocks.old ≡ max_clocks) }
     ensures { PlayCall t.now (lent plan.from text.now numbers.now) plan.rounds at.old
         clocks.old result clocks.new }
 {
     let mut used = [0usize; Model::CLOCKS];
     let mut values = [0i64; Model::CLOCKS];
-    let r = rounds::run(t, plan, text, numbers, at, &mut used, &mut values);
-    let ended = r.ended;
-    match ended {
-        Ended::Rounds(_) => {
-            put(enabling::declared(t), &values, clocks);
-            r
-        }
-        Ended::Refused(_) => r,
-    }
+    let r = rounds::run(t, plan, text, numbers, at, &mut used, &mut values)?;
+    put(enabling::declared(t), &values, clocks);
+    Ok(r)
 }
 
 // 22, 28 and 40, then the rounds, in a model that is accepted and passes either test.
-fn play_text(t: &[u64], text: &[u8], rounds: usize, clocks: &mut [i64]) -> Simulated
+fn play_text(
+    t: &[u64],
+    text: &[u8],
+    rounds: usize,
+    clocks: &mut [i64],
+) -> Result<Simulated, Refusal>
     requires { Runnable t.now × (entry_of (model_of t.now) ≡ none) }
     ensures { SimulationAnswers (simulate_text (model_of t.now) text.now rounds clocks.old)
         clocks.old result clocks.new }
 {
     if State::BUDGET < rounds {
-        return refused(Refusal {
+        return Err(Refusal {
             number: 22,
             place: Place::Whole,
         });
     }
     if clocks.len() != Model::CLOCKS {
-        return refused(Refusal {
+        return Err(Refusal {
             number: 28,
             place: Place::Whole,
         });
     }
     let mut at = [0usize; Model::CLOCKS];
-    let checked = samples::scan(text, enabling::declared(t), &mut at);
-    match checked {
-        Checked::Fine => play(
-            t,
-            Plan {
-                from: Source::Lists,
-                rounds,
-            },
-            text,
-            &[],
-            &mut at,
-            clocks,
-        ),
-        Checked::Refused(f) => refused(f),
-    }
+    samples::scan(text, enabling::declared(t), &mut at)?;
+    let plan = Plan {
+        from: Source::Lists,
+        rounds,
+    };
+    play(t, plan, text, &[], &mut at, clocks)
 }
 
 // So many later rounds over the samples of a text: 20, 10 to 17 and check 18, or else 45 and 18, once; then 22, 28 and 40, then round by round 30, 42 and 41.
-pub fn simulate(table: &[u64], samples: &[u8], rounds: usize, clocks: &mut [i64]) -> Simulated
+pub fn simulate(
+    table: &[u64],
+    samples: &[u8],
+    rounds: usize,
+    clocks: &mut [i64],
+) -> Result<Simulated, Refusal>
     ensures { SimulateCall table.now samples.now rounds clocks.old result clocks.new }
 {
-    let checked = orderly::may_walk(table);
-    match checked {
-        Checked::Fine => play_text(table, samples, rounds, clocks),
-        Checked::Refused(f) => refused(f),
-    }
+    orderly::may_walk(table)?;
+    play_text(table, samples, rounds, clocks)
 }

@@ -5,6 +5,8 @@ use Prim.Native.Nat.{ℕ}
 use lib.IntN.{ℤ}
 use Rattle.answer.specs.Told.{Answer}
 use Rattle.answer.specs.declared.Simulated.{Simulated}
+use Rattle.answer.specs.declared.Refusal.{Refusal}
+use Rattle.std.specs.Prelude.{Result}
 use Rattle.model.specs.Model.{Comp}
 use Rattle.table.proofs.OnImageExactly.{on-table-leaves}
 use Rattle.simulation.specs.Call.{Simulating, SimulationAnswers}
@@ -14,7 +16,7 @@ use Rattle.drawing.proofs.Answers.{simulate-drawn-model-exactly}
 use Rattle.simulate_drawn.specs.SimulateDrawn.{SimulateDrawnCall}
 use Rattle.simulate_drawn.specs.SimulateDrawnExactly.{SimulateDrawnExactly}
 
-pub simulate_drawn-answers-exactly : (t laws numbers : List ℕ) (n : ℕ) (was : List ℤ) (r : Simulated) (vs : List ℤ)
+pub simulate_drawn-answers-exactly : (t laws numbers : List ℕ) (n : ℕ) (was : List ℤ) (r : Result Simulated Refusal) (vs : List ℤ)
     → SimulateDrawnCall t laws numbers n was r vs ↔ SimulateDrawnExactly t laws numbers n was r vs
 simulate_drawn-answers-exactly t laws numbers n was r vs =
     let R : Comp → List Comp → Answer Simulating → Type 0 = λ c cs. SimulateDrawnAnswer c cs laws numbers n was in

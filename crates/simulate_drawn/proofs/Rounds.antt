@@ -1,15 +1,16 @@
 -- The rounds of free simulations stand behind whatever the contract of `simulate_drawn` allows; and in the rounds it is refused with 30, 42 or 50 only.
-use mathlib.Core.Path.{◌≡◌, sym, ◌∙◌, subst}
+use mathlib.Core.Path.{◌≡◌, sym, subst}
 use mathlib.Core.Logic.{◌⊎◌}
-use mathlib.Core.Option.{Option, some}
+use mathlib.Core.Option.{Option}
 use mathlib.Core.List.{List, ◌∷◌}
 use Prim.Native.Nat.{ℕ, ◌≤◌}
-use native.Mathlib.Omega.{arith}
 use lib.ListN.{length}
 use lib.IntN.{ℤ}
 use Rattle.answer.specs.Limits.{max_budget, max_clocks}
-use Rattle.answer.specs.Told.{Told, Answer, answered, refused, says_ended}
+use Rattle.answer.specs.Told.{Told, Answer, refused, RefusedWith}
 use Rattle.answer.specs.declared.Simulated.{Simulated}
+use Rattle.answer.specs.declared.Refusal.{Refusal}
+use Rattle.std.specs.Prelude.{Result, Ok}
 use Rattle.model.specs.Model.{Comp, declared}
 use Rattle.iosa.specs.Automaton.{Joinable}
 use Rattle.iosa.specs.Thesis.{AllDefinition41}
@@ -29,24 +30,23 @@ use Rattle.drawing.specs.Call.{simulate_drawn}
 use Rattle.drawing.specs.Exactly.{SimulateDrawnAnswer, RoundsAnswer, gives, refuses as refused-in}
 use Rattle.drawing.proofs.Answers.{rounds-answered, simulate-drawn-model-exactly}
 use Rattle.drawing.proofs.Rounds.{drawn-rounds-agree}
+use Rattle.simulate.proofs.Rounds.{not-both, one-told}
 use Rattle.simulate_drawn.specs.SimulateDrawn.{SimulateDrawnCall}
 use Rattle.simulate_drawn.specs.DrawnRounds.{DrawnFrom}
 use Rattle.simulate_drawn.proofs.Answers.{simulate_drawn-answers-exactly}
 
-module _ (t laws numbers : List ℕ) (n : ℕ) (was : List ℤ) (r : Simulated) (vs : List ℤ) where
+module _ (t laws numbers : List ℕ) (n : ℕ) (was : List ℤ) (vs : List ℤ) where
   -- ---- an answer
-  module _ (k : ℕ) (says : says_ended r.ended ≡ some (answered k)) where
-    -- beside a number of rounds there is no refusal
-    refusal : {P : Type 0} {f : Told} → SimulationAnswers (refused f) was r vs → P
-    refusal {f = f} l =
-        let e : ◌≡◌ {A = Option (Answer ℕ)} (some (answered k)) (some (refused f)) = sym says ∙ l.ended in
-        let z : ◌≡◌ {A = ℕ} 0 1 = cc in absurd (omega arith)
+  module _ (p : Simulated) where
+    -- beside an answer there is no refusal
+    refusal : {P : Type 0} {f : Told} → SimulationAnswers (refused f) was (Ok p) vs → P
+    refusal l = absurd l.told
 
     from-rounds : {c : Comp} {cs : List Comp} {a : Answer Simulating} → Holds t (c ∷ cs) → AllDefinition41 (c ∷ cs) × Joinable (c ∷ cs)
-        → EitherTest (c ∷ cs) → RoundsAnswer c cs laws numbers n was a → SimulationAnswers a was r vs → DrawnFrom t laws numbers n was k r vs
+        → EitherTest (c ∷ cs) → RoundsAnswer c cs laws numbers n was a → SimulationAnswers a was (Ok p) vs → DrawnFrom t laws numbers n was p.rounds p vs
     from-rounds h d al (refused-in s x) l = refusal l
     from-rounds {c} {cs} h d al (gives {ls = ls} (are file) (is-done {k = j} {q = q} a most over) put) l =
-        let e : j ≡ k = let w : ◌≡◌ {A = Option (Answer ℕ)} (some (answered j)) (some (answered k)) = sym l.ended ∙ says in cc in
+        let e : j ≡ p.rounds = sym l.rounds in
         record {
           first = c;
           others = cs;
@@ -65,8 +65,8 @@ module _ (t laws numbers : List ℕ) (n : ℕ) (was : List ℤ) (r : Simulated) 
           values = rw l.values put;
         }
 
-    of_image : {a : Answer Simulating} → OnImage t (λ c cs. SimulateDrawnAnswer c cs laws numbers n was) a → SimulationAnswers a was r vs
-        → DrawnFrom t laws numbers n was k r vs
+    of_image : {a : Answer Simulating} → OnImage t (λ c cs. SimulateDrawnAnswer c cs laws numbers n was) a → SimulationAnswers a was (Ok p) vs
+        → DrawnFrom t laws numbers n was p.rounds p vs
     of_image (is20 x) l = refusal l
     of_image (of-model h (refuses x)) l = refusal l
     of_image (of-model h (passes d (refuses x))) l = refusal l
@@ -75,19 +75,16 @@ module _ (t laws numbers : List ℕ) (n : ℕ) (was : List ℤ) (r : Simulated) 
     of_image (of-model h (passes d (passes al (passes b (passes g (refuses x)))))) l = refusal l
     of_image (of-model h (passes d (passes al (passes b (passes g (passes s x)))))) l = from-rounds h d al x l
 
-    pub simulate_drawn-ends-as-any : SimulateDrawnCall t laws numbers n was r vs → DrawnFrom t laws numbers n was k r vs
-    simulate_drawn-ends-as-any call = let e = (simulate_drawn-answers-exactly t laws numbers n was r vs).0 call in of_image e.right e.left
+    pub simulate_drawn-ends-as-any : SimulateDrawnCall t laws numbers n was (Ok p) vs → DrawnFrom t laws numbers n was p.rounds p vs
+    simulate_drawn-ends-as-any call = let e = (simulate_drawn-answers-exactly t laws numbers n was (Ok p) vs).0 call in of_image e.right e.left
 
   -- ---- a refusal where nothing stands before the rounds
-  module _ (f : Told) (says : says_ended r.ended ≡ some (refused f)) where
+  module _ (r : Result Simulated Refusal) (f : Told) (says : RefusedWith f r) where
     why : {c : Comp} {cs : List Comp} {a : Answer Simulating} → RoundsAnswer c cs laws numbers n was a → SimulationAnswers a was r vs
         → (f.number ≡ 30) ⊎ ((f.number ≡ 42) ⊎ (f.number ≡ 50))
-    why (gives {d = d} s x put) l =
-        let e : ◌≡◌ {A = Option (Answer ℕ)} (some (answered d.rounds)) (some (refused f)) = sym l.ended ∙ says in
-        let z : ◌≡◌ {A = ℕ} 0 1 = cc in absurd (omega arith)
+    why (gives s x put) l = absurd (not-both _ r f l says)
     why (refused-in {f = g} s x) l =
-        let e : ◌≡◌ {A = Option (Answer ℕ)} (some (refused g)) (some (refused f)) = sym l.ended ∙ says in
-        let same : g ≡ f = cc in
+        let same : g ≡ f = one-told r g f l.told says in
         subst (λ u. (u.number ≡ 30) ⊎ ((u.number ≡ 42) ⊎ (u.number ≡ 50))) same (refused_why x)
 
     -- the table holds an accepted model that passes either test, no more than 4,096 rounds are asked for, 64 values are lent, and the file

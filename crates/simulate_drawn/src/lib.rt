@@ -10,7 +10,7 @@ ghost use Rattle.simulation.specs.Call.{SimulationAnswers};
 ghost use Rattle.drawing.specs.Call.{simulate_drawn};
 ghost use Rattle.simulate_drawn.specs.SimulateDrawn.{SimulateDrawnCall};
 
-use answer::{Checked, Model, Place, Refusal, Simulated, State};
+use answer::{Model, Place, Refusal, Simulated, State};
 use feed::Source;
 use rounds::Plan;
 
@@ -21,39 +21,30 @@ fn play_laws(
     numbers: &[u64],
     rounds: usize,
     clocks: &mut [i64],
-) -> Simulated
+) -> Result<Simulated, Refusal>
     requires { Runnable t.now × (entry_of (model_of t.now) ≡ none) }
     ensures { SimulationAnswers (simulate_drawn (model_of t.now) laws.now numbers.now rounds clocks.old)
         clocks.old result clocks.new }
 {
     if State::BUDGET < rounds {
-        return simulate::refused(Refusal {
+        return Err(Refusal {
             number: 22,
             place: Place::Whole,
         });
     }
     if clocks.len() != Model::CLOCKS {
-        return simulate::refused(Refusal {
+        return Err(Refusal {
             number: 28,
             place: Place::Whole,
         });
     }
     let mut at = [0usize; Model::CLOCKS];
-    let checked = distributions::scan(laws, enabling::declared(t), &mut at);
-    match checked {
-        Checked::Fine => simulate::play(
-            t,
-            Plan {
-                from: Source::Draws,
-                rounds,
-            },
-            laws,
-            numbers,
-            &mut at,
-            clocks,
-        ),
-        Checked::Refused(f) => simulate::refused(f),
-    }
+    distributions::scan(laws, enabling::declared(t), &mut at)?;
+    let plan = Plan {
+        from: Source::Draws,
+        rounds,
+    };
+    simulate::play(t, plan, laws, numbers, &mut at, clocks)
 }
 
 // So many later rounds over draws: 20, 10 to 17 and check 18, or else 45 and 18, once; then 22, 28 and 49, then round by round 30, 42 and 50.
@@ -63,12 +54,9 @@ pub fn simulate_drawn(
     numbers: &[u64],
     rounds: usize,
     clocks: &mut [i64],
-) -> Simulated
+) -> Result<Simulated, Refusal>
     ensures { SimulateDrawnCall table.now laws.now numbers.now rounds clocks.old result clocks.new }
 {
-    let checked = orderly::may_walk(table);
-    match checked {
-        Checked::Fine => play_laws(table, laws, numbers, rounds, clocks),
-        Checked::Refused(f) => simulate::refused(f),
-    }
+    orderly::may_walk(table)?;
+    play_laws(table, laws, numbers, rounds, clocks)
 }

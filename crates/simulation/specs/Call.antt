@@ -1,11 +1,12 @@
 -- What the call `simulate` answers of a model (02, 4/13): "after the table's, 22 for more rounds, 28 if not 64 values, 40 .., then round by round";
 -- and the 64 lent values then.
-use Rattle.std.specs.Prelude.{◌≡◌, not, cond, List, [], ◌∷◌, ℕ, length, eqb, ℤ}
+use Rattle.std.specs.Prelude.{◌≡◌, not, cond, List, [], ◌∷◌, ℕ, length, eqb, ℤ, Result, IsOkAnd}
 use Rattle.std.proofs.Math.Option.{Option, none, some}
 use Rattle.laws.specs.Sets.{has}
 use Rattle.laws.specs.Search.{when, or_else}
-use Rattle.answer.specs.Limits.{max_clocks, no_state}
-use Rattle.answer.specs.Told.{Told, tell, Answer, answered, refused, says_ended}
+use Rattle.answer.specs.Limits.{max_clocks}
+use Rattle.answer.specs.Told.{Told, tell, Answer, answered, refused, RefusedWith}
+use Rattle.answer.specs.declared.Refusal.{Refusal}
 use Rattle.answer.specs.declared.Simulated.{Simulated}
 use Rattle.words.specs.Bytes.{state_of}
 use Rattle.model.specs.Model.{Model, declared}
@@ -50,17 +51,16 @@ simulate_text m t n was = simulate_with m (supplied m t) n was
 
 -- ---- what is answered, and what the lent values are then
 -- "later rounds done and state": as many parts as components, places behind them 0
-pub record SimulationGives (d : Simulating) (r : Simulated) (vs : List ℤ) : Type 0 where
-  pub ended : says_ended r.ended ≡ some (answered d.rounds)
-  pub state : r.state ≡ state_of d.state
+pub record SimulationGives (d : Simulating) (p : Simulated) (vs : List ℤ) : Type 0 where
+  pub rounds : p.rounds ≡ d.rounds
+  pub state : p.state ≡ state_of d.state
   pub values : vs ≡ d.values
 
 -- "A refusal returns its number and place and changes no lent byte"; was are the values before
-pub record SimulationRefused (f : Told) (was : List ℤ) (r : Simulated) (vs : List ℤ) : Type 0 where
-  pub ended : says_ended r.ended ≡ some (refused f)
-  pub state : r.state ≡ no_state
+pub record SimulationRefused (f : Told) (was : List ℤ) (r : Result Simulated Refusal) (vs : List ℤ) : Type 0 where
+  pub told : RefusedWith f r
   pub values : vs ≡ was
 
-abbrev pub SimulationAnswers : Answer Simulating → List ℤ → Simulated → List ℤ → Type 0
-SimulationAnswers (answered d) was r vs = SimulationGives d r vs
+abbrev pub SimulationAnswers : Answer Simulating → List ℤ → Result Simulated Refusal → List ℤ → Type 0
+SimulationAnswers (answered d) was r vs = IsOkAnd r (λ p. SimulationGives d p vs)
 SimulationAnswers (refused f) was r vs = SimulationRefused f was r vs

@@ -1,16 +1,16 @@
 -- What is printed, by the ways in which reading and simulating go.
 use mathlib.Core.Path.{◌≡◌, refl, sym, ◌∙◌, ap, subst}
-use mathlib.Core.Option.{Option, none, some}
+use mathlib.Core.Option.{some}
 use mathlib.Core.List.{List, ◌∷◌}
 use Prim.Native.Nat.{ℕ, ◌+◌, ◌≤◌}
 use native.Mathlib.Omega.{arith}
 use lib.IntN.{ℤ}
 use lib.ListN.{length}
 use Rattle.answer.specs.Limits.{max_components}
-use Rattle.answer.specs.Told.{Told, told, Answer, answered, refused, as_refused, says_ended}
+use Rattle.answer.specs.Told.{Told, told, Answer, answered, refused}
 use Rattle.answer.specs.State.{parts_of}
 use Rattle.answer.proofs.StateLaws.{parts-length}
-use Rattle.answer.specs.declared.Ended.TheVariants as OfEnded
+use Rattle.std.specs.Prelude.{Result, Ok, Err}
 use Rattle.answer.specs.declared.Refusal.{Refusal}
 use Rattle.answer.specs.declared.Simulated.{Simulated}
 use Rattle.answer.specs.declared.State.{State}
@@ -46,61 +46,48 @@ unfolding simulated_text
 read-fine input samples n m e = rw (e, simulated_text)
 
 -- ---- the call on a table, with 64 values that are 0
--- the rounds of an answer
-abbrev rounds_in : Answer Simulating → Answer ℕ
-rounds_in (refused f) = refused f
-rounds_in (answered d) = answered d.rounds
+module _ (t samples : List ℕ) (n : ℕ) (vs : List ℤ) (im : Image t) where
+  answers : (r : Result Simulated Refusal) → SimulateCall t samples n no_values r vs
+      → SimulationAnswers (simulate_text (model_of t) samples n no_values) no_values r vs
+  answers r call = subst (λ a. SimulationAnswers a no_values r vs) (on-image t (λ m. simulate_text m samples n no_values) ((image-exactly t).1 im)) call
 
-says : (a : Answer Simulating) (was : List ℤ) (r : Simulated) (vs : List ℤ) → SimulationAnswers a was r vs → says_ended r.ended ≡ some (rounds_in a)
-says (refused f) was r vs l = l.ended
-says (answered d) was r vs l = l.ended
-
-module _ (t samples : List ℕ) (n : ℕ) (r : Simulated) (vs : List ℤ) (im : Image t) (call : SimulateCall t samples n no_values r vs) where
-  answers : SimulationAnswers (simulate_text (model_of t) samples n no_values) no_values r vs
-  answers = subst (λ a. SimulationAnswers a no_values r vs) (on-image t (λ m. simulate_text m samples n no_values) ((image-exactly t).1 im)) call
-
-  pub ends-refused : (f : Refusal) → r.ended ≡ OfEnded.Refused f → (u : Told) × (told f ≡ some u) × (ends_text (model_of t) samples n ≡ refused_line u)
-  unfolding says_ended ends_text
-  ends-refused f e = go (told f) refl (simulate_text (model_of t) samples n no_values) refl
-      (ap says_ended (sym e) ∙ says (simulate_text (model_of t) samples n no_values) no_values r vs answers)
+  pub ends-refused : (f : Refusal) → SimulateCall t samples n no_values (Err f) vs
+      → (u : Told) × (told f ≡ some u) × (ends_text (model_of t) samples n ≡ refused_line u)
+  unfolding ends_text
+  ends-refused f call = go (simulate_text (model_of t) samples n no_values) refl (answers (Err f) call)
     where
-      go : (o : Option Told) → told f ≡ o → (a : Answer Simulating) → simulate_text (model_of t) samples n no_values ≡ a
-          → ◌≡◌ {A = Option (Answer ℕ)} (as_refused o) (some (rounds_in a))
+      go : (a : Answer Simulating) → simulate_text (model_of t) samples n no_values ≡ a → SimulationAnswers a no_values (Err f) vs
           → (u : Told) × (told f ≡ some u) × (ends_text (model_of t) samples n ≡ refused_line u)
-      go none p a q s = absurd (let z : ◌≡◌ {A = ℕ} 0 1 = cc in omega arith)
-      go (some u) p (answered d) q s = absurd (let z : ◌≡◌ {A = ℕ} 0 1 = cc in omega arith)
-      go (some u) p (refused v) q s = let w : u ≡ v = cc in (u, p, rw (q, ends_text) (ap refused_line (sym w)))
+      go (answered d) q l = absurd l
+      go (refused u) q l = (u, l.told, rw (q, ends_text) refl)
 
-  module _ (k : ℕ) (e : r.ended ≡ OfEnded.Rounds k) where
-    pub ends-few : r.state.count ≤ max_components
-    unfolding says_ended state_of
+  module _ (p : Simulated) (call : SimulateCall t samples n no_values (Ok p) vs) where
+    pub ends-few : p.state.count ≤ max_components
+    unfolding state_of
     ends-few =
-        let q = simulate-ends-as-any t samples n no_values r vs k (ap says_ended e) call in
+        let q = simulate-ends-as-any t samples n no_values vs p call in
         let w = after-within q.first q.others (recorded q.lists) q.after in
-        let c : r.state.count ≡ length q.last.state = ap (λ (x : State). x.count) q.state in
+        let c : p.state.count ≡ length q.last.state = ap (λ (x : State). x.count) q.state in
         omega (arith, c, within-length (q.first ∷ q.others) q.last.state w, q.holds.well.components)
 
-    pub ends-done : ends_text (model_of t) samples n ≡ ended_text k (parts_of r.state) (declared (model_of t)) vs
-    unfolding says_ended ends_text state_of
-    ends-done = go (simulate_text (model_of t) samples n no_values) refl answers
+    pub ends-done : ends_text (model_of t) samples n ≡ ended_text p.rounds (parts_of p.state) (declared (model_of t)) vs
+    unfolding ends_text state_of
+    ends-done = go (simulate_text (model_of t) samples n no_values) refl (answers (Ok p) call)
       where
-        go : (a : Answer Simulating) → simulate_text (model_of t) samples n no_values ≡ a → SimulationAnswers a no_values r vs
-            → ends_text (model_of t) samples n ≡ ended_text k (parts_of r.state) (declared (model_of t)) vs
-        go (refused f) q l = absurd (
-            let s : ◌≡◌ {A = Option (Answer ℕ)} (some (answered k)) (some (refused f)) = ap says_ended (sym e) ∙ l.ended in
-            let z : ◌≡◌ {A = ℕ} 0 1 = cc in omega arith)
+        go : (a : Answer Simulating) → simulate_text (model_of t) samples n no_values ≡ a → SimulationAnswers a no_values (Ok p) vs
+            → ends_text (model_of t) samples n ≡ ended_text p.rounds (parts_of p.state) (declared (model_of t)) vs
+        go (refused f) q l = absurd l.told
         go (answered d) q l =
-            let s : ◌≡◌ {A = Option (Answer ℕ)} (some (answered k)) (some (answered d.rounds)) = ap says_ended (sym e) ∙ l.ended in
-            let rounds : d.rounds ≡ k = cc in
-            let c : r.state.count ≡ length d.state = ap (λ (x : State). x.count) l.state in
-            let state : d.state ≡ parts_of r.state = sym (ap parts_of l.state ∙ state-numbers d.state (omega (arith, c, ends-few))) in
+            let rounds : d.rounds ≡ p.rounds = sym l.rounds in
+            let c : p.state.count ≡ length d.state = ap (λ (x : State). x.count) l.state in
+            let state : d.state ≡ parts_of p.state = sym (ap parts_of l.state ∙ state-numbers d.state (omega (arith, c, ends-few))) in
             rw (q, ends_text, rounds, state, l.values) refl
 
     -- what is printed of it has room
-    pub ends-room : (d : ℕ) (old : List ℕ) → most_bytes ≤ length old → 0 + length (ended_text k (parts_of r.state) d vs) ≤ length old
-    ends-room d old room = omega (arith, room, ended-most k (parts_of r.state) d vs (omega (arith, parts-length r.state, ends-few)))
+    pub ends-room : (d : ℕ) (old : List ℕ) → most_bytes ≤ length old → 0 + length (ended_text p.rounds (parts_of p.state) d vs) ≤ length old
+    ends-room d old room = omega (arith, room, ended-most p.rounds (parts_of p.state) d vs (omega (arith, parts-length p.state, ends-few)))
 
     pub ends-put : (d : ℕ) → d ≡ declared (model_of t) → (old new : List ℕ) (j : ℕ) → most_bytes ≤ length old
-        → Put old 0 (ended_text k (parts_of r.state) d vs) new j → Printed (ends_text (model_of t) samples n) old new j
-    ends-put d q old new j room p =
-        as-printed (ap (λ y. ended_text k (parts_of r.state) y vs) q ∙ sym ends-done) (record { put = p; room = omega (arith, ends-room d old room) })
+        → Put old 0 (ended_text p.rounds (parts_of p.state) d vs) new j → Printed (ends_text (model_of t) samples n) old new j
+    ends-put d q old new j room w =
+        as-printed (ap (λ y. ended_text p.rounds (parts_of p.state) y vs) q ∙ sym ends-done) (record { put = w; room = omega (arith, ends-room d old room) })

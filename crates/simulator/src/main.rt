@@ -10,13 +10,12 @@ ghost use Rattle.steplines.specs.Run.{most_bytes};
 ghost use Rattle.printout.specs.Printed.{Printed, Filled};
 ghost use Rattle.simulator.specs.Simulated.{ends_text, simulated_text};
 
-use answer::{Checked, Ended, Model, State};
+use answer::{Model, State};
 use feed::Source;
-use fields::{Cursor, NumberScan};
+use fields::Cursor;
 use rounds::Plan;
 use std::fs::File;
 use std::rt::Env;
-use stream::Moved;
 
 // 64 lines of 4,097 samples have at most 3,671,488 bytes: whatever a simulation can use is shorter than this. What fills it is told, and never cut.
 const SAMPLES: usize = 4194304;
@@ -32,12 +31,9 @@ fn put_ends(t: &[u64], samples: &[u8], rounds: usize, out: &mut [u8]) -> usize
     ensures { Printed (ends_text (model_of t.now) samples.now rounds) out.old out.new result }
 {
     let mut values = [0i64; Model::CLOCKS];
-    let d = simulate::simulate(t, samples, rounds, &mut values);
-    let state = d.state;
-    let ended = d.ended;
-    match ended {
-        Ended::Refused(f) => printout::put_refusal(f, out),
-        Ended::Rounds(k) => roundlines::put_ended(out, k, state, enabling::declared(t), &values),
+    match simulate::simulate(t, samples, rounds, &mut values) {
+        Err(f) => printout::put_refusal(f, out),
+        Ok(d) => roundlines::put_ended(out, d.rounds, d.state, enabling::declared(t), &values),
     }
 }
 
@@ -46,10 +42,9 @@ fn put_simulated(input: &[u8], samples: &[u8], rounds: usize, out: &mut [u8]) ->
     ensures { Printed (simulated_text input.now samples.now rounds) out.old out.new result }
 {
     let mut table = [0u64; layout::WORDS];
-    let checked = text::read(input, &mut table);
-    match checked {
-        Checked::Refused(f) => printout::put_refusal(f, out),
-        Checked::Fine => put_ends(&table, samples, rounds, out),
+    match text::read(input, &mut table) {
+        Err(f) => printout::put_refusal(f, out),
+        Ok(()) => put_ends(&table, samples, rounds, out),
     }
 }
 
@@ -64,7 +59,7 @@ fn filled(input: &[u8], samples: &[u8], rounds: usize, out: &mut [u8]) -> usize
 fn answer(rt: &HostRuntime, input: &[u8], samples: &[u8], rounds: usize) {
     let mut out = printout::empty_out();
     let k = filled(input, samples, rounds, &mut out);
-    if let Moved::Failed(e) = stream::write(rt, &mut rt.stdout(), &out[..k]) {
+    if let Err(e) = stream::write(rt, &mut rt.stdout(), &out[..k]) {
         failing::say(rt, b"simulate: the answer could not be written whole", e);
     }
 }
@@ -77,53 +72,44 @@ fn lines_of(rt: &HostRuntime, t: &[u64], recorded: &[u8], rounds: usize) -> bool
         return true;
     }
     let mut at = [0usize; Model::CLOCKS];
-    let checked = samples::scan(recorded, enabling::declared(t), &mut at);
-    match checked {
-        Checked::Fine => lining::lines(
-            rt,
-            t,
-            Plan {
+    match samples::scan(recorded, enabling::declared(t), &mut at) {
+        Ok(()) => {
+            let plan = Plan {
                 from: Source::Lists,
                 rounds,
-            },
-            recorded,
-            &[],
-            &mut at,
-        ),
-        Checked::Refused(_) => true,
+            };
+            lining::lines(rt, t, plan, recorded, &[], &mut at)
+        }
+        Err(_) => true,
     }
 }
 
 fn lines_on(rt: &HostRuntime, t: &[u64], recorded: &[u8], rounds: usize) -> bool {
-    let checked = orderly::may_walk(t);
-    match checked {
-        Checked::Fine => lines_of(rt, t, recorded, rounds),
-        Checked::Refused(_) => true,
+    match orderly::may_walk(t) {
+        Ok(()) => lines_of(rt, t, recorded, rounds),
+        Err(_) => true,
     }
 }
 
 fn lines(rt: &HostRuntime, input: &[u8], recorded: &[u8], rounds: usize) -> bool {
     let mut table = [0u64; layout::WORDS];
-    let checked = text::read(input, &mut table);
-    match checked {
-        Checked::Fine => lines_on(rt, &table, recorded, rounds),
-        Checked::Refused(_) => true,
+    match text::read(input, &mut table) {
+        Ok(()) => lines_on(rt, &table, recorded, rounds),
+        Err(_) => true,
     }
 }
 
 // The rounds are gone through twice: for their lines, as they come, and by the call, whose answer the last lines are.
 fn tell(rt: &HostRuntime, input: &[u8], recorded: &[u8], rounds: usize, show: bool) {
-    if show {
-        if !lines(rt, input, recorded, rounds) {
-            return;
-        }
+    if show && !lines(rt, input, recorded, rounds) {
+        return;
     }
     answer(rt, input, recorded, rounds)
 }
 
 // ---- the arguments and the two inputs
 fn usage(rt: &HostRuntime) {
-    stream::write(
+    let _ = stream::write(
         rt,
         &mut rt.stderr(),
         b"usage: ./simulate [--lines] ROUNDS SAMPLES < MODEL\n",
@@ -133,15 +119,15 @@ fn usage(rt: &HostRuntime) {
 fn with_model(rt: &HostRuntime, samples: &[u8], rounds: usize, show: bool) {
     let mut input = printout::empty_input();
     match stream::read(rt, &mut rt.stdin(), &mut input) {
-        Moved::Bytes(n) => tell(rt, &input[..n], samples, rounds, show),
-        Moved::Failed(e) => failing::say(rt, b"simulate: standard input could not be read", e),
+        Ok(n) => tell(rt, &input[..n], samples, rounds, show),
+        Err(e) => failing::say(rt, b"simulate: standard input could not be read", e),
     }
 }
 
 // The samples are read into a space that is lent, to the end of the file.
 fn read_samples(rt: &HostRuntime, file: &mut File, rounds: usize, show: bool, space: &mut [u8]) {
     match stream::read(rt, file, space) {
-        Moved::Bytes(n) => {
+        Ok(n) => {
             if n == space.len() {
                 failing::say(
                     rt,
@@ -152,7 +138,7 @@ fn read_samples(rt: &HostRuntime, file: &mut File, rounds: usize, show: bool, sp
             }
             with_model(rt, &space[..n], rounds, show)
         }
-        Moved::Failed(e) => failing::say(rt, b"simulate: the file of samples could not be read", e),
+        Err(e) => failing::say(rt, b"simulate: the file of samples could not be read", e),
     }
 }
 
@@ -198,23 +184,11 @@ fn with_file(rt: &HostRuntime, i: usize, rounds: usize, show: bool) {
     }
 }
 
-// The whole of a word is a number.
-#[derive(Drop)]
-enum Asked {
-    Rounds(usize),
-    Wrong,
-}
-
-fn rounds_in(word: &[u8]) -> Asked {
+// The number that the whole of a word is.
+fn rounds_in(word: &[u8]) -> Option<usize> {
     match fields::number(word, Cursor { at: 0 }) {
-        NumberScan::Is(c, n) => {
-            if c.at == word.len() {
-                Asked::Rounds(n as usize)
-            } else {
-                Asked::Wrong
-            }
-        }
-        NumberScan::Missing(_, _) => Asked::Wrong,
+        Ok((c, n)) if c.at == word.len() => Some(n as usize),
+        _ => None,
     }
 }
 
@@ -223,8 +197,8 @@ fn from_arguments(rt: &HostRuntime, i: usize, j: usize, show: bool) {
     let mut word = io::buffer();
     let n = word_at(rt, i, &mut word);
     match rounds_in(&word[..n]) {
-        Asked::Rounds(k) => with_file(rt, j, k, show),
-        Asked::Wrong => usage(rt),
+        Some(k) => with_file(rt, j, k, show),
+        None => usage(rt),
     }
 }
 

@@ -1,7 +1,8 @@
 -- The rows and the bytes of the merged model, as they are summed before anything is written.
 use mathlib.Core.Path.{◌≡◌, sym, ◌∙◌, ap, ap₂}
-use mathlib.Core.Bool.{Bool, true, false, ◌&&◌}
+use mathlib.Core.Bool.{true, false, ◌&&◌}
 use mathlib.Core.List.{List}
+use Rattle.std.specs.Prelude.{Some, None}
 use Prim.Native.Nat.{ℕ, suc, ◌+◌, ◌*◌, ◌-◌, ◌≤◌, ◌<◌}
 use native.Mathlib.Omega.{arith}
 use lib.ListN.{length, take, drop, length-append, take-append-drop}
@@ -125,9 +126,9 @@ module _ (t : List ℕ) (im : Image t) (i : ℕ) (h : i + 1 < count_of t) where
   pairs-are = ap (λ c. c.states * (comp_at m (suc i)).states) first-is ∙ ap (λ d. block_word t i 0 * d.states) second_is
 
   pub many-states : (tall wide : ℕ) → tall ≡ block_word t i 0 → wide ≡ block_word t (i + 1) 0 → max_states < tall * wide
-      → Sized t i (record { fits = false; new = 0 })
+      → Sized t i None
   many-states tall wide et ew b =
-      record { fits = λ e. absurd (let z : ◌≡◌ {A = ℕ} 0 1 = cc in omega arith); big = λ _ f. omega (arith, f.states, pairs-are, ap₂ ◌*◌ et ew) }
+      record { fits = λ n e. cc; big = λ _ f. omega (arith, f.states, pairs-are, ap₂ ◌*◌ et ew) }
 
   -- ---- the walk, where the states are few
   module _ (tall wide : ℕ) (et : tall ≡ block_word t i 0) (ew : wide ≡ block_word t (i + 1) 0) (low : tall * wide ≤ max_states) where
@@ -171,21 +172,23 @@ module _ (t : List ℕ) (im : Image t) (i : ℕ) (h : i + 1 < count_of t) where
                 (well-formed t im).rows,
               )
 
-          pub few-states : (b : Bool) → b ≡ (leb (start + n.rows + behind) max_rows && leb n.bytes max_bytes)
-              → Sized t i (record { fits = b; new = start + n.rows })
-          few-states b eb' = record { fits = λ y. (fit (sym eb' ∙ y), omega (arith, rows-now)); big = λ y f. over (sym eb' ∙ y) f }
-            where
-              fit : (leb (start + n.rows + behind) max_rows && leb n.bytes max_bytes) ≡ true → FitsIn m i
-              fit y =
-                  let p = and-true (leb (start + n.rows + behind) max_rows) (leb n.bytes max_bytes) y in
-                  record {
-                    states = omega (arith, pairs-are, few);
-                    rows = omega (arith, leb-true (start + n.rows + behind) max_rows p.0, rows-summed);
-                    bytes = omega (arith, leb-true n.bytes max_bytes p.1, bytes-now);
-                  }
+          fit : (leb (start + n.rows + behind) max_rows && leb n.bytes max_bytes) ≡ true → FitsIn m i
+          fit y =
+              let p = and-true (leb (start + n.rows + behind) max_rows) (leb n.bytes max_bytes) y in
+              record {
+                states = omega (arith, pairs-are, few);
+                rows = omega (arith, leb-true (start + n.rows + behind) max_rows p.0, rows-summed);
+                bytes = omega (arith, leb-true n.bytes max_bytes p.1, bytes-now);
+              }
 
-              over : (leb (start + n.rows + behind) max_rows && leb n.bytes max_bytes) ≡ false → FitsIn m i → ⊥
-              over y f =
-                  let z = and-false (leb (start + n.rows + behind) max_rows) (leb n.bytes max_bytes) y
-                  (le-leb (start + n.rows + behind) max_rows (omega (arith, f.rows, rows-summed))) in
-                  omega (arith, leb-false n.bytes max_bytes z, f.bytes, bytes-now)
+          over : (leb (start + n.rows + behind) max_rows && leb n.bytes max_bytes) ≡ false → FitsIn m i → ⊥
+          over y f =
+              let z = and-false (leb (start + n.rows + behind) max_rows) (leb n.bytes max_bytes) y
+              (le-leb (start + n.rows + behind) max_rows (omega (arith, f.rows, rows-summed))) in
+              omega (arith, leb-false n.bytes max_bytes z, f.bytes, bytes-now)
+
+          pub few-states : (leb (start + n.rows + behind) max_rows && leb n.bytes max_bytes) ≡ true → Sized t i (Some (start + n.rows))
+          few-states y = record { fits = λ k e. let z : start + n.rows ≡ k = cc in (fit y, omega (arith, rows-now)); big = λ e f. cc }
+
+          pub too-many : (leb (start + n.rows + behind) max_rows && leb n.bytes max_bytes) ≡ false → Sized t i None
+          too-many y = record { fits = λ k e. cc; big = λ e f. over y f }

@@ -14,12 +14,6 @@ ghost use Rattle.sizing.specs.Sized.{Sized};
 use answer::Model;
 use product::Tally;
 
-#[derive(Drop)]
-pub struct Size {
-    pub fits: bool,
-    pub new: usize,
-}
-
 // The lines of the product of components i and j beside its rows.
 fn head_width(t: &[u64], i: usize, j: usize) -> usize
     requires { Image t.now × (i < count_of t.now) × (j < count_of t.now) }
@@ -55,25 +49,20 @@ fn fits(rows: usize, bytes: usize) -> bool
     rows <= Model::ROWS && bytes <= Model::BYTES
 }
 
-// `into` is only lent on to the walk that counts: nothing is written. The walk is as long as the product has rows, so its states are tested first.
-pub fn size_of(t: &[u64], i: usize, into: &mut [u64]) -> Size
+// Where the rows of the product end, if it fits. `into` is only lent on to the walk that counts: nothing is written. The walk is as long as the product has
+// rows, so its states are tested first.
+pub fn size_of(t: &[u64], i: usize, into: &mut [u64]) -> Option<usize>
     requires { Image t.now × (i + 1 < count_of t.now) × (image_words ≤ length into.old) }
     ensures { Sized t.now i result × (into.new ≡ into.old) }
 {
     let tall = layout::block_word(t, i, layout::STATES);
     let wide = layout::block_word(t, i + 1, layout::STATES);
     if tall * wide > Model::STATES as u64 {
-        return Size {
-            fits: false,
-            new: 0,
-        };
+        return None;
     }
     let bytes = bytes_beside(t, i);
     let n = product::emit_product(t, i, i + 1, into, 0, Tally { rows: 0, bytes });
     let new = merging::start_of(t, i) + n.rows;
     let rows = new + rows_behind(t, i + 1);
-    Size {
-        fits: fits(rows, n.bytes),
-        new,
-    }
+    if fits(rows, n.bytes) { Some(new) } else { None }
 }

@@ -1,5 +1,5 @@
 -- What a run prints, and how long a report can be.
-use Rattle.std.specs.Prelude.{List, [], ◌∷◌, ◌++◌, ℕ, ◌+◌, ◌*◌, ◌-◌}
+use Rattle.std.specs.Prelude.{List, ◌++◌, ℕ, ◌+◌, ◌*◌, ◌-◌}
 use Rattle.answer.specs.Limits.{max_components, max_budget}
 use Rattle.model.specs.Model.{Model}
 use Rattle.iosa.specs.Step.{urgent_step}

@@ -39,25 +39,22 @@ pub fn put_run(t: &[u64], x: State, budget: usize, out: &mut [u8]) -> usize
 {
     let mut cur = x;
     let mut resets = 0u64;
-    let mut steps = 0usize;
     let mut at = 0usize;
-    while steps < budget {
+    for steps in 0..budget {
         let a = moves::lowest_all(t, cur);
         if Model::ACTIONS as u64 <= a {
             return tell::put_last(out, at, true, steps, resets, cur);
         }
         let m = moves::move_all(t, cur, a);
-        let next = m.state;
-        at = tell::put_step(out, at, steps + 1, a, m.resets, next);
+        at = tell::put_step(out, at, steps + 1, a, m.resets, m.state);
         resets = sets::union(resets, m.resets);
-        cur = next;
-        steps += 1;
+        cur = m.state;
     }
     let a = moves::lowest_all(t, cur);
     if Model::ACTIONS as u64 <= a {
-        return tell::put_last(out, at, true, steps, resets, cur);
+        return tell::put_last(out, at, true, budget, resets, cur);
     }
-    tell::put_last(out, at, false, steps, resets, cur)
+    tell::put_last(out, at, false, budget, resets, cur)
 }
 
 // A refusal whose place is the whole.

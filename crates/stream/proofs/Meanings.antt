@@ -9,8 +9,8 @@ use lib.Signed.{le_z, non_neg}
 use mir.Val.{Fits, SFits, of_z}
 use mir.Syntax.{w32, w64}
 use borrow.Author.Tests.{leb-false, eq-eqb, ne_eqb}
-use Rattle.stream.specs.Stream.{passes, tried_of, AtMost}
-use Rattle.stream.specs.declared.Tried.TheVariants.{Moved, Again, Failed}
+use Rattle.stream.specs.Stream.{Tried, passes, tried_of, AtMost}
+use Rattle.std.specs.Prelude.{Ok, Err, Some, None}
 
 -- ---- a number of bytes
 pub is-count : (z : ℤ) → le_z (pos 0) z ≡ true → T (non_neg z)
@@ -21,18 +21,18 @@ pub count_fits : (z : ℤ) → SFits w64 z → Fits w64 (nat_abs z)
 count_fits (pos n) f = record { fits = omega (arith, f.sfits) }
 count_fits (negsuc n) f = record { fits = omega (arith, f.sfits) }
 
-pub moved-of : (z e : ℤ) → le_z (pos 0) z ≡ true → Moved (nat_abs z) ≡ tried_of z e
+pub moved-of : (z e : ℤ) → le_z (pos 0) z ≡ true → ◌≡◌ {A = Tried} (Ok (Some (nat_abs z))) (tried_of z e)
 unfolding tried_of
 moved-of (pos n) e h = refl
 moved-of (negsuc n) e h = absurd (false≢true h)
 
 -- ---- an error, by its bits
-pub again-of : (z e : ℤ) → le_z (pos 0) z ≡ false → passes e ≡ true → Again ≡ tried_of z e
+pub again-of : (z e : ℤ) → le_z (pos 0) z ≡ false → passes e ≡ true → ◌≡◌ {A = Tried} (Ok None) (tried_of z e)
 unfolding tried_of
 again-of (pos n) e h p = absurd (omega (arith, leb-false 0 n h))
 again-of (negsuc n) e h p = rw p
 
-pub failed-of : (z e : ℤ) → le_z (pos 0) z ≡ false → passes e ≡ false → Failed e ≡ tried_of z e
+pub failed-of : (z e : ℤ) → le_z (pos 0) z ≡ false → passes e ≡ false → ◌≡◌ {A = Tried} (Err e) (tried_of z e)
 unfolding tried_of
 failed-of (pos n) e h p = absurd (omega (arith, leb-false 0 n h))
 failed-of (negsuc n) e h p = rw p
@@ -61,6 +61,6 @@ pub none_moved : (most k : ℕ) (e : ℤ) → AtMost most (tried_of (negsuc k) e
 unfolding tried_of
 none_moved most k e n same = absurd (go (passes e) same)
   where
-    go : (b : Bool) → cond b Again (Failed e) ≡ Moved n → ⊥
+    go : (b : Bool) → ◌≡◌ {A = Tried} (cond b (Ok None) (Err e)) (Ok (Some n)) → ⊥
     go true same = let z : ◌≡◌ {A = ℕ} 0 1 = cc in omega arith
     go false same = let z : ◌≡◌ {A = ℕ} 0 1 = cc in omega arith

@@ -23,38 +23,24 @@ const EIO: i32 = 5;
 
 const EAGAIN: i32 = 11;
 
-// What one call of the system's came to.
-#[derive(Drop)]
-enum Tried {
-    // so many bytes; of a read, none is the end of the input
-    Moved(usize),
-    // interrupted, or it would have had to wait
-    Again,
-    // the number of the error
-    Failed(i32),
-}
-
-// What came of it in the end.
-#[derive(Drop)]
-pub enum Moved {
-    Bytes(usize),
-    Failed(i32),
-}
+// What one call of the system's came to: so many bytes, of which none is the end of an input; nothing, where it was interrupted or
+// would have had to wait; or the number of the error.
+type Tried = Result<Option<usize>, i32>;
 
 // Only an answer below zero is a failure, and only these two errors pass by themselves.
 fn meant(got: isize, error: i32) -> Tried
     ensures { result ≡ tried_of got error }
 {
     if got >= 0 {
-        return Tried::Moved(got as usize);
+        return Ok(Some(got as usize));
     }
     if error == EINTR {
-        return Tried::Again;
+        return Ok(None);
     }
     if error == EAGAIN {
-        return Tried::Again;
+        return Ok(None);
     }
-    Tried::Failed(error)
+    Err(error)
 }
 
 // The number of an error, the system's own where it has one.
@@ -81,88 +67,71 @@ fn try_read<R: Read>(input: &mut R, buf: &mut [u8], from: usize) -> Tried
     requires { from ≤ length buf.old }
     ensures { Tries buf.old from buf.new result }
 {
-    let answer = input.read(&mut buf[from..]);
-    match answer {
+    match input.read(&mut buf[from..]) {
         Ok(n) => meant(n as isize, 0),
         Err(e) => meant(-1, number(&e)),
     }
 }
 
 // Reads until something comes of it.
-fn read_some<R: Read>(clock: &impl Clock, input: &mut R, buf: &mut [u8], from: usize) -> Moved
+fn read_some<R: Read>(
+    clock: &impl Clock,
+    input: &mut R,
+    buf: &mut [u8],
+    from: usize,
+) -> Result<usize, i32>
     requires { from ≤ length buf.old }
     ensures { Gets buf.old from buf.new result }
 {
-    let mut left = TRIES;
-    while left > 0 {
-        match try_read(input, buf, from) {
-            Tried::Moved(n) => return Moved::Bytes(n),
-            Tried::Failed(e) => return Moved::Failed(e),
-            Tried::Again => pause(clock),
+    for _ in 0..TRIES {
+        if let Some(n) = try_read(input, buf, from)? {
+            return Ok(n);
         }
-        left -= 1;
+        pause(clock);
     }
-    Moved::Failed(EAGAIN)
+    Err(EAGAIN)
 }
 
 // Reads until a buffer is full or the input ends.
-fn fill<R: Read>(clock: &impl Clock, input: &mut R, buf: &mut [u8]) -> Moved
+fn fill<R: Read>(clock: &impl Clock, input: &mut R, buf: &mut [u8]) -> Result<usize, i32>
     ensures { Within (length buf.new) result }
 {
     let mut done = 0;
     while done < buf.len() {
-        match read_some(clock, input, buf, done) {
-            Moved::Failed(e) => return Moved::Failed(e),
-            Moved::Bytes(n) => {
-                if n == 0 {
-                    break;
-                }
-                done += n;
-            }
+        let n = read_some(clock, input, buf, done)?;
+        if n == 0 {
+            break;
         }
+        done += n;
     }
-    Moved::Bytes(done)
-}
-
-fn less(a: usize, b: usize) -> usize
-    ensures { result ≡ a - b }
-{
-    if a < b { 0 } else { a - b }
+    Ok(done)
 }
 
 // Reads on to the end of the input, or for so many bytes, and keeps none.
-fn skip<R: Read>(clock: &impl Clock, input: &mut R, most: usize) -> Moved {
+fn skip<R: Read>(clock: &impl Clock, input: &mut R, most: usize) -> Result<(), i32> {
     let mut space = [0u8; 65536];
     let chunk: &mut [u8] = &mut space;
     let mut left = most;
     while left > 0 {
-        match read_some(clock, input, chunk, 0) {
-            Moved::Failed(e) => return Moved::Failed(e),
-            Moved::Bytes(n) => {
-                if n == 0 {
-                    break;
-                }
-                left = less(left, n);
-            }
+        let n = read_some(clock, input, chunk, 0)?;
+        if n == 0 {
+            break;
         }
+        left = left.saturating_sub(n);
     }
-    Moved::Bytes(0)
+    Ok(())
 }
 
 // Reads the input to its end, and answers how many of its bytes stand at the front of a buffer, or the error at which it stopped.
 // What no longer fits is read too, so that whoever sends it can end: up to BEHIND bytes, since not every input ends.
-pub fn read<R: Read>(clock: &impl Clock, input: &mut R, buf: &mut [u8]) -> Moved
+pub fn read<R: Read>(clock: &impl Clock, input: &mut R, buf: &mut [u8]) -> Result<usize, i32>
     ensures { Within (length buf.new) result }
 {
-    let front = fill(clock, input, buf);
-    if let Moved::Bytes(n) = front {
-        if n == buf.len() {
-            if let Moved::Failed(e) = skip(clock, input, BEHIND) {
-                return Moved::Failed(e);
-            }
-        }
+    let n = fill(clock, input, buf)?;
+    if n == buf.len() {
+        skip(clock, input, BEHIND)?;
     }
-    front
+    Ok(n)
 }
 
 // One write of a buffer from a place on.
@@ -170,45 +139,42 @@ fn try_write<W: Write>(output: &mut W, buf: &[u8], from: usize) -> Tried
     requires { from ≤ length buf.now }
     ensures { AtMost (length buf.now - from) result }
 {
-    let answer = output.write(&buf[from..]);
-    match answer {
+    match output.write(&buf[from..]) {
         Ok(n) => meant(n as isize, 0),
         Err(e) => meant(-1, number(&e)),
     }
 }
 
 // Writes until something comes of it.
-fn write_some<W: Write>(clock: &impl Clock, output: &mut W, buf: &[u8], from: usize) -> Moved
+fn write_some<W: Write>(
+    clock: &impl Clock,
+    output: &mut W,
+    buf: &[u8],
+    from: usize,
+) -> Result<usize, i32>
     requires { from ≤ length buf.now }
     ensures { Within (length buf.now - from) result }
 {
-    let mut left = TRIES;
-    while left > 0 {
-        match try_write(output, buf, from) {
-            Tried::Moved(n) => return Moved::Bytes(n),
-            Tried::Failed(e) => return Moved::Failed(e),
-            Tried::Again => pause(clock),
+    for _ in 0..TRIES {
+        if let Some(n) = try_write(output, buf, from)? {
+            return Ok(n);
         }
-        left -= 1;
+        pause(clock);
     }
-    Moved::Failed(EAGAIN)
+    Err(EAGAIN)
 }
 
 // Writes a buffer whole, and answers its length, or the error at which it stopped.
-pub fn write<W: Write>(clock: &impl Clock, output: &mut W, buf: &[u8]) -> Moved
+pub fn write<W: Write>(clock: &impl Clock, output: &mut W, buf: &[u8]) -> Result<usize, i32>
     ensures { Whole (length buf.now) result }
 {
     let mut done = 0;
     while done < buf.len() {
-        match write_some(clock, output, buf, done) {
-            Moved::Failed(e) => return Moved::Failed(e),
-            Moved::Bytes(n) => {
-                if n == 0 {
-                    return Moved::Failed(EIO);
-                }
-                done += n;
-            }
+        let n = write_some(clock, output, buf, done)?;
+        if n == 0 {
+            return Err(EIO);
         }
+        done += n;
     }
-    Moved::Bytes(done)
+    Ok(done)
 }

@@ -6,7 +6,7 @@ use mathlib.Core.List.{List, [], ◌∷◌}
 use Prim.Native.Nat.{ℕ, suc, ◌+◌, ◌-◌, ◌^◌, ◌≤◌, ◌<◌}
 use native.Mathlib.Omega.{arith}
 use lib.ListN.{length}
-use borrow.Author.Tests.{lt-ltb, ne_eqb}
+use borrow.Author.Tests.{lt-ltb}
 use Rattle.laws.proofs.ListLaws.{All}
 use Rattle.sets.specs.Members.{word_bits}
 use Rattle.answer.specs.Limits.{max_clocks}
@@ -22,9 +22,6 @@ use Rattle.model.proofs.Reading.LowestFault.{fault-some, fault-number}
 use Rattle.columns.specs.declared.Allowed.{Allowed}
 use Rattle.columns.specs.Columns.{beyond}
 use Rattle.columns.proofs.MemberLaws.{member-all}
-use Rattle.answer.specs.declared.Place.TheVariants.{Line, Spot}
-use Rattle.judge.specs.declared.Progress.{Progress as CodeProgress}
-use Rattle.survey.specs.Places.{allowed_of, place_of}
 
 -- ---- a fault of a line of good shape is 3 or above
 module _ (q : Progress) (bs : List ℕ) (e : Entry) (cs : List ℕ) (read : entry bs ≡ got e cs) where
@@ -140,21 +137,3 @@ named-as c (row-entry s g a r t) h w =
 pub names-as : (q : Progress) (bs : List ℕ) (e : Entry) (cs : List ℕ) → entry bs ≡ got e cs → fault_of q e ≡ some 5
     → first_column (beyond (own (current q))) e ≡ first_column (unnamed (current q)) e
 names-as q bs e cs read h = named-as (current q) e (in-range q bs e cs read h) (lacks-one q bs e cs read h)
-
--- ---- by the number
-pub allowed-4 : (p : CodeProgress) (f : ℕ) → f ≡ 4
-    → ◌≡◌ {A = Allowed} (record { states = p.states; acts = 2 ^ word_bits - 1; clocks = 2 ^ word_bits - 1 }) (allowed_of p f)
-allowed-4 p f e = rw e
-
-pub allowed-other : (p : CodeProgress) (f : ℕ) → (f ≡ 4 → ⊥)
-    → ◌≡◌ {A = Allowed} (record { states = p.states; acts = p.acts; clocks = p.clocks }) (allowed_of p f)
-allowed-other p f n = rw (ne_eqb f 4 n)
-
-pub place-4 : (n f k : ℕ) → f ≡ 4 → Spot n k ≡ place_of n f k
-place-4 n f k e = rw e
-
-pub place-5 : (n f k : ℕ) → (f ≡ 4 → ⊥) → f ≡ 5 → Spot n k ≡ place_of n f k
-place-5 n f k m e = rw e
-
-pub place_other : (n f k : ℕ) → (f ≡ 4 → ⊥) → (f ≡ 5 → ⊥) → Line n ≡ place_of n f k
-place_other n f k m e = rw (ne_eqb f 4 m, ne_eqb f 5 e)

@@ -5,7 +5,7 @@ use mathlib.Core.Option.{some}
 use mathlib.Core.List.{List}
 use Prim.Native.Nat.{ℕ}
 use Rattle.answer.specs.Told.{says_checked, done_of}
-use Rattle.answer.specs.declared.Checked.{Checked}
+use Rattle.answer.specs.Told.{Checked}
 use Rattle.answer.proofs.SaysFixes.{checked-fixed}
 use Rattle.model.specs.Reading.{read_of}
 use Rattle.iosa.specs.InOrder.{Leaves}

@@ -10,7 +10,7 @@ use borrow.Author.Tests.{ne_eqb}
 use Rattle.laws.proofs.SearchLaws.{no-some}
 use lib.ListN.{length, drop, drop_of_length-le, length-drop}
 use Rattle.answer.specs.declared.Place.TheVariants.{Whole, Spot}
-use Rattle.answer.specs.declared.Checked.TheVariants.{Fine, Refused}
+use Rattle.std.specs.Prelude.{Ok, Err}
 use Rattle.answer.specs.Told.{told, tell, Answer, refused, as_refused, says_checked, done_of}
 use Rattle.model.specs.Model.{Model, Comp, row_count}
 use Rattle.model.specs.Reading.{stops, got, Entry, comp-entry, act-entry, clk-entry, row-entry, entry, Progress, current, turn, out_of_turn, fault_of}
@@ -24,8 +24,7 @@ use Rattle.lines.proofs.LineLaws.{valued-is}
 use Rattle.columns.specs.Columns.{value_column, beyond}
 use Rattle.columns.proofs.ValueColumn.{value-column-is}
 use Rattle.judge.specs.declared.Progress.{Progress as CodeProgress}
-use Rattle.judge.specs.declared.Judged.TheVariants.{Fault, Taken}
-use Rattle.judge.specs.Judged.{standing, beginning, step_of}
+use Rattle.judge.specs.Judged.{numbered, standing, beginning, step_of}
 use Rattle.judge.proofs.StepIs.{next, judged_of, Begun, step_is}
 use Rattle.survey.specs.Places.{allowed_of, place_of}
 use Rattle.survey.proofs.AllowedLaws.{three-on, range-as, names-as}
@@ -44,11 +43,11 @@ stands-first t =
 left : (t : List ℕ) (at : ℕ) → at < length t → (drop at t ≡ [] → ⊥)
 left t at h e = omega (arith, length-drop at t, ap length e)
 
-judged-fault : (o : Option ℕ) (q : Progress) (f : ℕ) → judged_of o q ≡ Fault f → o ≡ some f
+judged-fault : (o : Option ℕ) (q : Progress) (f : ℕ) → judged_of o q ≡ Err f → o ≡ some f
 judged-fault none q f e = let z : ◌≡◌ {A = ℕ} 0 1 = cc in absurd (omega arith)
 judged-fault (some g) q f e = cc
 
-judged-taken : (o : Option ℕ) (q : Progress) (p : CodeProgress) → judged_of o q ≡ Taken p → (o ≡ none) × (p ≡ standing q)
+judged-taken : (o : Option ℕ) (q : Progress) (p : CodeProgress) → judged_of o q ≡ Ok p → (o ≡ none) × (p ≡ standing q)
 judged-taken none q p e = (refl, cc)
 judged-taken (some g) q p e = let z : ◌≡◌ {A = ℕ} 0 1 = cc in absurd (omega arith)
 
@@ -92,13 +91,13 @@ module _ {t : List ℕ} {q : Progress} {p : CodeProgress} {at n : ℕ} (s : Stan
   at-end h = sym s.same ∙ rw (drop_of_length-le t h) (lines_end n q 0)
 
   module _ (l : CodeLine) (to : ℕ) (r : Read t at l to) where
-    judged : step_of p l ≡ judged_of (fault_of q r.it) (next q r.it)
+    judged : numbered (step_of p l) ≡ judged_of (fault_of q r.it) (next q r.it)
     judged = rw (s.kept, ← r.line) (step_is q r.it s.begun)
 
-    found : (f : ℕ) → step_of p l ≡ Fault f → fault_of q r.it ≡ some f
+    found : (f : ℕ) → numbered (step_of p l) ≡ Err f → fault_of q r.it ≡ some f
     found f e = judged-fault (fault_of q r.it) (next q r.it) f (sym judged ∙ e)
 
-    pub line-fault : (f : ℕ) → step_of p l ≡ Fault f
+    pub line-fault : (f : ℕ) → numbered (step_of p l) ≡ Err f
         → (lines_from (length t) 1 at_start t ≡ refused (tell f (n ∷ column_of (current q) f r.it))) × (3 ≤ f) × (f ≤ 7)
     line-fault f e =
         let h = found f e in
@@ -106,7 +105,7 @@ module _ {t : List ℕ} {q : Progress} {p : CodeProgress} {at n : ℕ} (s : Stan
         (sym s.same ∙ lines-fault n q r.it (drop to t) (length (drop at t)) (drop at t) f (le_refl _) r.here h, w.0, w.1)
 
     -- the column that the code finds is the one that 4 and 5 carry
-    pub line-column : (f k : ℕ) → step_of p l ≡ Fault f → k ≡ value_column t at (allowed_of p f) l
+    pub line-column : (f k : ℕ) → numbered (step_of p l) ≡ Err f → k ≡ value_column t at (allowed_of p f) l
         → (f ≡ 4 → k ≡ first_column (outside (states_by (current q) r.it)) r.it) × (f ≡ 5 → k ≡ first_column (unnamed (current q)) r.it)
     line-column f k e c =
         let g = c ∙ ap (value_column t at (allowed_of p f)) (sym r.line) ∙ value-column-is t at (allowed_of p f) r.it (drop to t) r.here in (
@@ -117,13 +116,13 @@ module _ {t : List ℕ} {q : Progress} {p : CodeProgress} {at n : ℕ} (s : Stan
               ∙ names-as q (drop at t) r.it (drop to t) r.here (found f e ∙ ap some z),
         )
 
-    line-judged : (p' : CodeProgress) → step_of p l ≡ Taken p' → (fault_of q r.it ≡ none) × (p' ≡ standing (next q r.it))
-    line-judged p' e = judged-taken (fault_of q r.it) (next q r.it) p' (sym judged ∙ e)
+    line-judged : (p' : CodeProgress) → step_of p l ≡ Ok p' → (fault_of q r.it ≡ none) × (p' ≡ standing (next q r.it))
+    line-judged p' e = judged-taken (fault_of q r.it) (next q r.it) p' (sym judged ∙ ap numbered e)
 
-    pub line-faultless : (p' : CodeProgress) → step_of p l ≡ Taken p' → fault_of q r.it ≡ none
+    pub line-faultless : (p' : CodeProgress) → step_of p l ≡ Ok p' → fault_of q r.it ≡ none
     line-faultless p' e = (line-judged p' e).0
 
-    pub line_taken : (p' : CodeProgress) → step_of p l ≡ Taken p' → Stands t (next q r.it) p' to (n + 1)
+    pub line_taken : (p' : CodeProgress) → step_of p l ≡ Ok p' → Stands t (next q r.it) p' to (n + 1)
     line_taken p' e =
         let h = line-judged p' e in
         record {
@@ -151,27 +150,27 @@ told_line c e (suc (suc (suc (suc (suc (suc (suc (suc f)))))))) n k h l a b = ab
 
 pub says-line : (c : Comp) (e : Entry) (f n k : ℕ) (o : Answer Model) → o ≡ refused (tell f (n ∷ column_of c f e)) → 3 ≤ f → f ≤ 7
     → (f ≡ 4 → k ≡ first_column (outside (states_by c e)) e) → (f ≡ 5 → k ≡ first_column (unnamed c) e)
-    → says_checked (Refused (record { number = f; place = place_of n f k })) ≡ some (done_of o)
+    → says_checked (Err (record { number = f; place = place_of n f k })) ≡ some (done_of o)
 unfolding says_checked
 says-line c e f n k o q h l a b = ap as_refused (told_line c e f n k h l a b) ∙ ap (λ a. some (done_of a)) (sym q)
 
 -- 2
 pub says-shape : (n k : ℕ) (o : Answer Model) → o ≡ refused (tell 2 (n ∷ k ∷ []))
-    → says_checked (Refused (record { number = 2; place = Spot n k })) ≡ some (done_of o)
+    → says_checked (Err (record { number = 2; place = Spot n k })) ≡ some (done_of o)
 unfolding says_checked told
 says-shape n k o e = ap (λ a. some (done_of a)) (sym e)
 
-pub says_none : (o : Answer Model) (m : List Comp) → o ≡ finish m → length m ≡ 0 → says_checked (Refused (record { number = 8; place = Whole }))
+pub says_none : (o : Answer Model) (m : List Comp) → o ≡ finish m → length m ≡ 0 → says_checked (Err (record { number = 8; place = Whole }))
     ≡ some (done_of o)
 unfolding says_checked told
 says_none o [] e h = ap (λ a. some (done_of a)) (sym e)
 says_none o (c ∷ cs) e h = absurd (omega arith)
 
-pub says-fine : (o : Answer Model) (m : List Comp) → o ≡ finish m → (length m ≡ 0 → ⊥) → says_checked Fine ≡ some (done_of o)
+pub says-fine : (o : Answer Model) (m : List Comp) → o ≡ finish m → (length m ≡ 0 → ⊥) → says_checked (Ok tt) ≡ some (done_of o)
 unfolding says_checked
 says-fine o [] e h = absurd (h refl)
 says-fine o (c ∷ cs) e h = ap (λ a. some (done_of a)) (sym e)
 
-pub says-long : (o : Answer Model) → o ≡ refused (tell 1 (0 ∷ [])) → says_checked (Refused (record { number = 1; place = Whole })) ≡ some (done_of o)
+pub says-long : (o : Answer Model) → o ≡ refused (tell 1 (0 ∷ [])) → says_checked (Err (record { number = 1; place = Whole })) ≡ some (done_of o)
 unfolding says_checked told
 says-long o e = ap (λ a. some (done_of a)) (sym e)

@@ -2,6 +2,7 @@
 use Rattle.std.specs.Prelude.{cond, List, ℕ, ◌-◌, ◌^◌, eqb}
 use Rattle.sets.specs.Members.{word_bits}
 use Rattle.model.specs.Reading.{Scan, is, stops}
+use Rattle.answer.specs.declared.Refusal.{Refusal}
 use Rattle.answer.specs.declared.Place.{Place}
 use Rattle.answer.specs.declared.Place.TheVariants.{Line, Spot}
 use Rattle.lines.specs.declared.Line.{Line as CodeLine}
@@ -20,3 +21,10 @@ place_of n f k = cond (eqb f 4) (Spot n k) (cond (eqb f 5) (Spot n k) (Line n))
 abbrev pub column_in : List ℕ → ℕ → Allowed → Scan CodeLine → ℕ
 column_in t at a (is g) = value_column t at a g.value
 column_in t at a (stops cs) = 0
+
+-- 2 at a line and a column, and a fault of a line of good shape
+abbrev pub shapeless : ℕ → ℕ → Refusal
+shapeless n k = record { number = 2; place = Spot n k }
+
+abbrev pub faulty : ℕ → ℕ → ℕ → Refusal
+faulty n f k = record { number = f; place = place_of n f k }

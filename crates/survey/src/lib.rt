@@ -4,21 +4,22 @@
 ghost use Rattle.std.specs.Prelude.{◌≡◌, ◌≤◌, length, drop};
 ghost use Rattle.std.proofs.Math.Option.{some};
 ghost use Rattle.answer.specs.Told.{says_checked, done_of};
-ghost use Rattle.model.specs.Reading.{entry, lines_from, at_start, read_of};
+ghost use Rattle.model.specs.Reading.{entry, lines_from, at_start, read_of, stop_column};
 ghost use Rattle.fields.specs.Resets.{valued};
 ghost use Rattle.lines.specs.Lines.{line_of};
-ghost use Rattle.survey.specs.Places.{allowed_of, place_of, column_in};
+ghost use Rattle.judge.specs.Judged.{number_of};
+ghost use Rattle.survey.specs.Places.{allowed_of, place_of, column_in, shapeless, faulty};
 
-use answer::{Checked, Model, Place, Refusal};
+use answer::{Model, Place, Refusal};
 use columns::Allowed;
 use fields::Cursor;
-use judge::{Judged, Progress};
-use lines::LineScan;
+use judge::{Fault, Progress};
 
 // Every action or clock that there is, as a set.
 const ALL: u64 = 18446744073709551615;
 
-fn allowed(p: Progress, number: u8) -> Allowed
+// What a line's values may be: for 4 every action and clock that there is, else those of the component.
+pub fn allowed(p: Progress, number: u8) -> Allowed
     ensures { result ≡ allowed_of p number }
 {
     if number == 4 {
@@ -36,13 +37,10 @@ fn allowed(p: Progress, number: u8) -> Allowed
 }
 
 // 4 and 5 give line and column; 3, 6 and 7 the line alone.
-fn place_of(n: usize, number: u8, column: usize) -> Place
+pub fn place_of(n: usize, number: u8, column: usize) -> Place
     ensures { result ≡ place_of n number column }
 {
-    if number == 4 {
-        return Place::Spot { line: n, column };
-    }
-    if number == 5 {
+    if number == 4 || number == 5 {
         return Place::Spot { line: n, column };
     }
     Place::Line(n)
@@ -54,12 +52,37 @@ fn fault_column(text: &[u8], at: usize, a: Allowed) -> usize
     ensures { result ≡ column_in text.now at a (valued line_of (entry (drop at text.now))) }
 {
     match lines::line_at(text, Cursor { at }) {
-        LineScan::Is(_, line) => columns::value_column(text, at, a, line),
-        LineScan::Missing(_) => 0,
+        Ok((_, line)) => columns::value_column(text, at, a, line),
+        Err(_) => 0,
     }
 }
 
-fn check_lines(text: &[u8]) -> Checked
+// 2, with the column at which the line that begins at a place stopped.
+fn shapeless(text: &[u8], at: usize, n: usize, stop: Cursor) -> Refusal
+    requires { at ≤ length text.now }
+    ensures { result ≡ shapeless n (stop_column (drop at text.now) (drop stop.at text.now)) }
+{
+    let column = columns::column_at(text, at, stop);
+    Refusal {
+        number: 2,
+        place: Place::Spot { line: n, column },
+    }
+}
+
+// 3 to 7, with the place of the fault.
+fn faulty(text: &[u8], at: usize, n: usize, p: Progress, fault: Fault) -> Refusal
+    requires { at ≤ length text.now }
+    ensures { result ≡ faulty n (number_of fault) (column_in text.now at (allowed_of p (number_of fault)) (valued line_of (entry (drop at text.now)))) }
+{
+    let number = fault as u8;
+    let column = fault_column(text, at, allowed(p, number));
+    Refusal {
+        number,
+        place: place_of(n, number, column),
+    }
+}
+
+fn check_lines(text: &[u8]) -> Result<(), Refusal>
     ensures { says_checked result ≡ some (done_of (lines_from (length text.now) 1 at_start text.now)) }
 {
     let mut p = judge::at_start();
@@ -67,43 +90,31 @@ fn check_lines(text: &[u8]) -> Checked
     let mut n = 1;
     while at < text.len() {
         match lines::line_at(text, Cursor { at }) {
-            LineScan::Is(next, line) => {
+            Ok((next, line)) => {
                 match judge::step(p, line) {
-                    Judged::Fault(number) => {
-                        let column = fault_column(text, at, allowed(p, number));
-                        let place = place_of(n, number, column);
-                        return Checked::Refused(Refusal { number, place });
-                    }
-                    Judged::Taken(q) => {
-                        p = q;
-                    }
+                    Ok(q) => p = q,
+                    Err(fault) => return Err(faulty(text, at, n, p, fault)),
                 }
                 at = next.at;
                 n += 1;
             }
-            LineScan::Missing(stop) => {
-                let column = columns::column_at(text, at, stop);
-                return Checked::Refused(Refusal {
-                    number: 2,
-                    place: Place::Spot { line: n, column },
-                });
-            }
+            Err(stop) => return Err(shapeless(text, at, n, stop)),
         }
     }
     if p.components == 0 {
-        return Checked::Refused(Refusal {
+        return Err(Refusal {
             number: 8,
             place: Place::Whole,
         });
     }
-    Checked::Fine
+    Ok(())
 }
 
-pub fn check_text(text: &[u8]) -> Checked
+pub fn check_text(text: &[u8]) -> Result<(), Refusal>
     ensures { says_checked result ≡ some (done_of (read_of text.now)) }
 {
     if Model::BYTES < text.len() {
-        return Checked::Refused(Refusal {
+        return Err(Refusal {
             number: 1,
             place: Place::Whole,
         });

@@ -1,5 +1,5 @@
--- What the answer of a check on a table tells a call that goes on from it: Fine, and the table is an image of a model that passes;
--- Refused, and the call refuses alike.
+-- What the answer of a check on a table tells a call that goes on from it: (Ok tt), and the table is an image of a model that passes;
+-- Err, and the call refuses alike.
 use mathlib.Core.Path.{◌≡◌, refl, sym, ◌∙◌, ap}
 use mathlib.Core.Bool.{Bool, true, false}
 use mathlib.Core.Option.{Option, none, some, some_inj}
@@ -8,7 +8,7 @@ use Prim.Native.Nat.{ℕ}
 use native.Mathlib.Omega.{arith}
 use Rattle.answer.specs.Told.{Told, told, Answer, answered, refused, says_checked}
 use Rattle.answer.specs.declared.Refusal.{Refusal}
-use Rattle.answer.specs.declared.Checked.TheVariants.{Fine, Refused}
+use Rattle.std.specs.Prelude.{Ok, Err}
 use Rattle.model.specs.Model.{Model}
 use Rattle.iosa.specs.Step.{unless}
 use Rattle.layout.specs.Image.{model_of}
@@ -28,7 +28,7 @@ module _ (t : List ℕ) (check : Model → Option Told) where
   passes none e = refl
   passes (some f) e = never_both (sym e)
 
-  pub fine-passes : says_checked Fine ≡ some (check_on t check) → (is_image t ≡ true) × (check (model_of t) ≡ none)
+  pub fine-passes : says_checked (Ok tt) ≡ some (check_on t check) → (is_image t ≡ true) × (check (model_of t) ≡ none)
   unfolding says_checked
   fine-passes e = go (is_image t) refl
     where
@@ -47,7 +47,7 @@ module _ (t : List ℕ) (check : Model → Option Told) where
   stands none f e = never_both e
   stands (some g) f e = ap some (same-told e)
 
-  pub refused-tells : (q : Refusal) → says_checked (Refused q) ≡ some (check_on t check) → (f : Told) × (told q ≡ some f) × (check_on t check ≡ refused f)
+  pub refused-tells : (q : Refusal) → says_checked (Err q) ≡ some (check_on t check) → (f : Told) × (told q ≡ some f) × (check_on t check ≡ refused f)
   unfolding says_checked
   refused-tells q e = tells q (check_on t check) e
 

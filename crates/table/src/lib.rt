@@ -88,12 +88,10 @@ fn range_climbs(t: &[u64], lo: usize, hi: usize) -> bool
     requires { (image_words ≤ length t.now) × (lo ≤ max_rows) × (hi ≤ max_rows) }
     ensures { (s : ℕ) → result ≡ all (climbs t.now s) lo (hi - 1) }
 {
-    let mut r = lo;
-    while r + 1 < hi {
-        if !row_climbs(t, r) {
+    for next in lo + 1..hi {
+        if !row_climbs(t, next - 1) {
             return false;
         }
-        r += 1;
     }
     true
 }

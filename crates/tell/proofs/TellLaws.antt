@@ -7,7 +7,7 @@ use Prim.Native.Nat.{ℕ}
 use native.Mathlib.Omega.{arith}
 use Rattle.answer.specs.Told.{Told, tell, shape_of, shape_at, same_shape, values_at, told}
 use Rattle.answer.specs.declared.Refusal.{Refusal}
-use Rattle.model.specs.Text.{tab, lf, comma, decimal, joined, set_field, fields_after}
+use Rattle.model.specs.Text.{tab, lf, decimal, joined, set_field, fields_after}
 use Rattle.iosa.specs.Stepped.{Gone}
 use Rattle.iosa.specs.Orders.{Settling}
 use Rattle.answering.specs.Report.{step_word, stable_word, unsettled_word, refused_word, step_line, last_line, refused_line}
@@ -30,22 +30,6 @@ last-parts d = refl
 pub refused-parts : (r : Refusal) → refused_text r ≡ refused_word ++ ((tab ∷ decimal r.number) ++ ((tab ∷ []) ++ (joined (values_at r.place) ++ (lf ∷ []))))
 unfolding refused_text refused_line fields_after
 refused-parts r = refl
-
-pub one-part : (n : ℕ) → joined (n ∷ []) ≡ decimal n ++ []
-unfolding joined
-one-part n = refl
-
-pub two-parts : (i j : ℕ) → joined (i ∷ j ∷ []) ≡ decimal i ++ ((comma ∷ decimal j) ++ [])
-unfolding joined
-two-parts i j = refl
-
-pub three-parts : (i j k : ℕ) → joined (i ∷ j ∷ k ∷ []) ≡ decimal i ++ ((comma ∷ decimal j) ++ ((comma ∷ decimal k) ++ []))
-unfolding joined
-three-parts i j k = refl
-
-pub four-parts : (i j k n : ℕ) → joined (i ∷ j ∷ k ∷ n ∷ []) ≡ decimal i ++ ((comma ∷ decimal j) ++ ((comma ∷ decimal k) ++ ((comma ∷ decimal n) ++ [])))
-unfolding joined
-four-parts i j k n = refl
 
 -- ---- in whatever way the bytes are written
 pub room_as : {a b : List ℕ} (old : List ℕ) (at : ℕ) → a ≡ b → Room old at a → Room old at b

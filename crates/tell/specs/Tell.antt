@@ -1,6 +1,6 @@
 -- The parts of the printed lines (01, "The program and its example").
-use Rattle.std.specs.Prelude.{Bool, true, false, cond, List, [], ◌∷◌, ◌++◌, ℕ}
-use Rattle.answer.specs.Told.{Told, tell, values_at}
+use Rattle.std.specs.Prelude.{Bool, cond, List, [], ◌∷◌, ℕ}
+use Rattle.answer.specs.Told.{tell, values_at}
 use Rattle.answer.specs.State.{parts_of}
 use Rattle.answer.specs.declared.State.{State}
 use Rattle.answer.specs.declared.Refusal.{Refusal}

@@ -64,38 +64,16 @@ pub fn put_last(
     put_tail(out, tail, resets, x)
 }
 
-fn put_one(out: &mut [u8], at: usize, n: u64) -> usize
-    requires { Room out.old at (joined (n ∷ [])) }
-    ensures { Put out.old at (joined (n ∷ [])) out.new result }
+// Numbers, each but the first behind a comma.
+fn put_numbers(out: &mut [u8], at: usize, first: u64, rest: &[u64]) -> usize
+    requires { Room out.old at (joined (first ∷ rest.now)) }
+    ensures { Put out.old at (joined (first ∷ rest.now)) out.new result }
 {
-    print::put_decimal(out, at, n)
-}
-
-fn put_two(out: &mut [u8], at: usize, i: u64, j: u64) -> usize
-    requires { Room out.old at (joined (i ∷ j ∷ [])) }
-    ensures { Put out.old at (joined (i ∷ j ∷ [])) out.new result }
-{
-    let second = print::put_decimal(out, at, i);
-    print::put_behind(out, second, Sign::COMMA, j)
-}
-
-fn put_three(out: &mut [u8], at: usize, i: u64, j: u64, k: u64) -> usize
-    requires { Room out.old at (joined (i ∷ j ∷ k ∷ [])) }
-    ensures { Put out.old at (joined (i ∷ j ∷ k ∷ [])) out.new result }
-{
-    let second = print::put_decimal(out, at, i);
-    let third = print::put_behind(out, second, Sign::COMMA, j);
-    print::put_behind(out, third, Sign::COMMA, k)
-}
-
-fn put_four(out: &mut [u8], at: usize, i: u64, j: u64, k: u64, n: u64) -> usize
-    requires { Room out.old at (joined (i ∷ j ∷ k ∷ n ∷ [])) }
-    ensures { Put out.old at (joined (i ∷ j ∷ k ∷ n ∷ [])) out.new result }
-{
-    let second = print::put_decimal(out, at, i);
-    let third = print::put_behind(out, second, Sign::COMMA, j);
-    let fourth = print::put_behind(out, third, Sign::COMMA, k);
-    print::put_behind(out, fourth, Sign::COMMA, n)
+    let mut next = print::put_decimal(out, at, first);
+    for n in rest {
+        next = print::put_behind(out, next, Sign::COMMA, *n);
+    }
+    next
 }
 
 // "place numbers joined by commas".
@@ -104,37 +82,37 @@ fn put_place(out: &mut [u8], at: usize, p: Place) -> usize
     ensures { Put out.old at (joined (values_at p)) out.new result }
 {
     match p {
-        Place::Whole => put_one(out, at, 0),
-        Place::Line(n) => put_one(out, at, n as u64),
-        Place::Row(n) => put_one(out, at, n as u64),
-        Place::Bytes(n) => put_one(out, at, n as u64),
-        Place::Index(n) => put_one(out, at, n as u64),
-        Place::Clock(x) => put_one(out, at, x),
-        Place::Component(i) => put_one(out, at, i as u64),
+        Place::Whole => put_numbers(out, at, 0, &[]),
+        Place::Line(n) => put_numbers(out, at, n as u64, &[]),
+        Place::Row(n) => put_numbers(out, at, n as u64, &[]),
+        Place::Bytes(n) => put_numbers(out, at, n as u64, &[]),
+        Place::Index(n) => put_numbers(out, at, n as u64, &[]),
+        Place::Clock(x) => put_numbers(out, at, x, &[]),
+        Place::Component(i) => put_numbers(out, at, i as u64, &[]),
         Place::Cell {
             component,
             state,
             action,
-        } => put_three(out, at, component as u64, state as u64, action),
+        } => put_numbers(out, at, component as u64, &[state as u64, action]),
         Place::Clash {
             component,
             state,
             lower,
             higher,
-        } => { put_four(out, at, component as u64, state as u64, lower, higher) },
+        } => put_numbers(out, at, component as u64, &[state as u64, lower, higher]),
         Place::SharedAction {
             action,
             first,
             second,
-        } => put_three(out, at, action, first as u64, second as u64),
+        } => put_numbers(out, at, action, &[first as u64, second as u64]),
         Place::SharedClock {
             clock,
             first,
             second,
-        } => put_three(out, at, clock, first as u64, second as u64),
-        Place::Spot { line, column } => put_two(out, at, line as u64, column as u64),
-        Place::Condition(n) => put_one(out, at, n as u64),
-        Place::Action(a) => put_one(out, at, a),
+        } => put_numbers(out, at, clock, &[first as u64, second as u64]),
+        Place::Spot { line, column } => put_numbers(out, at, line as u64, &[column as u64]),
+        Place::Condition(n) => put_numbers(out, at, n as u64, &[]),
+        Place::Action(a) => put_numbers(out, at, a, &[]),
     }
 }
 
@@ -146,7 +124,6 @@ pub fn put_refused(out: &mut [u8], at: usize, r: Refusal) -> usize
     let number = print::put_word(out, at, b"refused");
     let gap = print::put_behind(out, number, Sign::TAB, r.number as u64);
     let place = print::put_byte(out, gap, Sign::TAB);
-    let where_it_is = r.place;
-    let end = put_place(out, place, where_it_is);
+    let end = put_place(out, place, r.place);
     print::put_byte(out, end, Sign::LF)
 }

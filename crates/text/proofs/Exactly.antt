@@ -9,8 +9,8 @@ use lib.ListN.{length}
 use lib.Dec.{ltb}
 use Rattle.laws.specs.Search.{when}
 use Rattle.answer.specs.Told.{tell, Answer, answered, refused}
-use Rattle.answer.specs.declared.Checked.{Checked}
-use Rattle.answer.specs.declared.Written.{Written}
+use Rattle.answer.specs.Told.{Checked}
+use Rattle.answer.specs.Told.{Written}
 use Rattle.model.specs.Model.{Comp, Model}
 use Rattle.model.specs.Text.{text_of}
 use Rattle.model.specs.WellFormed.{WellFormed}

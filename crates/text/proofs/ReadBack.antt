@@ -9,7 +9,7 @@ use lib.ListN.{length, take, drop}
 use lib.Seq.{take_at}
 use lib.Dec.{ltb}
 use Rattle.answer.specs.Told.{Answer, answered, refused}
-use Rattle.answer.specs.declared.Written.TheVariants.{Length}
+use Rattle.std.specs.Prelude.{Ok}
 use Rattle.model.specs.Text.{text_of}
 use Rattle.model.specs.Reading.{read_of}
 use Rattle.model.proofs.Reading.ReadOfText.{read-of-text, read-exactly}
@@ -22,7 +22,7 @@ use Rattle.text.specs.Write.{too_short, write_of, write_on, text_after, WriteCal
 use Rattle.answer.proofs.SaysFixes.{says-the-length}
 
 -- what was answered with a length
-module _ (t old new : List ℕ) (n : ℕ) (c : WriteCall t old new (Length n)) where
+module _ (t old new : List ℕ) (n : ℕ) (c : WriteCall t old new (Ok n)) where
   said : write_on t old ≡ answered n
   said = says-the-length n (write_on t old) c.answer
 

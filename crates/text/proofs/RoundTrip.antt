@@ -9,10 +9,9 @@ use lib.ListN.{length, take, drop}
 use lib.Seq.{take_at}
 use lib.Dec.{ltb}
 use Rattle.answer.specs.Told.{Answer, answered, refused, done_of}
-use Rattle.answer.specs.declared.Checked.{Checked}
-use Rattle.answer.specs.declared.Checked.TheVariants.{Fine}
-use Rattle.answer.specs.declared.Written.{Written}
-use Rattle.answer.specs.declared.Written.TheVariants.{Length}
+use Rattle.answer.specs.Told.{Checked}
+use Rattle.std.specs.Prelude.{Ok}
+use Rattle.answer.specs.Told.{Written}
 use Rattle.model.specs.Model.{Model}
 use Rattle.model.specs.Reading.{read_of}
 use Rattle.model.proofs.Reading.TextOfRead.{text-of-read}
@@ -46,7 +45,7 @@ room-model room (answered n) m e = go (ltb room image_words) e
     go true e = let z : ◌≡◌ {A = ℕ} 0 1 = cc in absurd (omega arith)
     go false e = e
 
-module _ (text old new : List ℕ) (c : ReadCall text old new Fine) where
+module _ (text old new : List ℕ) (c : ReadCall text old new (Ok tt)) where
   answers : (m : Model) × (read_on text old ≡ answered m)
   answers = fine-model (read_on text old) (sym says-fine ∙ c.answer)
 
@@ -68,22 +67,22 @@ module _ (text old new : List ℕ) (c : ReadCall text old new Fine) where
       let w = written-recognised m new (text-of-read text m fine-is-read).0 read-front in
       (w.0, fine-is-read ∙ ap answered (sym w.1))
 
-  pub read-then-written : (buf out : List ℕ) (r : Written) → length text ≤ length buf → WriteCall new buf out r → (r ≡ Length (length text))
+  pub read-then-written : (buf out : List ℕ) (r : Written) → length text ≤ length buf → WriteCall new buf out r → (r ≡ Ok (length text))
       × (take (length text) out ≡ text)
   read-then-written buf out r h w =
       let t = (text-of-read text (model_of new) read-recognised.1).1 in
       let e : write_on new buf ≡ answered (length text) =
       on-image new (write_of (length buf)) read-recognised.0 ∙ long-enough (length buf) (model_of new) (omega (arith, ap length t))
       ∙ ap (λ k. answered (length k)) t in
-      let s : r ≡ Length (length text) = written-fixed r (Length (length text)) (answered (length text)) (w.answer ∙ ap some e) (says-length (length text)) in
+      let s : r ≡ Ok (length text) = written-fixed r (Ok (length text)) (answered (length text)) (w.answer ∙ ap some e) (says-length (length text)) in
       (s, read-is-written new buf out (length text) (record { answer = rw (← s) w.answer; buffer = w.buffer }) text read-recognised.1)
 
 -- ---- a text that was written
-pub written-then-read : (t buf out : List ℕ) (n : ℕ) (old new : List ℕ) (r : Checked) → WriteCall t buf out (Length n) → image_words ≤ length old
-    → ReadCall (take n out) old new r → (r ≡ Fine) × (take image_words new ≡ take image_words t)
+pub written-then-read : (t buf out : List ℕ) (n : ℕ) (old new : List ℕ) (r : Checked) → WriteCall t buf out (Ok n) → image_words ≤ length old
+    → ReadCall (take n out) old new r → (r ≡ (Ok tt)) × (take image_words new ≡ take image_words t)
 written-then-read t buf out n old new r w h c =
     let im = (image-exactly t).0 (written-image t buf out n w) in
     let i = image_of (model_of t) in
-    let d = read-determined (take n out) old new (i ++ drop image_words old) r Fine c
+    let d = read-determined (take n out) old new (i ++ drop image_words old) r (Ok tt) c
     (taken_in_lem (take n out) old (model_of t) (written-is-read t buf out n w) (i ++ drop image_words old) h refl) in
     (d.1, ap (take image_words) d.0 ∙ take_at i (drop image_words old) image_words (length-of-image (model_of t) (well-formed t im)) ∙ sym (image-front t im))

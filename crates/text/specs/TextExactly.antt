@@ -1,7 +1,7 @@
 -- What `read` and `write` answer, said of the one text of a model, and what they leave in the lent buffer.
 use Rattle.std.specs.Prelude.{List, ℕ, length}
-use Rattle.answer.specs.declared.Checked.{Checked}
-use Rattle.answer.specs.declared.Written.{Written}
+use Rattle.answer.specs.Told.{Checked}
+use Rattle.answer.specs.Told.{Written}
 use Rattle.iosa.specs.InOrder.{Leaves}
 use Rattle.answering.specs.Answers.{ReadCallAnswer, WriteAnswer}
 use Rattle.iosa.specs.Lent.{Fills}

@@ -2,7 +2,7 @@
 use Rattle.std.specs.Prelude.{◌≡◌, true, false, List, [], ◌∷◌, ◌++◌, ℕ, length, drop, ltb}
 use Rattle.std.proofs.Math.Option.{some}
 use Rattle.answer.specs.Told.{Told, tell, Answer, answered, refused, says_written}
-use Rattle.answer.specs.declared.Written.{Written}
+use Rattle.answer.specs.Told.{Written}
 use Rattle.model.specs.Model.{Model}
 use Rattle.model.specs.Text.{text_of}
 use Rattle.layout.specs.Image.{model_of}

@@ -2,7 +2,7 @@
 use mathlib.Core.Path.{◌≡◌, refl, sym, ◌∙◌, ap, ap₂}
 use mathlib.Core.Logic.{by_cases}
 use mathlib.Core.Option.{none, some}
-use mathlib.Core.Bool.{Bool, true, false, ◌&&◌, not, true≢false, false≢true}
+use mathlib.Core.Bool.{Bool, true, false, cond, ◌&&◌, not, true≢false, false≢true}
 use mathlib.Core.List.{List}
 use Prim.Native.Nat.{ℕ, ◌+◌, ◌^◌, ◌≤◌, ◌<◌}
 use native.Mathlib.Omega.{arith}
@@ -11,6 +11,7 @@ use lib.Dec.{eqb}
 use lib.IntN.{ℤ}
 use lib.Signed.{lt_z, le_z}
 use borrow.Author.Tests.{eqb-false, ne_eqb, not-true}
+use Rattle.std.specs.Prelude.{Some, None, IfSome}
 use Rattle.laws.specs.Sets.{has, ◌∈◌}
 use Rattle.laws.specs.Search.{when, least, any, Least}
 use Rattle.laws.proofs.SearchLaws.{none-least, some-least, least-some, least-none, any-true, any_false, true-any}
@@ -21,8 +22,7 @@ use Rattle.timing.specs.Timed.{is_least, shares, check30}
 use Rattle.iosa.specs.TimedExactly.{value_of}
 use Rattle.sets.specs.Members.{word_bits}
 use Rattle.members.proofs.Walk.{Front, Rest, none_left}
-use Rattle.ticks.specs.Ticks.{rivals, better_of, by_value, or_none}
-use Rattle.ticks.proofs.Singles.{better-other, better-first, better-less, better-not}
+use Rattle.ticks.specs.Ticks.{rivals, better_of, by_value, Clock, clock_of}
 
 -- less than what is less than or equal to another
 less-at-most : (a b c : ℤ) → lt_z a b ≡ true → lt_z c b ≡ false → lt_z a c ≡ true
@@ -41,43 +41,45 @@ module _ (e : ℕ) (vs : List ℤ) where
     pub least : (y : ℕ) → y < k → y ∈ e → lt_z (value_of vs y) (value_of vs b) ≡ false
     pub first : (y : ℕ) → y < b → y ∈ e → lt_z (value_of vs b) (value_of vs y) ≡ true
 
-  -- b is that clock, or the limit where there is none
-  pub data Best (k : ℕ) : ℕ → Type 0 where
-    nothing : {b : ℕ} → b ≡ max_clocks → ((y : ℕ) → y < k → has e y ≡ false) → Best k b
-    leading : {b : ℕ} → Leads k b → Best k b
+  -- b is that clock, if there is one
+  abbrev pub Best : ℕ → Clock → Type 0
+  Best k None = (y : ℕ) → y < k → has e y ≡ false
+  Best k (Some b) = Leads k b
 
-  pub best_none : Best 0 max_clocks
-  best_none = nothing refl (λ y h. absurd (omega arith))
+  pub best_none : Best 0 None
+  best_none = λ y h. absurd (omega arith)
 
-  pub best-bound : (k b : ℕ) → k ≤ max_clocks → Best k b → b ≤ max_clocks
-  best-bound k b h (nothing n f) = omega arith
-  best-bound k b h (leading l) = omega (arith, l.below)
+  pub best-bound : (k : ℕ) (b : Clock) → k ≤ max_clocks → Best k b → IfSome b (λ x. x < max_clocks)
+  best-bound k None h f = tt
+  best-bound k (Some b) h l = omega (arith, l.below)
 
   last : {P : Type 0} (k y : ℕ) → y < k + 1 → (y ≡ k → P) → (y < k → P) → P
   last k y h p q = by_cases (ℕ_discrete y k) p (λ n. q (omega arith))
 
-  pub best-next : (k b : ℕ) → k < max_clocks → Best k b → Best (k + 1) (better_of e vs b k)
-  best-next k b h m = go (has e k) refl m
+  pub best-next : (k : ℕ) (b : Clock) → k < max_clocks → Best k b → Best (k + 1) (better_of e vs b k)
+  unfolding better_of
+  best-next k None h f = go (has e k) refl
     where
-      out : has e k ≡ false → Best k b → Best (k + 1) b
-      out n (nothing r f) = nothing r (λ y q. last k y q (λ w. ap (has e) w ∙ n) (λ w. f y w))
-      out n (leading l) = leading {b = b} (record {
-        below = omega (arith, l.below);
-        here = l.here;
-        least = λ y q i. last k y q (λ w. absurd (true≢false (sym i ∙ ap (has e) w ∙ n))) (λ w. l.least y w i);
-        first = l.first;
-      })
-
-      first_one : has e k ≡ true → ((y : ℕ) → y < k → has e y ≡ false) → Leads (k + 1) k
-      first_one i f = record {
+      go : (t : Bool) → has e k ≡ t → Best (k + 1) (cond t (Some k) None)
+      go false n = λ y q. last k y q (λ w. ap (has e) w ∙ n) (λ w. f y w)
+      go true i = record {
         below = omega arith;
         here = i;
         least = λ y q j. last k y q (λ w. rw w (less-irreflexive (value_of vs k))) (λ w. absurd (true≢false (sym j ∙ f y w)));
         first = λ y q j. absurd (true≢false (sym j ∙ f y q));
       }
+  best-next k (Some b) h l = go (has e k) refl (lt_z (value_of vs k) (value_of vs b)) refl
+    where
+      out : has e k ≡ false → Leads (k + 1) b
+      out n = record {
+        below = omega (arith, l.below);
+        here = l.here;
+        least = λ y q i. last k y q (λ w. absurd (true≢false (sym i ∙ ap (has e) w ∙ n))) (λ w. l.least y w i);
+        first = l.first;
+      }
 
-      over-taken : has e k ≡ true → Leads k b → lt_z (value_of vs k) (value_of vs b) ≡ true → Leads (k + 1) k
-      over-taken i l t = record {
+      over-taken : has e k ≡ true → lt_z (value_of vs k) (value_of vs b) ≡ true → Leads (k + 1) k
+      over-taken i t = record {
         below = omega arith;
         here = i;
         least = λ y q j. last k y q (λ w. rw w (less-irreflexive (value_of vs k)))
@@ -86,35 +88,31 @@ module _ (e : ℕ) (vs : List ℤ) where
         first = λ y q j. less-at-most (value_of vs k) (value_of vs b) (value_of vs y) t (l.least y q j);
       }
 
-      kept : has e k ≡ true → Leads k b → lt_z (value_of vs k) (value_of vs b) ≡ false → Leads (k + 1) b
-      kept i l t = record {
+      kept : lt_z (value_of vs k) (value_of vs b) ≡ false → Leads (k + 1) b
+      kept t = record {
         below = omega (arith, l.below);
         here = l.here;
         least = λ y q j. last k y q (λ w. rw w t) (λ w. l.least y w j);
         first = l.first;
       }
 
-      compare : has e k ≡ true → Leads k b → (t : Bool) → lt_z (value_of vs k) (value_of vs b) ≡ t → Best (k + 1) (better_of e vs b k)
-      compare i l true t = rw (← better-less e vs b k i t) (leading (over-taken i l t))
-      compare i l false t = rw (← better-not e vs b k i (λ n. omega (arith, l.below)) t) (leading (kept i l t))
-
-      go : (t : Bool) → has e k ≡ t → Best k b → Best (k + 1) (better_of e vs b k)
-      go false n m = rw (← better-other e vs b k n) (out n m)
-      go true i (nothing r f) = rw (← better-first e vs b k i r) (leading (first_one i f))
-      go true i (leading l) = compare i l (lt_z (value_of vs k) (value_of vs b)) refl
+      go : (t : Bool) → has e k ≡ t → (u : Bool) → lt_z (value_of vs k) (value_of vs b) ≡ u → Best (k + 1) (cond (t && u) (Some k) (Some b))
+      go false n u f = out n
+      go true i true f = over-taken i f
+      go true i false f = kept f
 
   -- the clocks from k up to x are not enabling
-  best-skip : (k x b : ℕ) → k ≤ x → ((y : ℕ) → k ≤ y → y < x → has e y ≡ false) → Best k b → Best x b
-  best-skip k x b h n (nothing r f) = nothing r (λ y q. by_cases (dec_lt y k) (λ l. f y l) (λ l. n y (omega arith) q))
-  best-skip k x b h n (leading l) = leading {b = b} (record {
+  best-skip : (k x : ℕ) (b : Clock) → k ≤ x → ((y : ℕ) → k ≤ y → y < x → has e y ≡ false) → Best k b → Best x b
+  best-skip k x None h n f = λ y q. by_cases (dec_lt y k) (λ l. f y l) (λ l. n y (omega arith) q)
+  best-skip k x (Some b) h n l = record {
     below = omega (arith, l.below);
     here = l.here;
     least = λ y q i. by_cases (dec_lt y k) (λ m. l.least y m i) (λ m. absurd (true≢false (sym i ∙ n y (omega arith) q)));
     first = l.first;
-  })
+  }
 
   -- ---- the walk: of the clocks below `from`, b; the others are left
-  pub record Walked (left b : ℕ) : Type 0 where
+  pub record Walked (left : ℕ) (b : Clock) : Type 0 where
     pub fits : left < 2 ^ word_bits
     pub from : ℕ
     pub few : from ≤ max_clocks
@@ -122,14 +120,14 @@ module _ (e : ℕ) (vs : List ℤ) where
     pub above : (y : ℕ) → y ∈ left → from ≤ y
     pub rest : (y : ℕ) → y ∈ e → from ≤ y → y ∈ left
 
-  pub walked-first : e < 2 ^ word_bits → Walked e max_clocks
+  pub walked-first : e < 2 ^ word_bits → Walked e None
   walked-first f = record { fits = f; from = 0; few = omega arith; best = best_none; above = λ y h. omega arith; rest = λ y h l. h }
 
-  module _ (left b : ℕ) (w : Walked left b) where
-    pub walked-bound : b ≤ max_clocks
+  module _ (left : ℕ) (b : Clock) (w : Walked left b) where
+    pub walked-bound : IfSome b (λ x. x < max_clocks)
     walked-bound = best-bound w.from b w.few w.best
 
-    pub walked_next : (x t : ℕ) → Front left x → Rest left x t → (c : ℕ) → c ≡ better_of e vs b x → Walked t c
+    pub walked_next : (x t : ℕ) → Front left x → Rest left x t → (c : Clock) → c ≡ better_of e vs b x → Walked t c
     walked_next x t i r c q = record {
       fits = r.fits;
       from = x + 1;
@@ -166,10 +164,10 @@ module _ (e : ℕ) (vs : List ℤ) where
         true≢false (sym (true-any (smaller j) max_clocks b l.below (ap₂ ◌&&◌ l.here (l.first j h i))) ∙ not-true (any (smaller j) max_clocks) t));
   }
 
-  pub best-end : (b : ℕ) → Best max_clocks b → b ≡ or_none (least (is_least e vs) max_clocks)
+  pub best-end : (b : Clock) → Best max_clocks b → b ≡ clock_of (least (is_least e vs) max_clocks)
   unfolding is_least smaller
-  best-end b (nothing r f) = r ∙ sym (ap or_none (none-least (is_least e vs) max_clocks (λ k h. ap (λ p. p && not (any (smaller k) max_clocks)) (f k h))))
-  best-end b (leading l) = sym (ap or_none (some-least (is_least e vs) max_clocks b (leads-least b l)))
+  best-end None f = sym (ap clock_of (none-least (is_least e vs) max_clocks (λ k h. ap (λ p. p && not (any (smaller k) max_clocks)) (f k h))))
+  best-end (Some b) l = sym (ap clock_of (some-least (is_least e vs) max_clocks b (leads-least b l)))
 
   -- ---- 30: another clock shares the least value exactly where one other is not above it
   module _ (x : ℕ) (found : least (is_least e vs) max_clocks ≡ some x) where

@@ -1,5 +1,4 @@
 pub mod Falling
 pub mod InPlace
-pub mod Singles
 pub mod ByValue
 pub mod Chosen

@@ -1,5 +1,6 @@
 -- Clock values by a set of clocks: what the loops over the 64 values compute (01, "The timed step"; 28 to 30).
-use Rattle.std.specs.Prelude.{◌≡◌, Bool, true, ◌&&◌, ◌||◌, not, cond, List, ℕ, length, eqb, ℤ, pos}
+use Rattle.std.specs.Prelude as Answered
+use Rattle.std.specs.Prelude.{Some, None, ◌≡◌, Bool, true, ◌&&◌, not, cond, List, ℕ, length, eqb, ℤ, pos}
 use Rattle.std.proofs.Math.Option.{Option, none, some}
 use Rattle.std.specs.Int.Signed.{lt_z, le_z}
 use Rattle.laws.specs.Sets.{has, ◌∈◌}
@@ -29,9 +30,18 @@ negative e x z = has e x && lt_z z (pos 0)
 unfoldable pub rivals : ℕ → ℕ → ℤ → ℕ → ℤ → Bool
 rivals e x v y z = has e y && (not (eqb y x) && le_z z v)
 
--- of clock b, or of none where b is the limit, and clock x, the one with the lesser value
-unfoldable pub better_of : ℕ → List ℤ → ℕ → ℕ → ℕ
-better_of e vs b x = cond (has e x && (eqb b max_clocks || lt_z (value_of vs x) (value_of vs b))) x b
+-- what the engine answers of a search for a clock
+abbrev pub Clock : Type 0
+Clock = Answered.Option ℕ
+
+abbrev pub clock_of : Option ℕ → Clock
+clock_of none = None
+clock_of (some x) = Some x
+
+-- of clock b, if there is one, and clock x, the one with the lesser value
+unfoldable pub better_of : ℕ → List ℤ → Clock → ℕ → Clock
+better_of e vs None x = cond (has e x) (Some x) None
+better_of e vs (Some b) x = cond (has e x && lt_z (value_of vs x) (value_of vs b)) (Some x) (Some b)
 
 -- one clock's value after v ticks
 unfoldable pub aged_one : ℕ → ℤ → ℕ → ℤ → ℤ
@@ -40,8 +50,3 @@ aged_one d v x z = cond (has d x) (fallen v z) z
 -- a test of the values' clocks, one by one
 abbrev pub by_value : (ℕ → ℤ → Bool) → List ℤ → ℕ → Bool
 by_value f vs x = f x (value_of vs x)
-
--- the clock, or the limit where there is none
-abbrev pub or_none : Option ℕ → ℕ
-or_none none = max_clocks
-or_none (some x) = x

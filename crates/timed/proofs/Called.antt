@@ -5,14 +5,12 @@ use mathlib.Core.List.{List}
 use Prim.Native.Nat.{ℕ}
 use lib.IntN.{ℤ}
 use Rattle.laws.specs.Search.{or_else}
-use Rattle.answer.specs.Limits.{no_state}
 use Rattle.answer.specs.Told.{Told, Answer, refused, says_checked}
 use Rattle.answer.specs.State.{parts_of}
 use Rattle.answer.specs.declared.State.{State}
-use Rattle.answer.specs.declared.Refusal.{Refusal}
 use Rattle.answer.specs.declared.Timed.{Timed}
-use Rattle.answer.specs.declared.Checked.TheVariants as OfChecked
-use Rattle.answer.specs.declared.Firing.TheVariants.{Refused}
+use Rattle.answer.specs.declared.Refusal.{Refusal}
+use Rattle.std.specs.Prelude.{Result, Ok, Err}
 use Rattle.model.specs.Model.{Model}
 use Rattle.iosa.specs.Checks.{accept_of}
 use Rattle.iosa.specs.Step.{state_fault}
@@ -36,15 +34,14 @@ follows m s vs f e =
     [ some t ↦ refused t | none ↦ timed_from m s vs (enabling_all m s) ]) e
 
 module _ (t : List ℕ) (x : State) (was : List ℤ) where
-  pub refused-before : (q : Refusal) (st : State) → says_checked (OfChecked.Refused q) ≡ some (check_on t accept_of) → st ≡ no_state
-      → TimedStep t x was (record { firing = Refused q; state = st }) was
-  refused-before q st e es =
+  pub refused-before : (q : Refusal) → says_checked (Err q) ≡ some (check_on t accept_of) → TimedStep t x was (Err q) was
+  refused-before q e =
       let p = refused-tells t accept_of q e in
       refuses (on_table t (λ m. timed_of m (parts_of x) was)) p.0 (call-refuses t accept_of (λ m. timed_of m (parts_of x) was)
-      (λ m f k. follows m (parts_of x) was f k) p.0 p.2) q p.1 x st es was
+      (λ m f k. follows m (parts_of x) was f k) p.0 p.2) q p.1 x was
 
-  pub fine_before : says_checked OfChecked.Fine ≡ some (check_on t accept_of) → Image t × (accept_of (model_of t) ≡ none)
+  pub fine_before : says_checked (Ok tt) ≡ some (check_on t accept_of) → Image t × (accept_of (model_of t) ≡ none)
   fine_before e = let p = fine-passes t accept_of e in ((image-exactly t).0 p.0, p.1)
 
-  pub goes_on : Image t → (r : Timed) (vs : List ℤ) → TimingAnswers (timed_of (model_of t) (parts_of x) was) x was r vs → TimedStep t x was r vs
+  pub goes_on : Image t → (r : Result Timed Refusal) (vs : List ℤ) → TimingAnswers (timed_of (model_of t) (parts_of x) was) x was r vs → TimedStep t x was r vs
   goes_on im r vs a = rw (on-image t (λ m. timed_of m (parts_of x) was) ((image-exactly t).1 im)) a

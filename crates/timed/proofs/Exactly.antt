@@ -1,16 +1,17 @@
 -- The contract of `timed_step`, said of the product and its clocks.
-use mathlib.Core.Path.{◌≡◌, refl, sym, ◌∙◌}
-use mathlib.Core.Option.{Option, none, some}
+use mathlib.Core.Path.{◌≡◌, refl}
+use mathlib.Core.Option.{none}
 use mathlib.Core.Bool.{false}
 use mathlib.Core.List.{List, ◌∷◌}
 use Prim.Native.Nat.{ℕ}
-use native.Mathlib.Omega.{arith}
 use lib.IntN.{ℤ, pos}
 use lib.Signed.{lt_z}
-use Rattle.answer.specs.Told.{Answer, answered, refused, Shot, says_firing}
+use Rattle.answer.specs.Told.{Answer, answered, refused, Shot, shot_said}
 use Rattle.answer.specs.State.{parts_of}
 use Rattle.answer.specs.declared.State.{State}
+use Rattle.std.specs.Prelude.{Result, Ok, Err, IsOkAnd}
 use Rattle.answer.specs.declared.Timed.{Timed}
+use Rattle.answer.specs.declared.Refusal.{Refusal}
 use Rattle.model.specs.Model.{Comp}
 use Rattle.iosa.specs.Checks.{accept_of}
 use Rattle.timing.specs.Timed.{timed_of}
@@ -26,7 +27,7 @@ use Rattle.timed.specs.TimedStep.{TimedStep}
 
 -- on an image of an accepted model
 module _ (t : List ℕ) (im : Image t) (acc : accept_of (model_of t) ≡ none) (c : Comp) (cs : List Comp) (em : model_of t ≡ c ∷ cs)
-    (x : State) (was : List ℤ) (r : Timed) (vs : List ℤ) (says : TimedStep t x was r vs) where
+    (x : State) (was : List ℤ) (r : Result Timed Refusal) (vs : List ℤ) (says : TimedStep t x was r vs) where
   of-model : TimingAnswers (timed_of (c ∷ cs) (parts_of x) was) x was r vs
   of-model = rw (on-image t (λ m. timed_of m (parts_of x) was) ((image-exactly t).1 im), em) at says
 
@@ -37,12 +38,13 @@ module _ (t : List ℕ) (im : Image t) (acc : accept_of (model_of t) ≡ none) (
       (a, (timed-exactly c cs (rw em at (well-formed t im)) (rw em at acc) (parts_of x) was a).0 refl, of-model)
 
   -- an enabling clock never ends below zero
-  pub enabling-clocks-end-from-zero : (k : Shot) → says_firing r.firing ≡ some (answered k) → (y : ℕ) → Waits c cs (parts_of x) y
+  pub enabling-clocks-end-from-zero : (k : Shot) → IsOkAnd r (λ p. shot_said p.firing ≡ k) → (y : ℕ) → Waits c cs (parts_of x) y
       → lt_z (value_of vs y) (pos 0) ≡ false
-  enabling-clocks-end-from-zero k e y h = go (timed_of (c ∷ cs) (parts_of x) was) refl of-model
+  enabling-clocks-end-from-zero k e y h = go (timed_of (c ∷ cs) (parts_of x) was) refl r of-model e
     where
-      go : (a : Answer Timing) → timed_of (c ∷ cs) (parts_of x) was ≡ a → TimingAnswers a x was r vs → lt_z (value_of vs y) (pos 0) ≡ false
-      go (answered d) q g = rw g.values (enabling-clocks-end-from-zero-on c cs (rw em at (well-formed t im)) (parts_of x) was d q y h)
-      go (refused f) q g =
-          absurd (let w : ◌≡◌ {A = Option (Answer Shot)} (some (answered k)) (some (refused f)) = sym e ∙ g.firing in let z : ◌≡◌ {A = ℕ} 0 1 = cc in
-          omega arith)
+      go : (a : Answer Timing) → timed_of (c ∷ cs) (parts_of x) was ≡ a → (q : Result Timed Refusal) → TimingAnswers a x was q vs
+          → IsOkAnd q (λ p. shot_said p.firing ≡ k) → lt_z (value_of vs y) (pos 0) ≡ false
+      go (answered d) q (Ok p) g e = rw g.values (enabling-clocks-end-from-zero-on c cs (rw em at (well-formed t im)) (parts_of x) was d q y h)
+      go (answered d) q (Err f) g e = absurd g
+      go (refused f) q (Ok p) g e = absurd g.told
+      go (refused f) q (Err n) g e = absurd e

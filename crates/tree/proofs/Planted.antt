@@ -5,8 +5,8 @@ use mathlib.Core.List.{List}
 use Prim.Native.Nat.{ℕ, ◌≤◌}
 use lib.ListN.{length}
 use Rattle.answer.specs.Told.{Told, told, answered, refused}
-use Rattle.answer.specs.declared.Checked.{Checked}
-use Rattle.answer.specs.declared.Checked.TheVariants.{Fine, Refused}
+use Rattle.answer.specs.Told.{Checked}
+use Rattle.std.specs.Prelude.{Ok, Err}
 use Rattle.answer.specs.declared.Refusal.{Refusal}
 use Rattle.model.specs.Model.{Model}
 use Rattle.model.specs.Text.{text_of}
@@ -34,12 +34,12 @@ module _ (input old new : List ℕ) (r : Checked) (e : ReadTreeCall input old ne
   unfolding read_tree_on
   fills = record { answer = e.answer; table = e.table }
 
-  pub fine-tree : r ≡ Fine → Image new × (text_of (model_of new) ≡ model_text input)
+  pub fine-tree : r ≡ (Ok tt) → Image new × (text_of (model_of new) ≡ model_text input)
   fine-tree f =
       let p = leaves-model (read_tree_of input) (λ m q. (tree-accepted input m q).well-formed) old new r fills h f in
       (p.2, ap text_of p.3 ∙ sym (tree-fine input p.0 p.1))
 
-  pub refused-tree : (g : Refusal) → r ≡ Refused g → (t : Told) × (told g ≡ some t) × (model_text input ≡ refused_line t)
+  pub refused-tree : (g : Refusal) → r ≡ Err g → (t : Told) × (told g ≡ some t) × (model_text input ≡ refused_line t)
   refused-tree g f =
       let p = leaves-refusal (read_tree_of input) (λ m q. (tree-accepted input m q).well-formed) old new r fills h g f in
       (p.0, p.2, tree-refused input p.0 p.1)

@@ -7,9 +7,6 @@ ghost use Rattle.steplines.specs.Run.{most_bytes};
 ghost use Rattle.printout.specs.Printed.{Printed, Filled};
 ghost use Rattle.tree.specs.Modelled.{model_text};
 
-use answer::Checked;
-use stream::Moved;
-
 fn put_tree(input: &[u8], out: &mut [u8]) -> usize
     requires { most_bytes ≤ length out.old }
     ensures { Printed (model_text input.now) out.old out.new result }
@@ -17,8 +14,8 @@ fn put_tree(input: &[u8], out: &mut [u8]) -> usize
     let mut table = [0u64; layout::WORDS];
     let checked = plant::read_tree(input, &mut table);
     match checked {
-        Checked::Refused(f) => printout::put_refusal(f, out),
-        Checked::Fine => printout::put_model(&table, out),
+        Err(f) => printout::put_refusal(f, out),
+        Ok(()) => printout::put_model(&table, out),
     }
 }
 
@@ -33,7 +30,7 @@ fn filled(input: &[u8], out: &mut [u8]) -> usize
 fn answer(rt: &HostRuntime, input: &[u8]) {
     let mut out = printout::empty_out();
     let k = filled(input, &mut out);
-    if let Moved::Failed(e) = stream::write(rt, &mut rt.stdout(), &out[..k]) {
+    if let Err(e) = stream::write(rt, &mut rt.stdout(), &out[..k]) {
         failing::say(rt, b"tree: the text could not be written whole", e);
     }
 }
@@ -42,7 +39,7 @@ fn answer(rt: &HostRuntime, input: &[u8]) {
 fn main(rt: HostRuntime) {
     let mut input = printout::empty_input();
     match stream::read(&rt, &mut rt.stdin(), &mut input) {
-        Moved::Bytes(n) => answer(&rt, &input[..n]),
-        Moved::Failed(e) => failing::say(&rt, b"tree: standard input could not be read", e),
+        Ok(n) => answer(&rt, &input[..n]),
+        Err(e) => failing::say(&rt, b"tree: standard input could not be read", e),
     }
 }

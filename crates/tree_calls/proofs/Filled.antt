@@ -7,7 +7,7 @@ use native.Mathlib.Omega.{arith}
 use lib.ListN.{take, drop}
 use lib.Seq.{take_at}
 use Rattle.answer.specs.Told.{Told, Answer, answered, refused, says_checked, done_of}
-use Rattle.answer.specs.declared.Checked.TheVariants.{Fine}
+use Rattle.std.specs.Prelude.{Ok}
 use Rattle.model.specs.Model.{Model}
 use Rattle.iosa.specs.InOrder.{refuses, passes, gives, accepted}
 use Rattle.iosa.proofs.Thesis.Proposition41.{conforming-definition}
@@ -32,15 +32,15 @@ pub record Filled (text table : List ℕ) : Type 0 where
   pub closed : NoOpenInput model
   pub passes : Passes model
 
-pub says-fine : says_checked Fine ≡ some (answered tt)
+pub says-fine : says_checked (Ok tt) ≡ some (answered tt)
 unfolding says_checked
 says-fine = refl
 
-never : {P : Type 0} {f : Told} → says_checked Fine ≡ some (done_of {A = Model} (refused f)) → P
+never : {P : Type 0} {f : Told} → says_checked (Ok tt) ≡ some (done_of {A = Model} (refused f)) → P
 never e = let s = says-fine in let z : ◌≡◌ {A = ℕ} 0 1 = cc in absurd (omega arith)
 
 module _ (text old new : List ℕ) where
-  filled : {a : Answer Model} → ReadTreeAnswer text image_bytes (bytes_of old) a → FillsTable old new Fine a → Filled text new
+  filled : {a : Answer Model} → ReadTreeAnswer text image_bytes (bytes_of old) a → FillsTable old new (Ok tt) a → Filled text new
   filled (refuses q) l = never l.answer
   filled (passes k (refuses q)) l = never l.answer
   filled (passes k (passes b (gives {x = m} r))) l =
@@ -57,5 +57,5 @@ module _ (text old new : List ℕ) where
         passes = o.passes;
       }
 
-  pub read-tree-fills : ReadTreeCall text old new Fine → Filled text new
-  read-tree-fills g = let e = (read-tree-answers-exactly text old new Fine).0 g in filled e.right e.left
+  pub read-tree-fills : ReadTreeCall text old new (Ok tt) → Filled text new
+  read-tree-fills g = let e = (read-tree-answers-exactly text old new (Ok tt)).0 g in filled e.right e.left

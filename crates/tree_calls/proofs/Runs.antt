@@ -2,7 +2,7 @@
 -- of the path, list, samples, distributions or numbers alone.
 use mathlib.Core.Path.{◌≡◌, refl, sym, ◌∙◌, ap, subst}
 use mathlib.Core.Logic.{◌⊎◌, inl, inr}
-use mathlib.Core.Option.{Option, some, some_inj}
+use mathlib.Core.Option.{Option}
 use mathlib.Core.List.Memᴰ.{head as here}
 use mathlib.Core.List.Memᴰ.{tail as there}
 use mathlib.Core.List.{List, [], ◌∷◌, Memᴰ as In}
@@ -11,8 +11,9 @@ use lib.ListN.{length}
 use lib.IntN.{ℤ}
 use Rattle.laws.proofs.SearchLaws.{no-some}
 use Rattle.answer.specs.Limits.{max_budget, max_clocks}
-use Rattle.answer.specs.Told.{Told, Answer, answered, refused, says_verdict, says_ended}
-use Rattle.answer.specs.declared.Checked.TheVariants.{Fine}
+use Rattle.answer.specs.Told.{Told, Answer, answered, refused, RefusedWith}
+use Rattle.std.specs.Prelude.{Result, Ok}
+use Rattle.answer.specs.declared.Refusal.{Refusal}
 use Rattle.answer.specs.declared.Settled.{Settled}
 use Rattle.answer.specs.declared.Simulated.{Simulated}
 use Rattle.model.specs.Model.{Comp, Model}
@@ -35,6 +36,7 @@ use Rattle.simulation.specs.Call.{Simulating, SimulationAnswers}
 use Rattle.simulation.specs.Exactly.{readable, RoundsAnswer, gives as rounds-done, refuses as round-refused}
 use Rattle.simulation.proofs.Whole.{refused_why}
 use Rattle.simulate.specs.Simulate.{SimulateCall}
+use Rattle.simulate.proofs.Rounds.{not-both, one-told}
 use Rattle.simulate.proofs.Answers.{simulate-answers-exactly}
 use Rattle.draw.specs.declared.Law.{Law}
 use Rattle.drawing.specs.File.{FileAnswer, are as are-laws, is49}
@@ -58,7 +60,7 @@ settled m c p {f} u = go u.why
         i.nobody a.0 a.1 a.2
     go (inr q) = q.1 p
 
-module _ (text old t : List ℕ) (g : ReadTreeCall text old t Fine) where
+module _ (text old t : List ℕ) (g : ReadTreeCall text old t (Ok tt)) where
   w : Filled text t
   w = read-tree-fills text old t g
 
@@ -74,9 +76,9 @@ module _ (text old t : List ℕ) (g : ReadTreeCall text old t Fine) where
   not-settled {m} h q = settled m (subst NoOpenInput (held h) w.closed) (subst Passes (held h) w.passes) q
 
   -- ---- after a path
-  module _ (p : List ℕ) (r : Settled) (f : Told) (says : says_verdict r.verdict ≡ some (refused f)) where
+  module _ (p : List ℕ) (r : Result Settled Refusal) (f : Told) (says : RefusedWith f r) where
     told : {u : Told} → AfterAnswers (refused u) r → u ≡ f
-    told l = same-refusal (some_inj.0 (sym l.0 ∙ says))
+    told {u} l = one-told r u f l says
 
     of-path : (budget : ℕ) (was now : List ℕ) {a : Answer (Settling (List ℕ))} → OnImage t (λ c cs. SettleAfterAnswer c cs p budget (length was)) a
         → AfterLeaves was now r a → In f.number (22 ∷ 46 ∷ 24 ∷ [])
@@ -89,7 +91,7 @@ module _ (text old t : List ℕ) (g : ReadTreeCall text old t Fine) where
     of-path b v n (of-model h (passes k (passes e (passes z (leads x y (passes i (refuses q))))))) l =
         there (there (here (ap number-of (sym (told l.answer) ∙ q.1))))
     of-path b v n (of-model h (passes k (passes e (passes z (leads x y (passes i (passes j (gives d)))))))) l =
-        absurd (no_answer (sym (some_inj.0 (sym l.answer.verdict ∙ says))))
+        absurd (not-both _ r f l.answer says)
 
     -- 22 of the path or the budget, 46, 24
     pub tree-settle-after-refused-why : (budget : ℕ) (was now : List ℕ) → SettleAfterCall t p budget was now r → In f.number (22 ∷ 46 ∷ 24 ∷ [])
@@ -108,16 +110,16 @@ module _ (text old t : List ℕ) (g : ReadTreeCall text old t Fine) where
     of-list l (of-model h (passes k (passes e (passes z (leads x y (passes i (is23 q))))))) a =
         there (there (here (ap number-of (sym (told a)))))
     of-list l (of-model h (passes k (passes e (passes z (leads x y (passes i (is-series d))))))) a =
-        absurd (no_answer (sym (some_inj.0 (sym a.verdict ∙ says))))
+        absurd (not-both _ r f a says)
 
     -- 22 of the path or the list, 46, 23
     pub tree-settle-list-after-refused-why : (l : List ℕ) → SettleListAfterCall t p l r → In f.number (22 ∷ 46 ∷ 23 ∷ [])
     tree-settle-list-after-refused-why l call = let e = (settle-list-after-answers-exactly t p l r).0 call in of-list l e.right e.left
 
   -- ---- a simulation, over lists or draws: 22, 28, what the text of its samples is refused for, and what its rounds are
-  module _ (n : ℕ) (was : List ℤ) (r : Simulated) (vs : List ℤ) (f : Told) (says : says_ended r.ended ≡ some (refused f)) where
+  module _ (n : ℕ) (was : List ℤ) (r : Result Simulated Refusal) (vs : List ℤ) (f : Told) (says : RefusedWith f r) where
     ended : {u : Told} → SimulationAnswers (refused u) was r vs → u ≡ f
-    ended l = same-refusal (some_inj.0 (sym l.ended ∙ says))
+    ended {u} l = one-told r u f l.told says
 
     -- "round by round 30, 42", and j where samples ran out
     pub in-rounds : (j : ℕ) {u : Told} → (u.number ≡ 30) ⊎ ((u.number ≡ 42) ⊎ (u.number ≡ j)) → SimulationAnswers (refused u) was r vs
@@ -129,8 +131,8 @@ module _ (text old t : List ℕ) (g : ReadTreeCall text old t Fine) where
         one (inr (inl e)) = there (here e)
         one (inr (inr e)) = there (there (here e))
 
-    pub not_done : {d : Simulating} {P : Type 0} → SimulationAnswers (answered d) was r vs → P
-    not_done l = absurd (no_answer (sym (some_inj.0 (sym l.ended ∙ says))))
+    pub not_done : (d : Simulating) {P : Type 0} → SimulationAnswers (answered d) was r vs → P
+    not_done d l = absurd (not-both _ r f l says)
 
     module _ (K : Model → Check) (R : Comp → List Comp → Answer Simulating → Type 0) (j : ℕ) (rest : List ℕ)
         (unread : (m : Model) (u : Told) → (K m).Refuses u → u.number ≡ j)
@@ -156,7 +158,7 @@ module _ (text old t : List ℕ) (g : ReadTreeCall text old t Fine) where
 
       over-lists : {c : Comp} {cs : List Comp} {a : Answer Simulating} → RoundsAnswer c cs samples n was a → SimulationAnswers a was r vs
           → In f.number (30 ∷ 42 ∷ 41 ∷ [])
-      over-lists (rounds-done s x put) l = not_done l
+      over-lists (rounds-done s x put) l = not_done _ l
       over-lists (round-refused s x) l = in-rounds 41 (refused_why x) l
 
       -- 22 of the rounds, 28, 40; in the rounds 30, 42, 41
@@ -174,7 +176,7 @@ module _ (text old t : List ℕ) (g : ReadTreeCall text old t Fine) where
 
       over-draws : {c : Comp} {cs : List Comp} {a : Answer Simulating} → DrawnAnswer c cs laws numbers n was a → SimulationAnswers a was r vs
           → In f.number (30 ∷ 42 ∷ 50 ∷ [])
-      over-draws (draws-done s x put) l = not_done l
+      over-draws (draws-done s x put) l = not_done _ l
       over-draws (draw-refused s x) l = in-rounds 50 (refused_why x) l
 
       -- 22 of the rounds, 28, 49; in the rounds 30, 42, 50

@@ -12,7 +12,7 @@ use borrow.Author.Tests.{lt-ltb, le-ltb}
 use Rattle.sets.specs.Members.{word_bits}
 use Rattle.answer.specs.Limits.{max_elements, max_inputs}
 use Rattle.answer.specs.declared.Place.TheVariants.{Line, Spot}
-use Rattle.answer.specs.declared.Checked.TheVariants.{Fine, Refused}
+use Rattle.std.specs.Prelude.{Ok, Err}
 use Rattle.answer.specs.Told.{told, tell, Answer, answered, refused, says_checked, done_of}
 use Rattle.model.specs.Reading.{stops, got, stop_column}
 use Rattle.fields.specs.Resets.{valued}
@@ -117,18 +117,18 @@ module _ {t : List ℕ} {low at n : ℕ} (s : Stands t low at n) where
       sym s.same ∙ ap done_of z
 
 -- what a refusal tells
-pub says-2 : (n k : ℕ) (o : Answer (Unit {0})) → o ≡ refused (tell 2 (n ∷ k ∷ [])) → says_checked (Refused (record { number = 2; place = Spot n k })) ≡ some o
+pub says-2 : (n k : ℕ) (o : Answer (Unit {0})) → o ≡ refused (tell 2 (n ∷ k ∷ [])) → says_checked (Err (record { number = 2; place = Spot n k })) ≡ some o
 unfolding says_checked told
 says-2 n k o e = ap some (sym e)
 
-pub says-4 : (n k : ℕ) (o : Answer (Unit {0})) → o ≡ refused (tell 4 (n ∷ k ∷ [])) → says_checked (Refused (record { number = 4; place = Spot n k })) ≡ some o
+pub says-4 : (n k : ℕ) (o : Answer (Unit {0})) → o ≡ refused (tell 4 (n ∷ k ∷ [])) → says_checked (Err (record { number = 4; place = Spot n k })) ≡ some o
 unfolding says_checked told
 says-4 n k o e = ap some (sym e)
 
-pub says-6 : (n : ℕ) (o : Answer (Unit {0})) → o ≡ refused (tell 6 (n ∷ [])) → says_checked (Refused (record { number = 6; place = Line n })) ≡ some o
+pub says-6 : (n : ℕ) (o : Answer (Unit {0})) → o ≡ refused (tell 6 (n ∷ [])) → says_checked (Err (record { number = 6; place = Line n })) ≡ some o
 unfolding says_checked told
 says-6 n o e = ap some (sym e)
 
-pub says-fine : (o : Answer (Unit {0})) → o ≡ answered tt → says_checked Fine ≡ some o
+pub says-fine : (o : Answer (Unit {0})) → o ≡ answered tt → says_checked (Ok tt) ≡ some o
 unfolding says_checked
 says-fine o e = ap some (sym e)

@@ -9,9 +9,9 @@ ghost use Rattle.trees.specs.TreeText.{sort_word, lines_from};
 ghost use Rattle.treelines.specs.Elements.{sort_is};
 ghost use Rattle.treecheck.specs.Numbers.{input_at, all_in, column_in};
 
-use answer::{Checked, Place, Refusal};
+use answer::{Place, Refusal};
 use fields::Cursor;
-use treelines::{Element, ElementScan, Inputs, Sort};
+use treelines::{Element, Inputs, Sort};
 
 // "Number 0 to 63": every number that an element may have, as a set.
 const ALL: u64 = 18446744073709551615;
@@ -20,11 +20,9 @@ fn word_width(s: Sort) -> usize
     ensures { result ≡ length (sort_word (sort_is s)) }
 {
     match s {
-        Sort::Be => 2,
+        Sort::Be | Sort::Or => 2,
         Sort::And => 3,
-        Sort::Or => 2,
-        Sort::Pand => 4,
-        Sort::Rbox => 4,
+        Sort::Pand | Sort::Rbox => 4,
     }
 }
 
@@ -55,13 +53,11 @@ pub fn all_in(e: Element, set: u64) -> bool
     }
     let i = e.inputs;
     let count = i.count;
-    let mut j = 0;
-    while j < count {
+    for j in 0..count {
         let x = input_at(i, j);
         if !columns::is_in(set, x) {
             return false;
         }
-        j += 1;
     }
     true
 }
@@ -79,20 +75,18 @@ pub fn column(e: Element, set: u64) -> usize
     k = k + 1 + measure::width(e.number);
     let i = e.inputs;
     let count = i.count;
-    let mut j = 0;
-    while j < count {
+    for j in 0..count {
         let x = input_at(i, j);
         if !columns::is_in(set, x) {
             return k;
         }
         k = k + 1 + measure::width(x);
-        j += 1;
     }
     k
 }
 
 // 2, 4 and 6: lines in file order; the numbers ascend strictly.
-pub fn check_lines(text: &[u8]) -> Checked
+pub fn check_lines(text: &[u8]) -> Result<(), Refusal>
     ensures { says_checked result ≡ some (done_of (lines_from (length text.now) 1 0 text.now)) }
 {
     let mut low = 0;
@@ -100,17 +94,17 @@ pub fn check_lines(text: &[u8]) -> Checked
     let mut n = 1;
     while at < text.len() {
         match treelines::element_at(text, Cursor { at }) {
-            ElementScan::Is(e, next) => {
+            Ok((next, e)) => {
                 if !all_in(e, ALL) {
                     let k = column(e, ALL);
-                    return Checked::Refused(Refusal {
+                    return Err(Refusal {
                         number: 4,
                         place: Place::Spot { line: n, column: k },
                     });
                 }
                 let number = e.number;
                 if number < low {
-                    return Checked::Refused(Refusal {
+                    return Err(Refusal {
                         number: 6,
                         place: Place::Line(n),
                     });
@@ -119,14 +113,14 @@ pub fn check_lines(text: &[u8]) -> Checked
                 at = next.at;
                 n += 1;
             }
-            ElementScan::Missing(stop) => {
+            Err(stop) => {
                 let k = columns::column_at(text, at, stop);
-                return Checked::Refused(Refusal {
+                return Err(Refusal {
                     number: 2,
                     place: Place::Spot { line: n, column: k },
                 });
             }
         }
     }
-    Checked::Fine
+    Ok(())
 }

@@ -13,16 +13,12 @@ use Rattle.model.specs.Text.{tab}
 use Rattle.model.specs.Reading.{Scan, is, stops, got, then, exactly, the_byte, number, field}
 use Rattle.model.proofs.Reading.Scans.{no-is}
 use Rattle.model.proofs.Reading.Fields.{exactly-scanned}
-use Rattle.model.proofs.Reading.WrongByte.{byte-stops}
 use Rattle.trees.specs.TreeText.{more_inputs, inputs}
 use Rattle.trees.proofs.Scans.{more-end}
 use Rattle.fields.specs.Fields.{past, got_number}
 use Rattle.fields.specs.Resets.{valued}
 use Rattle.fields.specs.declared.Cursor.{Cursor}
-use Rattle.fields.specs.declared.Step.{Step}
-use Rattle.fields.specs.declared.Step.TheVariants as OfStep
-use Rattle.fields.specs.declared.NumberScan.{NumberScan}
-use Rattle.fields.specs.declared.NumberScan.TheVariants as OfNumber
+use Rattle.std.specs.Prelude.{Result, Ok, Err}
 use Rattle.treelines.specs.declared.Inputs.{Inputs}
 use Rattle.treelines.specs.Elements.{placed_at, with_more}
 
@@ -86,9 +82,9 @@ none-taken (suc k) (b ∷ bs) {cs} e = go (eqb b tab) refl
     go false q = more-end k b bs q
     go true q = absurd (no-is {g = record { value = tt; rest = bs }} e (rw (eqb-true b tab q)))
 
-pub more-no-tab : (s : Inputs) (k : ℕ) (bs cs : List ℕ) → the_byte tab bs ≡ stops cs → got s cs ≡ valued (with_more s) (more_inputs k bs)
+pub more-no-tab : (s : Inputs) (k : ℕ) (bs cs : List ℕ) → the_byte tab bs ≡ stops cs → got s bs ≡ valued (with_more s) (more_inputs k bs)
 more-no-tab s k bs cs e =
-    ap (λ x. got s x) (sym (byte-stops tab bs cs e)) ∙ ap (λ x. got x bs) (sym (with_none s)) ∙ ap (valued (with_more s)) (sym (none-taken k bs e))
+    ap (λ x. got x bs) (sym (with_none s)) ∙ ap (valued (with_more s)) (sym (none-taken k bs e))
 
 -- a tab
 tab-taken : (k : ℕ) (bs cs : List ℕ) → the_byte tab bs ≡ got tt cs
@@ -133,18 +129,19 @@ module _ (t : List ℕ) (more : ℕ) (s₀ : Inputs) (at₀ : ℕ) where
         let z : more - k ≡ 0 = omega arith in
         sym (more-zero s (drop at t)) ∙ ap (λ k. valued (with_more s) (more_inputs k (drop at t))) (sym z) ∙ f.same
 
-    pub further-no-tab : (r : Step) (e : Cursor) → past t r ≡ the_byte tab (drop at t) → r ≡ OfStep.Missing e
-        → got s (drop e.at t) ≡ valued (with_more s₀) (more_inputs more (drop at₀ t))
+    pub further-no-tab : (r : Result Cursor Cursor) (e : Cursor) → past t r ≡ the_byte tab (drop at t) → r ≡ Err e
+        → got s (drop at t) ≡ valued (with_more s₀) (more_inputs more (drop at₀ t))
     further-no-tab r e h q = more-no-tab s (more - k) (drop at t) (drop e.at t) (sym h ∙ ap (past t) q) ∙ f.same
 
-    module _ (below : k < more) (r : Step) (d : Cursor) (tabbed : past t r ≡ the_byte tab (drop at t)) (q : r ≡ OfStep.Past d) (u : NumberScan)
+    module _ (below : k < more) (r : Result Cursor Cursor) (d : Cursor) (tabbed : past t r ≡ the_byte tab (drop at t)) (q : r ≡ Ok d) (u : Result
+        (Cursor × ℕ) Cursor)
         (scan : got_number t u ≡ number (drop d.at t)) where
-      pub further-no-number : (e : Cursor) (v : ℕ) → u ≡ OfNumber.Missing e v → stops (drop e.at t) ≡ valued (with_more s₀) (more_inputs more (drop at₀ t))
-      further-no-number e v p =
+      pub further-no-number : (e : Cursor) → u ≡ Err e → stops (drop e.at t) ≡ valued (with_more s₀) (more_inputs more (drop at₀ t))
+      further-no-number e p =
           more-no-number s (more - k) (drop at t) (drop d.at t) (drop e.at t) (omega arith) (sym tabbed ∙ ap (past t) q)
           (sym scan ∙ ap (got_number t) p) ∙ f.same
 
-      pub further-more : (n : ℕ) (next : Cursor) → u ≡ OfNumber.Is next n → (s' : Inputs) → s' ≡ placed_at s s.count n
+      pub further-more : (n : ℕ) (next : Cursor) → u ≡ Ok (next, n) → (s' : Inputs) → s' ≡ placed_at s s.count n
           → Further t more s₀ at₀ s' next.at (k + 1)
       further-more n next p s' e =
           let c : s'.count ≡ s.count + 1 = ap (λ (x : Inputs). x.count) e ∙ placed-count s s.count n in
@@ -195,11 +192,11 @@ module _ (t : List ℕ) (least more : ℕ) (s₀ : Inputs) (at₀ : ℕ) where
         let z : 0 ≡ least - k = omega arith in
         needed-zero s more (drop at t) ∙ ap (λ j. valued (with_more s) (inputs j more (drop at t))) z ∙ f.same
 
-    module _ (below : k < least) (u : NumberScan) (scan : got_number t u ≡ field number (drop at t)) where
-      pub needed-missing : (e : Cursor) (v : ℕ) → u ≡ OfNumber.Missing e v → stops (drop e.at t) ≡ valued (with_more s₀) (inputs least more (drop at₀ t))
-      needed-missing e v p = needed-no-number s (least - k) more (drop at t) (drop e.at t) (omega arith) (sym scan ∙ ap (got_number t) p) ∙ f.same
+    module _ (below : k < least) (u : Result (Cursor × ℕ) Cursor) (scan : got_number t u ≡ field number (drop at t)) where
+      pub needed-missing : (e : Cursor) → u ≡ Err e → stops (drop e.at t) ≡ valued (with_more s₀) (inputs least more (drop at₀ t))
+      needed-missing e p = needed-no-number s (least - k) more (drop at t) (drop e.at t) (omega arith) (sym scan ∙ ap (got_number t) p) ∙ f.same
 
-      pub needed-more : (n : ℕ) (next : Cursor) → u ≡ OfNumber.Is next n → (s' : Inputs) → s' ≡ placed_at s k n
+      pub needed-more : (n : ℕ) (next : Cursor) → u ≡ Ok (next, n) → (s' : Inputs) → s' ≡ placed_at s k n
           → Needed t least more s₀ at₀ s' next.at (k + 1)
       needed-more n next p s' e =
           let here : s' ≡ placed_at s s.count n = e ∙ ap (λ j. placed_at s j n) (sym f.count) in

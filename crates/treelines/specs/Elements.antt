@@ -1,17 +1,13 @@
 -- What a scan of a tree's line answers: the sort, the inputs, the element as the code has them, and the bytes behind, or the bytes from where it stopped.
-use Rattle.std.specs.Prelude.{List, [], ◌∷◌, Bool, true, false, cond, ℕ, ◌+◌, drop, eqb}
-use Rattle.model.specs.Reading.{Scan, stops, got}
+use Rattle.std.specs.Prelude.{List, [], ◌∷◌, Bool, true, false, cond, ℕ, ◌+◌, drop, eqb, Result}
+use Rattle.model.specs.Reading.{Scan}
+use Rattle.fields.specs.declared.Cursor.{Cursor}
+use Rattle.fields.specs.Fields.{scanned}
 use Rattle.trees.specs.Tree.{Sort as TheSort, be-sort, and-sort, or-sort, pand-sort, rbox-sort, Element as TheElement}
 use Rattle.treelines.specs.declared.Sort.{Sort}
 use Rattle.treelines.specs.declared.Sort.TheVariants as OfSort
-use Rattle.treelines.specs.declared.SortScan.{SortScan}
-use Rattle.treelines.specs.declared.SortScan.TheVariants as OfSortScan
 use Rattle.treelines.specs.declared.Inputs.{Inputs}
-use Rattle.treelines.specs.declared.InputsScan.{InputsScan}
-use Rattle.treelines.specs.declared.InputsScan.TheVariants as OfInputsScan
 use Rattle.treelines.specs.declared.Element.{Element}
-use Rattle.treelines.specs.declared.ElementScan.{ElementScan}
-use Rattle.treelines.specs.declared.ElementScan.TheVariants as OfElementScan
 
 abbrev pub sort_is : Sort → TheSort
 sort_is OfSort.Be = be-sort
@@ -27,9 +23,8 @@ sort_as or-sort = OfSort.Or
 sort_as pand-sort = OfSort.Pand
 sort_as rbox-sort = OfSort.Rbox
 
-abbrev pub got_sort : List ℕ → SortScan → Scan TheSort
-got_sort t (OfSortScan.Is s c) = got (sort_is s) (drop c.at t)
-got_sort t (OfSortScan.Missing c) = stops (drop c.at t)
+abbrev pub got_sort : List ℕ → Result (Cursor × Sort) Cursor → Scan TheSort
+got_sort t r = scanned sort_is t r
 
 -- ---- inputs: places past the count are 0
 abbrev pub no_inputs : Inputs
@@ -49,14 +44,12 @@ unfoldable pub with_more : Inputs → List ℕ → Inputs
 with_more i [] = i
 with_more i (n ∷ ns) = with_more (placed_at i i.count n) ns
 
-abbrev pub got_inputs : List ℕ → InputsScan → Scan Inputs
-got_inputs t (OfInputsScan.Is i c) = got i (drop c.at t)
-got_inputs t (OfInputsScan.Missing c) = stops (drop c.at t)
+abbrev pub got_inputs : List ℕ → Result (Cursor × Inputs) Cursor → Scan Inputs
+got_inputs t r = scanned (λ i. i) t r
 
 -- ---- an element as the code has it
 abbrev pub element_is : TheElement → Element
 element_is e = record { sort = sort_as e.sort; number = e.number; inputs = with_more no_inputs e.ins }
 
-abbrev pub got_element : List ℕ → ElementScan → Scan Element
-got_element t (OfElementScan.Is e c) = got e (drop c.at t)
-got_element t (OfElementScan.Missing c) = stops (drop c.at t)
+abbrev pub got_element : List ℕ → Result (Cursor × Element) Cursor → Scan Element
+got_element t r = scanned (λ e. e) t r

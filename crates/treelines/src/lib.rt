@@ -7,7 +7,7 @@ ghost use Rattle.fields.specs.Resets.{valued};
 ghost use Rattle.trees.specs.TreeText.{fewest as fewest_of, at_most_more, sort_scan, more_inputs, inputs as inputs_scan, behind_word, element};
 ghost use Rattle.treelines.specs.Elements.{sort_is, got_sort, no_inputs, placed_at, with_more, got_inputs, element_is, got_element};
 
-use fields::{Cursor, NumberScan, Sign, Step};
+use fields::{Cursor, Scan, Sign};
 
 // `be`, `and`, `or`, `pand`, `rbox`.
 #[derive(Clone, Copy)]
@@ -19,13 +19,7 @@ pub enum Sort {
     Rbox,
 }
 
-#[derive(Drop)]
-pub enum SortScan {
-    Is(Sort, Cursor),
-    Missing(Cursor),
-}
-
-// The inputs of an element, "boxes one to five": the first `count` of five places. An answer that is one of several holds no array.
+// The inputs of an element, "boxes one to five": the first `count` of five places.
 #[derive(Clone, Copy)]
 pub struct Inputs {
     pub count: usize,
@@ -36,12 +30,6 @@ pub struct Inputs {
     pub fifth: u64,
 }
 
-#[derive(Drop)]
-pub enum InputsScan {
-    Is(Inputs, Cursor),
-    Missing(Cursor),
-}
-
 #[derive(Clone, Copy)]
 pub struct Element {
     pub sort: Sort,
@@ -49,27 +37,21 @@ pub struct Element {
     pub inputs: Inputs,
 }
 
-#[derive(Drop)]
-pub enum ElementScan {
-    Is(Element, Cursor),
-    Missing(Cursor),
-}
-
 // The first word; where it is none of the five, the one that got furthest tells where it stops.
-fn sort_of(text: &[u8], c: Cursor) -> SortScan
+fn sort_of(text: &[u8], c: Cursor) -> Scan<Sort>
     ensures { got_sort text.now result ≡ sort_scan (drop c.at text.now) }
 {
     match fields::word(text, c, b"be") {
-        Step::Past(d) => SortScan::Is(Sort::Be, d),
-        Step::Missing(be) => match fields::word(text, c, b"and") {
-            Step::Past(d) => SortScan::Is(Sort::And, d),
-            Step::Missing(an) => match fields::word(text, c, b"or") {
-                Step::Past(d) => SortScan::Is(Sort::Or, d),
-                Step::Missing(or) => match fields::word(text, c, b"pand") {
-                    Step::Past(d) => SortScan::Is(Sort::Pand, d),
-                    Step::Missing(pa) => match fields::word(text, c, b"rbox") {
-                        Step::Past(d) => SortScan::Is(Sort::Rbox, d),
-                        Step::Missing(rb) => SortScan::Missing(fields::further(
+        Ok(d) => Ok((d, Sort::Be)),
+        Err(be) => match fields::word(text, c, b"and") {
+            Ok(d) => Ok((d, Sort::And)),
+            Err(an) => match fields::word(text, c, b"or") {
+                Ok(d) => Ok((d, Sort::Or)),
+                Err(or) => match fields::word(text, c, b"pand") {
+                    Ok(d) => Ok((d, Sort::Pand)),
+                    Err(pa) => match fields::word(text, c, b"rbox") {
+                        Ok(d) => Ok((d, Sort::Rbox)),
+                        Err(rb) => Err(fields::further(
                             be,
                             fields::further(an, fields::further(or, fields::further(pa, rb))),
                         )),
@@ -86,9 +68,7 @@ fn fewest(s: Sort) -> usize
 {
     match s {
         Sort::Be => 0,
-        Sort::And => 2,
-        Sort::Or => 2,
-        Sort::Pand => 2,
+        Sort::And | Sort::Or | Sort::Pand => 2,
         Sort::Rbox => 1,
     }
 }
@@ -98,11 +78,8 @@ fn at_most_more(s: Sort) -> usize
     ensures { result ≡ at_most_more (sort_is s) }
 {
     match s {
-        Sort::Be => 0,
-        Sort::And => 0,
-        Sort::Or => 0,
-        Sort::Pand => 0,
         Sort::Rbox => 4,
+        _ => 0,
     }
 }
 
@@ -177,87 +154,59 @@ fn placed(i: Inputs, at: usize, n: u64) -> Inputs
 }
 
 // Further inputs, each behind a tab; no more than so many.
-fn further_inputs(text: &[u8], c: Cursor, i: Inputs, more: usize) -> InputsScan
+fn further_inputs(text: &[u8], c: Cursor, i: Inputs, more: usize) -> Scan<Inputs>
     requires { i.count + more ≤ max_inputs }
     ensures { got_inputs text.now result ≡ valued (with_more i) (more_inputs more (drop c.at text.now)) }
 {
     let mut sum = i;
     let mut at = c;
-    let mut k = 0;
-    while k < more {
-        match fields::byte(text, at, Sign::TAB) {
-            Step::Past(d) => match fields::number(text, d) {
-                NumberScan::Is(next, n) => {
-                    let wider = placed(sum, sum.count, n);
-                    sum = wider;
-                    at = next;
-                }
-                NumberScan::Missing(e, _) => {
-                    return InputsScan::Missing(e);
-                }
-            },
-            Step::Missing(e) => {
-                return InputsScan::Is(sum, e);
-            }
-        }
-        k += 1;
+    for k in 0..more {
+        let Ok(d) = fields::byte(text, at, Sign::TAB) else {
+            return Ok((at, sum));
+        };
+        let (next, n) = fields::number(text, d)?;
+        sum = placed(sum, sum.count, n);
+        at = next;
     }
-    InputsScan::Is(sum, at)
+    Ok((at, sum))
 }
 
 // So many inputs, each behind a tab, and no more than so many further ones.
-fn all_inputs(text: &[u8], c: Cursor, least: usize, more: usize) -> InputsScan
+fn all_inputs(text: &[u8], c: Cursor, least: usize, more: usize) -> Scan<Inputs>
     requires { least + more ≤ max_inputs }
     ensures { got_inputs text.now result ≡ valued (with_more no_inputs) (inputs_scan least more (drop c.at text.now)) }
 {
     let mut sum = no_inputs();
     let mut at = c;
-    let mut k = 0;
-    while k < least {
-        match fields::number_field(text, at) {
-            NumberScan::Is(next, n) => {
-                let wider = placed(sum, k, n);
-                sum = wider;
-                at = next;
-            }
-            NumberScan::Missing(e, _) => {
-                return InputsScan::Missing(e);
-            }
-        }
-        k += 1;
+    for k in 0..least {
+        let (next, n) = fields::number_field(text, at)?;
+        sum = placed(sum, k, n);
+        at = next;
     }
     further_inputs(text, at, sum, more)
 }
 
 // What stands behind the first word: a number, the inputs, LF.
-fn behind_word(text: &[u8], c: Cursor, sort: Sort) -> ElementScan
+fn behind_word(text: &[u8], c: Cursor, sort: Sort) -> Scan<Element>
     ensures { got_element text.now result ≡ valued element_is (behind_word (sort_is sort) (drop c.at text.now)) }
 {
-    match fields::number_field(text, c) {
-        NumberScan::Is(c1, number) => match all_inputs(text, c1, fewest(sort), at_most_more(sort)) {
-            InputsScan::Is(inputs, c2) => match fields::byte(text, c2, Sign::LF) {
-                Step::Past(d) => ElementScan::Is(
-                    Element {
-                        sort,
-                        number,
-                        inputs,
-                    },
-                    d,
-                ),
-                Step::Missing(no_end) => ElementScan::Missing(no_end),
-            },
-            InputsScan::Missing(no_inputs) => ElementScan::Missing(no_inputs),
+    let (c1, number) = fields::number_field(text, c)?;
+    let (c2, inputs) = all_inputs(text, c1, fewest(sort), at_most_more(sort))?;
+    let d = fields::byte(text, c2, Sign::LF)?;
+    Ok((
+        d,
+        Element {
+            sort,
+            number,
+            inputs,
         },
-        NumberScan::Missing(no_number, _) => ElementScan::Missing(no_number),
-    }
+    ))
 }
 
 // One line, with its LF.
-pub fn element_at(text: &[u8], c: Cursor) -> ElementScan
+pub fn element_at(text: &[u8], c: Cursor) -> Scan<Element>
     ensures { got_element text.now result ≡ valued element_is (element (drop c.at text.now)) }
 {
-    match sort_of(text, c) {
-        SortScan::Is(s, d) => behind_word(text, d, s),
-        SortScan::Missing(e) => ElementScan::Missing(e),
-    }
+    let (d, s) = sort_of(text, c)?;
+    behind_word(text, d, s)
 }

@@ -17,7 +17,7 @@ use Rattle.laws.proofs.TestLaws.{not_so}
 use Rattle.sets.specs.Members.{word_bits}
 use Rattle.answer.specs.Limits.{max_elements, max_inputs}
 use Rattle.answer.specs.declared.Place.TheVariants.{Spot}
-use Rattle.answer.specs.declared.Checked.TheVariants.{Fine, Refused}
+use Rattle.std.specs.Prelude.{Ok, Err}
 use Rattle.answer.specs.Told.{Told, told, tell, answered, refused, says_checked, done_of}
 use Rattle.columns.specs.Columns.{member_of}
 use Rattle.trees.specs.Tree.{Element as TheElement, Tree}
@@ -186,7 +186,7 @@ module _ (text : List ℕ) (known at n : ℕ) (c : Asked text known at n) where
   ranges : (e : TheElement) → In e c.tree → InRange e
   ranges = (drawn-lines text c.tree c.lines).0.in-range
 
-  pub names-fine : length text ≤ at → says_checked Fine ≡ some (done_of (tree_of text))
+  pub names-fine : length text ≤ at → says_checked (Ok tt) ≡ some (done_of (tree_of text))
   unfolding says_checked
   names-fine h =
       let z = none_left text at c.rest c.left h in
@@ -201,7 +201,7 @@ module _ (text : List ℕ) (known at n : ℕ) (c : Asked text known at n) where
     pub few : e.inputs.count ≤ max_inputs
     few = subst (λ (x : Element). x.inputs.count ≤ max_inputs) f.code (held-count f.it.ins (few-inputs f.it f.it-fits))
 
-    pub names-out : all_in e known ≡ false → (k : ℕ) → k ≡ column_in e known → says_checked (Refused (record { number = 5; place = Spot n k }))
+    pub names-out : all_in e known ≡ false → (k : ℕ) → k ≡ column_in e known → says_checked (Err (record { number = 5; place = Spot n k }))
         ≡ some (done_of (tree_of text))
     unfolding says_checked told
     names-out h k q =

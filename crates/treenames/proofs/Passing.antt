@@ -17,8 +17,7 @@ use Rattle.trees.specs.TreeFaults.{ElementFits, InRange, Drawn}
 use Rattle.trees.proofs.Scans.{element-exact}
 use Rattle.trees.proofs.Faults.{Ends, as-tree, at-fault, text-ends, element-shortens}
 use Rattle.treelines.specs.declared.Element.{Element}
-use Rattle.treelines.specs.declared.ElementScan.{ElementScan}
-use Rattle.treelines.specs.declared.ElementScan.TheVariants as OfScan
+use Rattle.std.specs.Prelude.{Result, Ok}
 use Rattle.treelines.specs.Elements.{element_is, got_element}
 use Rattle.treenames.specs.declared.Line.{Line}
 use Rattle.treenames.specs.Names.{LinesOf, LineThere, LineRead}
@@ -63,13 +62,13 @@ pub record First (text : List ℕ) (rest : Tree) (e : Element) (to : ℕ) : Type
   pub it-fits : ElementFits it
   pub it-range : InRange it
 
-module _ (text : List ℕ) (at : ℕ) (r : ElementScan) (scan : got_element text r ≡ valued element_is (element (drop at text))) where
+module _ (text : List ℕ) (at : ℕ) (r : Result (Cursor × Element) Cursor) (scan : got_element text r ≡ valued element_is (element (drop at text))) where
   -- the scan of what is left
   scanned : (e : TheElement) (es : Tree) → Left text at (e ∷ es) → got_element text r ≡ got (element_is e) (tree_text es)
   unfolding tree_text
   scanned e es l = scan ∙ ap (valued element_is) (ap element l.bytes ∙ element-exact.printed e (tree_text es) (l.fits e (here refl)) tt)
 
-  first-line : (rest : Tree) → Left text at rest → at < length text → (e : Element) (next : Cursor) → r ≡ OfScan.Is e next → First text rest e next.at
+  first-line : (rest : Tree) → Left text at rest → at < length text → (e : Element) (next : Cursor) → r ≡ Ok (next, e) → First text rest e next.at
   unfolding tree_text
   first-line [] l h e next q = absurd (let b = ap length l.bytes in let d = length-drop at text in omega (arith, b, d))
   first-line (x ∷ xs) l h e next q =
@@ -84,7 +83,7 @@ module _ (text : List ℕ) (at : ℕ) (r : ElementScan) (scan : got_element text
         it-range = l.in-range x (here refl);
       }
 
-  line_on : (rest : Tree) → Left text at rest → at < length text → (e : Element) (next : Cursor) → r ≡ OfScan.Is e next
+  line_on : (rest : Tree) → Left text at rest → at < length text → (e : Element) (next : Cursor) → r ≡ Ok (next, e)
       → length (drop next.at text) < length (drop at text)
   unfolding tree_text
   line_on [] l h e next q = absurd (let b = ap length l.bytes in let d = length-drop at text in omega (arith, b, d))
@@ -109,7 +108,7 @@ line-there text at (e ∷ es) l h = record {
 
 module _ (text : List ℕ) (at : ℕ) (rest : Tree) (l : Left text at rest) (h : at < length text) (x : Line) (q : LineRead text at x) where
   pub first_read : First text rest x.element x.next
-  first_read = first-line text at (OfScan.Is x.element (record { at = x.next })) q rest l h x.element (record { at = x.next }) refl
+  first_read = first-line text at (Ok (record { at = x.next }, x.element)) q rest l h x.element (record { at = x.next }) refl
 
   pub fewer_bytes : length (drop x.next text) < length (drop at text)
-  fewer_bytes = line_on text at (OfScan.Is x.element (record { at = x.next })) q rest l h x.element (record { at = x.next }) refl
+  fewer_bytes = line_on text at (Ok (record { at = x.next }, x.element)) q rest l h x.element (record { at = x.next }) refl

@@ -1,12 +1,11 @@
 -- The numbers of a tree's lines as a set; the lines of a text that is good line by line; one of them.
-use Rattle.std.specs.Prelude.{◌≡◌, List, [], ◌∷◌, ℕ, length, drop}
+use Rattle.std.specs.Prelude.{◌≡◌, List, [], ◌∷◌, ℕ, length, drop, Ok}
 use Rattle.laws.specs.Sets.{◌∪◌, only}
 use Rattle.answer.specs.Told.{Answer, answered, refused}
 use Rattle.model.specs.Reading.{got}
 use Rattle.fields.specs.Resets.{valued}
 use Rattle.trees.specs.Tree.{Element, Tree}
 use Rattle.trees.specs.TreeText.{element, lines_from}
-use Rattle.treelines.specs.declared.ElementScan.TheVariants as OfScan
 use Rattle.treelines.specs.Elements.{element_is, got_element}
 use Rattle.treenames.specs.declared.Line.{Line}
 
@@ -34,4 +33,4 @@ pub record LineThere (text : List ℕ) (at : ℕ) : Type 0 where
 
 -- what a scan finds there
 abbrev pub LineRead : List ℕ → ℕ → Line → Type 0
-LineRead text at l = got_element text (OfScan.Is l.element (record { at = l.next })) ≡ valued element_is (element (drop at text))
+LineRead text at l = got_element text (Ok (record { at = l.next }, l.element)) ≡ valued element_is (element (drop at text))

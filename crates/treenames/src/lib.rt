@@ -8,9 +8,9 @@ ghost use Rattle.trees.specs.TreeText.{tree_of};
 ghost use Rattle.trees.specs.Tree.{Tree};
 ghost use Rattle.treenames.specs.Names.{numbers_in, LinesOf, LineThere, LineRead};
 
-use answer::{Checked, Place, Refusal};
+use answer::{Place, Refusal};
 use fields::Cursor;
-use treelines::{Element, ElementScan, Inputs, Sort};
+use treelines::Element;
 
 // A line, and where the next one begins.
 #[derive(Drop)]
@@ -19,31 +19,15 @@ pub struct Line {
     pub next: usize,
 }
 
-// The line at a place where there is one. None is missing: there the text would be refused.
+// The line at a place where there is one.
 pub fn line_at(text: &[u8], at: usize) -> Line
     requires { LineThere text.now at }
     ensures { LineRead text.now at result }
 {
-    match treelines::element_at(text, Cursor { at }) {
-        ElementScan::Is(element, next) => Line {
-            element,
-            next: next.at,
-        },
-        ElementScan::Missing(_) => Line {
-            element: Element {
-                sort: Sort::Be,
-                number: 0,
-                inputs: Inputs {
-                    count: 0,
-                    first: 0,
-                    second: 0,
-                    third: 0,
-                    fourth: 0,
-                    fifth: 0,
-                },
-            },
-            next: at,
-        },
+    let (next, element) = treelines::element_at(text, Cursor { at }).unwrap();
+    Line {
+        element,
+        next: next.at,
     }
 }
 
@@ -64,7 +48,7 @@ fn number_set(text: &[u8]) -> u64
 }
 
 // The first line with an input that is no member, and the first such input.
-fn check_names(text: &[u8], known: u64) -> Checked
+fn check_names(text: &[u8], known: u64) -> Result<(), Refusal>
     requires { (t : Tree) × LinesOf text.now t × (known ≡ numbers_in t) }
     ensures { says_checked result ≡ some (done_of (tree_of text.now)) }
 {
@@ -75,7 +59,7 @@ fn check_names(text: &[u8], known: u64) -> Checked
         let e = line.element;
         if !treecheck::all_in(e, known) {
             let k = treecheck::column(e, known);
-            return Checked::Refused(Refusal {
+            return Err(Refusal {
                 number: 5,
                 place: Place::Spot { line: n, column: k },
             });
@@ -83,18 +67,14 @@ fn check_names(text: &[u8], known: u64) -> Checked
         at = line.next;
         n += 1;
     }
-    Checked::Fine
+    Ok(())
 }
 
 // 2, 4 and 6 line by line, then 5.
-pub fn check_tree(text: &[u8]) -> Checked
+pub fn check_tree(text: &[u8]) -> Result<(), Refusal>
     ensures { says_checked result ≡ some (done_of (tree_of text.now)) }
 {
-    match treecheck::check_lines(text) {
-        Checked::Refused(f) => Checked::Refused(f),
-        Checked::Fine => {
-            let known = number_set(text);
-            check_names(text, known)
-        }
-    }
+    treecheck::check_lines(text)?;
+    let known = number_set(text);
+    check_names(text, known)
 }

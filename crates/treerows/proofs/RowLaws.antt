@@ -1,7 +1,6 @@
 -- A row at a time: what a walk emits, and the room that is left.
 use mathlib.Core.Path.{◌≡◌, sym, ◌∙◌, ap}
 use mathlib.Core.Option.{Option, none, some}
-use mathlib.Core.Bool.{true, false}
 use mathlib.Core.List.{List, [], ◌∷◌}
 use Prim.Native.Nat.{ℕ, suc, ◌+◌, ◌*◌, ◌≤◌, ◌<◌}
 use native.Mathlib.Omega.{arith}
@@ -9,7 +8,6 @@ use native.Mathlib.Decide.{ℕ_discrete}
 use lib.ListN.{length, get_or}
 use lib.Pow.{pow-lt}
 use Rattle.laws.specs.Fold.{spread}
-use Rattle.laws.specs.Search.{when}
 use Rattle.laws.proofs.TabLaws.{spread-length, sum-at-most}
 use Rattle.answer.specs.Limits.{max_elements, max_inputs}
 use Rattle.model.specs.Model.{Row}
@@ -23,6 +21,7 @@ use Rattle.trees.specs.Tree.{Sort, be-sort, and-sort, or-sort, pand-sort, rbox-s
 use Rattle.treelines.specs.declared.Element.{Element}
 use Rattle.treelines.specs.Elements.{sort_is}
 use Rattle.treecheck.specs.Numbers.{ins_in}
+use Rattle.std.specs.Prelude.{Option as Answered, Some, None}
 use Rattle.roles.specs.declared.Move.{Move}
 use Rattle.roles.specs.Roles.{move_is}
 use Rattle.elements.specs.Parts.{meaning_at, element_of, Fit, states_for, states_by, move_by}
@@ -48,25 +47,21 @@ row-few : (o : Option TheMove) (s a : ℕ) → length (row_by o s a) ≤ 1
 row-few none s a = omega arith
 row-few (some v) s a = omega arith
 
-module _ (m : Move) (o : Option TheMove) (e : move_is m ≡ o) (s a : ℕ) where
-  row-there : m.there ≡ true → row_by o s a ≡ the_row m s a ∷ []
-  row-there h = ap (λ x. row_by x s a) (sym e ∙ ap (λ b. when b (record { guard = m.guard; resets = m.resets; target = m.target })) h)
+module _ (r : Answered Move) (o : Option TheMove) (e : move_is r ≡ o) (s a limit : ℕ) (n : Tally) (l : List ℕ) where
+  pub emitted : (m : Move) → r ≡ Some m → (l' : List ℕ) (w : ℕ) → l' ≡ written limit n.rows (a ∷ m.guard ∷ m.resets ∷ m.target ∷ []) l
+      → w ≡ length (row_line (the_row m s a))
+      → out_of (record { rows = n.rows + 1; bytes = n.bytes + w }) l' ≡ listed limit (row_by o s a) (out_of n l)
+  unfolding one_more
+  emitted m h l' w el ew = one ∙ sym (listed-one limit (the_row m s a) (out_of n l)) ∙ ap (λ rs. listed limit rs (out_of n l)) there
+    where
+      one : out_of (record { rows = n.rows + 1; bytes = n.bytes + w }) l' ≡ one_more limit (the_row m s a) (out_of n l)
+      one = rw (el, ew)
 
-  row-away : m.there ≡ false → row_by o s a ≡ []
-  row-away h = ap (λ x. row_by x s a) (sym e ∙ ap (λ b. when b (record { guard = m.guard; resets = m.resets; target = m.target })) h)
+      there : the_row m s a ∷ [] ≡ row_by o s a
+      there = ap (λ x. row_by x s a) (sym (ap move_is h) ∙ e)
 
-  module _ (limit : ℕ) (n : Tally) (l : List ℕ) where
-    pub emitted : m.there ≡ true → (l' : List ℕ) (w : ℕ) → l' ≡ written limit n.rows (a ∷ m.guard ∷ m.resets ∷ m.target ∷ []) l
-        → w ≡ length (row_line (the_row m s a))
-        → out_of (record { rows = n.rows + 1; bytes = n.bytes + w }) l' ≡ listed limit (row_by o s a) (out_of n l)
-    unfolding one_more
-    emitted h l' w el ew = one ∙ sym (listed-one limit (the_row m s a) (out_of n l)) ∙ ap (λ rs. listed limit rs (out_of n l)) (sym (row-there h))
-      where
-        one : out_of (record { rows = n.rows + 1; bytes = n.bytes + w }) l' ≡ one_more limit (the_row m s a) (out_of n l)
-        one = rw (el, ew)
-
-    pub passed : m.there ≡ false → out_of n l ≡ listed limit (row_by o s a) (out_of n l)
-    passed h = sym (listed-none limit (out_of n l)) ∙ ap (λ rs. listed limit rs (out_of n l)) (sym (row-away h))
+  pub passed : r ≡ None → out_of n l ≡ listed limit (row_by o s a) (out_of n l)
+  passed h = sym (listed-none limit (out_of n l)) ∙ ap (λ rs. listed limit rs (out_of n l)) (ap (λ x. row_by x s a) (sym (ap move_is h) ∙ e))
 
 pub line-few : (r : Row) (w : ℕ) → w ≡ length (row_line r) → w ≤ 512
 line-few r w e = omega (arith, e, row-most r)

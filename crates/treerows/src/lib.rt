@@ -51,15 +51,13 @@ fn emit_row(
     requires { (limit ≤ max_rows) × Fit e × (2 * k + 1 < max_clocks) × (s < max_elements) × Room limit 1 (out_of n into.old) }
     ensures { out_of result into.new ≡ listed limit (row_by (move_by (element_of e) k s (meaning_at w)) s a) (out_of n into.old) }
 {
-    let m = elements::move_of(e, k, s, w);
-    if m.there {
-        put_row(into, limit, n.rows, a, m.guard, m.resets, m.target);
-        Tally {
-            rows: n.rows + 1,
-            bytes: n.bytes + measure::line_width(s, m.guard, a, m.resets, m.target),
-        }
-    } else {
-        n
+    let Some(m) = elements::move_of(e, k, s, w) else {
+        return n;
+    };
+    put_row(into, limit, n.rows, a, m.guard, m.resets, m.target);
+    Tally {
+        rows: n.rows + 1,
+        bytes: n.bytes + measure::line_width(s, m.guard, a, m.resets, m.target),
     }
 }
 
@@ -117,36 +115,30 @@ pub struct Kinds {
 }
 
 // One action more.
-fn with_kind(h: Kinds, a: u64, kind: Kind) -> Kinds
+fn with_kind(h: Kinds, a: u64, kind: Option<Kind>) -> Kinds
     requires { a < max_actions }
     ensures { result ≡ kinds_on h a (kind_is kind) }
 {
+    let Some(k) = kind else {
+        return h;
+    };
     let one = sets::single(a);
-    match kind {
-        Kind::None => h,
+    match k {
         Kind::In => Kinds {
             ins: sets::union(one, h.ins),
-            outs: h.outs,
-            uins: h.uins,
-            uouts: h.uouts,
+            ..h
         },
         Kind::Out => Kinds {
-            ins: h.ins,
             outs: sets::union(one, h.outs),
-            uins: h.uins,
-            uouts: h.uouts,
+            ..h
         },
         Kind::Uin => Kinds {
-            ins: h.ins,
-            outs: h.outs,
             uins: sets::union(one, h.uins),
-            uouts: h.uouts,
+            ..h
         },
         Kind::Uout => Kinds {
-            ins: h.ins,
-            outs: h.outs,
-            uins: h.uins,
             uouts: sets::union(one, h.uouts),
+            ..h
         },
     }
 }

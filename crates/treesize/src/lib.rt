@@ -23,10 +23,7 @@ pub fn clocks_of(sort: Sort, k: u64) -> u64
     let both = sets::union(sets::single(2 * k), sets::single(2 * k + 1));
     match sort {
         Sort::Be => both,
-        Sort::And => 0,
-        Sort::Or => 0,
-        Sort::Pand => 0,
-        Sort::Rbox => 0,
+        Sort::And | Sort::Or | Sort::Pand | Sort::Rbox => 0,
     }
 }
 
@@ -37,10 +34,7 @@ pub fn next_be(sort: Sort, k: u64) -> u64
 {
     match sort {
         Sort::Be => k + 1,
-        Sort::And => k,
-        Sort::Or => k,
-        Sort::Pand => k,
-        Sort::Rbox => k,
+        Sort::And | Sort::Or | Sort::Pand | Sort::Rbox => k,
     }
 }
 

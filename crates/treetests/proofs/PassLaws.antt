@@ -8,7 +8,7 @@ use native.Mathlib.Omega.{arith}
 use lib.ListN.{length, set, replicate, length-set, length-replicate}
 use Rattle.laws.specs.Search.{map_some}
 use Rattle.sets.specs.Members.{word_bits}
-use Rattle.answer.specs.declared.Checked.TheVariants.{Fine, Refused}
+use Rattle.std.specs.Prelude.{Ok, Err}
 use Rattle.answer.specs.declared.Refusal.{Refusal}
 use Rattle.answer.specs.Told.{Told, told, Answer, answered, refused, as_refused, says_checked, done_of}
 use Rattle.trees.specs.Tree.{Element as TheElement, Tree}
@@ -155,12 +155,12 @@ refused-first k h (some f) (answered t) e = absurd (let z : ◌≡◌ {A = ℕ} 
 refused-first k h (some f) (refused g) e = e ∙ ap (λ a. some (done_of a)) (sym (h g))
 
 -- 2, 4, 6 and 5, then 47
-pub tree-refused : (text : List ℕ) (q : Refusal) → says_checked (Refused q) ≡ some (done_of (tree_of text))
-    → says_checked (Refused q) ≡ some (done_of (proper_of text))
+pub tree-refused : (text : List ℕ) (q : Refusal) → says_checked (Err q) ≡ some (done_of (tree_of text))
+    → says_checked (Err q) ≡ some (done_of (proper_of text))
 unfolding says_checked proper_of
 tree-refused text q e = refused-first proper (λ g. refl) (told q) (tree_of text) e
 
-pub tree-fine : (text : List ℕ) → says_checked Fine ≡ some (done_of (tree_of text)) → IsTree text
+pub tree-fine : (text : List ℕ) → says_checked (Ok tt) ≡ some (done_of (tree_of text)) → IsTree text
 unfolding says_checked
 tree-fine text e = go (tree_of text) refl e
   where
@@ -169,12 +169,12 @@ tree-fine text e = go (tree_of text) refl e
     go (refused f) q e = absurd (let z : ◌≡◌ {A = ℕ} 0 1 = cc in omega arith)
 
 -- these, then 48
-pub well-refused : (text : List ℕ) (q : Refusal) → says_checked (Refused q) ≡ some (done_of (proper_of text))
-    → says_checked (Refused q) ≡ some (done_of (read_tree_of text))
+pub well-refused : (text : List ℕ) (q : Refusal) → says_checked (Err q) ≡ some (done_of (proper_of text))
+    → says_checked (Err q) ≡ some (done_of (read_tree_of text))
 unfolding says_checked
 well-refused text q e = refused-first limited (λ g. refl) (told q) (proper_of text) e ∙ ap (λ a. some (done_of a)) (sym (read-limited text))
 
-pub well-fine : (text : List ℕ) → says_checked Fine ≡ some (done_of (proper_of text)) → IsTree text × (proper_of text ≡ answered (tree_in text))
+pub well-fine : (text : List ℕ) → says_checked (Ok tt) ≡ some (done_of (proper_of text)) → IsTree text × (proper_of text ≡ answered (tree_in text))
 unfolding says_checked proper_of
 well-fine text e = go (tree_of text) refl e
   where

@@ -17,7 +17,7 @@ ghost use Rattle.treenames.specs.Names.{tree_in};
 ghost use Rattle.treetests.specs.Gathering.{IsTree, proper_of, Small, taken_in, line_sets};
 ghost use Rattle.treetests.specs.Gathering.{none_gathered, gathered, gathered_all, InputRows, tops, lowest_broken, broken_as};
 
-use answer::{Checked, Place, Refusal};
+use answer::{Place, Refusal};
 use treelines::{Element, Sort};
 
 // The numbers of a line as sets: its own, and its inputs, of which one may be there twice.
@@ -45,10 +45,7 @@ fn is_box(s: Sort) -> bool
     ensures { result ≡ is_box (sort_is s) }
 {
     match s {
-        Sort::Be => false,
-        Sort::And => false,
-        Sort::Or => false,
-        Sort::Pand => false,
+        Sort::Be | Sort::And | Sort::Or | Sort::Pand => false,
         Sort::Rbox => true,
     }
 }
@@ -58,10 +55,7 @@ fn is_be(s: Sort) -> bool
 {
     match s {
         Sort::Be => true,
-        Sort::And => false,
-        Sort::Or => false,
-        Sort::Pand => false,
-        Sort::Rbox => false,
+        Sort::And | Sort::Or | Sort::Pand | Sort::Rbox => false,
     }
 }
 
@@ -97,12 +91,10 @@ fn line_sets(e: Element) -> LineSets
         all: 0,
         twice: false,
     };
-    let mut j = 0;
-    while j < count {
+    for j in 0..count {
         let x = treecheck::input_at(i, j);
         let more = take_in(s, x);
         s = more;
-        j += 1;
     }
     s
 }
@@ -198,17 +190,17 @@ fn one_top(g: Gathered) -> bool
     sets::count(sets::minus(sets::minus(g.numbers, g.boxes), g.inputs)) == 1
 }
 
-fn broken(n: usize) -> Checked
+fn broken(n: usize) -> Result<(), Refusal>
     ensures { says_checked result ≡ some (refused (condition_told n)) }
 {
-    Checked::Refused(Refusal {
+    Err(Refusal {
         number: 47,
         place: Place::Condition(n),
     })
 }
 
 // "47 lowest condition broken, as a number".
-fn lowest_broken(cyclic: bool, g: Gathered) -> Checked
+fn lowest_broken(cyclic: bool, g: Gathered) -> Result<(), Refusal>
     ensures { says_checked result ≡ some (broken_as (lowest_broken cyclic g)) }
 {
     if cyclic {
@@ -229,11 +221,11 @@ fn lowest_broken(cyclic: bool, g: Gathered) -> Checked
     if g.shared {
         return broken(6);
     }
-    Checked::Fine
+    Ok(())
 }
 
 // 47, of a text that 2, 4, 6 and 5 have no fault with.
-pub fn check_conditions(text: &[u8]) -> Checked
+pub fn check_conditions(text: &[u8]) -> Result<(), Refusal>
     requires { IsTree text.now }
     ensures { says_checked result ≡ some (done_of (proper_of text.now)) }
 {
@@ -243,11 +235,9 @@ pub fn check_conditions(text: &[u8]) -> Checked
 }
 
 // 2, 4, 6 and 5, then 47.
-pub fn check_well_formed(text: &[u8]) -> Checked
+pub fn check_well_formed(text: &[u8]) -> Result<(), Refusal>
     ensures { says_checked result ≡ some (done_of (proper_of text.now)) }
 {
-    match treenames::check_tree(text) {
-        Checked::Refused(f) => Checked::Refused(f),
-        Checked::Fine => check_conditions(text),
-    }
+    treenames::check_tree(text)?;
+    check_conditions(text)
 }

@@ -1,13 +1,14 @@
 -- Where the walk of a path stands: the state so far, and what is left of the path from there is what there was from the start.
-use mathlib.Core.Path.{◌≡◌, refl, sym, ◌∙◌, ap, ap₂, subst}
-use mathlib.Core.Bool.{true, false}
-use mathlib.Core.Option.{none}
+use mathlib.Core.Path.{◌≡◌, sym, ◌∙◌, ap, ap₂, subst}
+use mathlib.Core.Option.{none, some}
 use mathlib.Core.List.{List, [], ◌∷◌}
-use Prim.Native.Nat.{ℕ, suc, ◌+◌, ◌*◌, ◌-◌, ◌≤◌, ◌<◌}
+use Prim.Native.Nat.{ℕ, suc, ◌+◌, ◌*◌, ◌<◌}
 use native.Mathlib.Omega.{arith}
 use lib.ListN.{length, get_or, drop, drop_of_length-le}
 use lib.Seq.{drop-cons}
-use Rattle.answer.specs.Told.{tell, Answer, answered, refused}
+use Rattle.std.specs.Prelude.{Some, None, Ok, Err}
+use Rattle.answer.specs.Told.{tell, told, Answer, answered, refused}
+use Rattle.answer.specs.declared.Refusal.{Refusal}
 use Rattle.answer.specs.State.{parts_of}
 use Rattle.answer.specs.declared.State.{State}
 use Rattle.answer.proofs.StateLaws.{with-parts}
@@ -25,10 +26,7 @@ use Rattle.words.proofs.Zeros.{with-zeros}
 use Rattle.moves.proofs.Ready.{count-model, count-few}
 use Rattle.settling.specs.Gives.{Ready}
 use Rattle.paths.specs.Path.{path_step, walk_on, walk}
-use Rattle.walking.specs.declared.Pace.{Pace}
-use Rattle.walking.specs.declared.Way.TheVariants.{Through}
-use Rattle.walking.specs.declared.Walked.{Walked}
-use Rattle.walking.specs.Walks.{Trod, stops_at, Walks}
+use Rattle.walking.specs.Walks.{Trod, not_possible_at, Walks}
 use Rattle.walking.proofs.Pacing.{step-within, trod-on, trod-no-further}
 
 -- ---- the walk, two bytes more, or at an end
@@ -57,51 +55,47 @@ module _ (m : Model) (i : ℕ) (l s : List ℕ) where
       (drop_of_length-le l {i = suc (2 * i)} (omega arith)))
 
 -- ---- as the code answers it
-pub says-stops : (o : Answer (List ℕ)) (i : ℕ) → o ≡ refused (tell 46 (i ∷ [])) → (r : Walked) → r ≡ stops_at i → Walks o r
-says-stops o i e r f = subst (Walks o) (sym f) (subst (λ (v : Answer (List ℕ)). Walks v (stops_at i)) (sym e) (refl, refl))
+pub says-stops : (o : Answer (List ℕ)) (i : ℕ) → o ≡ refused (tell 46 (i ∷ [])) → (q : Refusal) → q ≡ not_possible_at i → Walks o (Err q)
+unfolding told
+says-stops o i e q f = let h : told q ≡ some (tell 46 (i ∷ [])) = ap told f in subst (λ (v : Answer (List ℕ)). Walks v (Err q)) (sym e) h
 
-pub says-through : (o : Answer (List ℕ)) (x : State) → o ≡ answered (parts_of x) → x ≡ state_of (parts_of x) → Walks o (record { way = Through; state = x })
-says-through o x e z = subst (λ (v : Answer (List ℕ)). Walks v (record { way = Through; state = x })) (sym e) (refl, z)
+pub says-through : (o : Answer (List ℕ)) (x : State) → o ≡ answered (parts_of x) → x ≡ state_of (parts_of x) → Walks o (Ok x)
+says-through o x e z = subst (λ (v : Answer (List ℕ)). Walks v (Ok x)) (sym e) (ap (λ y. Ok y) z)
 
 -- ---- the loop
-pub record Going (t path : List ℕ) (cur : State) (left i : ℕ) : Type 0 where
-  pub count : 2 * i + left ≡ length path
+pub record Going (t path : List ℕ) (cur : State) (i : ℕ) : Type 0 where
   pub ready : Ready t cur
   pub zeros : cur ≡ state_of (parts_of cur)
   pub rest : walk (model_of t) i (drop (2 * i) path) (parts_of cur) ≡ walk (model_of t) 0 path (start_all (model_of t))
 
-pub going-first : (t path : List ℕ) → Image t → accept_of (model_of t) ≡ none → (x : State) → x ≡ state_of (start_all (model_of t)) → Going t path x (length path) 0
+pub going-first : (t path : List ℕ) → Image t → accept_of (model_of t) ≡ none → (x : State) → x ≡ state_of (start_all (model_of t)) → Going t path x 0
 going-first t path im acc x e =
     let m = model_of t in
     let well = well-formed t im in
     let k = (accepted-exactly m well).0 acc in
     let parts : parts_of x ≡ start_all m = ap parts_of e ∙ state-numbers (start_all m) (omega (arith, start-length m, well.components)) in
     record {
-      count = omega arith;
       ready = record { standing = record { image = im; within = rw parts (start-in-range m well) }; conforming = k.0; joinable = k.1 };
       zeros = e ∙ sym (ap state_of parts);
       rest = ap (walk m 0 path) parts;
     }
 
-module _ (t path : List ℕ) (cur : State) (left i : ℕ) (at : Going t path cur left i) where
-  module _ (more : 1 < left) (r : Pace) (p : Trod (path_step (model_of t) (parts_of cur) (get_or path (2 * i) 0) (get_or path (2 * i + 1) 0)) cur r) where
-    two-left : 2 * i + 1 < length path
-    two-left = omega (arith, at.count)
-
-    pub going_on : r.possible ≡ true → Going t path r.state (left - 2) (i + 1)
-    going_on h =
+module _ (t path : List ℕ) (cur : State) (i : ℕ) (at : Going t path cur i) where
+  module _ (two : 2 * i + 1 < length path) where
+    pub going_on : (next : State) → Trod (path_step (model_of t) (parts_of cur) (get_or path (2 * i) 0) (get_or path (2 * i + 1) 0)) cur (Some next)
+        → Going t path next (i + 1)
+    going_on next p =
         let m = model_of t in
         let well = well-formed t at.ready.standing.image in
         let a = get_or path (2 * i) 0 in
         let g = get_or path (2 * i + 1) 0 in
-        let q = trod-on (path_step m (parts_of cur) a g) cur r p h in
+        let q = trod-on (path_step m (parts_of cur) a g) cur next p in
         let u = q.0 in
         let within = step-within m well at.ready.conforming at.ready.joinable (parts_of cur) at.ready.standing.within a g u q.1 in
         let long : length u ≡ cur.count = within-length m u within ∙ sym (count-model t cur at.ready.standing) in
-        let parts : parts_of r.state ≡ u = ap parts_of q.2 ∙ with-parts cur u long in
+        let parts : parts_of next ≡ u = ap parts_of q.2 ∙ with-parts cur u long in
         let n : i + 1 ≡ suc i = omega arith in
         record {
-          count = omega (arith, at.count);
           ready = record {
             standing = record { image = at.ready.standing.image; within = rw parts within };
             conforming = at.ready.conforming;
@@ -111,18 +105,19 @@ module _ (t path : List ℕ) (cur : State) (left i : ℕ) (at : Going t path cur
           rest =
               ap₂ (λ k v. walk m k (drop (2 * (i + 1)) path) v) n parts
               ∙ ap (walk_on (walk m (suc i) (drop (2 * (i + 1)) path)) i) (sym q.1)
-              ∙ sym (walk-two m i path (parts_of cur) two-left)
+              ∙ sym (walk-two m i path (parts_of cur) two)
               ∙ at.rest;
         }
 
-    pub going-stopped : r.possible ≡ false → walk (model_of t) 0 path (start_all (model_of t)) ≡ refused (tell 46 (i ∷ []))
-    going-stopped h =
+    pub going-stopped : Trod (path_step (model_of t) (parts_of cur) (get_or path (2 * i) 0) (get_or path (2 * i + 1) 0)) cur None
+        → walk (model_of t) 0 path (start_all (model_of t)) ≡ refused (tell 46 (i ∷ []))
+    going-stopped p =
         let m = model_of t in
         let o = path_step m (parts_of cur) (get_or path (2 * i) 0) (get_or path (2 * i + 1) 0) in
-        sym at.rest ∙ walk-two m i path (parts_of cur) two-left ∙ ap (walk_on (walk m (suc i) (drop (2 * (i + 1)) path)) i) (trod-no-further o cur r p h)
+        sym at.rest ∙ walk-two m i path (parts_of cur) two ∙ ap (walk_on (walk m (suc i) (drop (2 * (i + 1)) path)) i) (trod-no-further o cur p)
 
-  pub going-odd : left ≡ 1 → walk (model_of t) 0 path (start_all (model_of t)) ≡ refused (tell 46 (i ∷ []))
-  going-odd e = sym at.rest ∙ walk-odd (model_of t) i path (parts_of cur) (omega (arith, at.count))
+  pub going-odd : 2 * i + 1 ≡ length path → walk (model_of t) 0 path (start_all (model_of t)) ≡ refused (tell 46 (i ∷ []))
+  going-odd e = sym at.rest ∙ walk-odd (model_of t) i path (parts_of cur) e
 
-  pub going-through : left ≤ 0 → walk (model_of t) 0 path (start_all (model_of t)) ≡ answered (parts_of cur)
-  going-through e = sym at.rest ∙ walk_end (model_of t) i path (parts_of cur) (omega (arith, at.count))
+  pub going-through : 2 * i ≡ length path → walk (model_of t) 0 path (start_all (model_of t)) ≡ answered (parts_of cur)
+  going-through e = sym at.rest ∙ walk_end (model_of t) i path (parts_of cur) e

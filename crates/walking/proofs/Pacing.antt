@@ -8,6 +8,8 @@ use Prim.Native.Nat.{ℕ, zero, suc, ◌-◌, ◌≤◌, ◌<◌}
 use native.Mathlib.Decide.{dec_lt}
 use native.Mathlib.Omega.{arith}
 use lib.Dec.{eqb}
+use Rattle.std.specs.Prelude as Code
+use Rattle.std.specs.Prelude.{Some, None}
 use borrow.Author.Tests.{eqb-true, ne_eqb}
 use Rattle.laws.specs.Sets.{◌∈◌}
 use Rattle.laws.proofs.TestLaws.{and-true, and-not-both}
@@ -30,7 +32,6 @@ use Rattle.firing.specs.Fired.{action_or, fired_one}
 use Rattle.firing.proofs.Shoots.{fires-as-all}
 use Rattle.paths.specs.Path.{after_of, only_if, by_row, calm_step, path_step}
 use Rattle.paths.proofs.Stepping.{row-enables, calm-some, step-there}
-use Rattle.walking.specs.declared.Pace.{Pace}
 use Rattle.walking.specs.Walks.{has_action, waits_for, Trod}
 
 owner-low : (m : Model) → All WellComp m → (a x : ℕ) → Any (λ c. (a ∈ outputs c) × (x ∈ c.clocks)) m → a < max_actions
@@ -124,20 +125,20 @@ pub step-within : (m : Model) → WellFormed m → Conforming m → Joinable m �
 step-within [] well good fit s w a g u e = absurd (omega (arith, well.some))
 step-within (c ∷ cs) well good fit s w a g u e = (step-there c cs well good fit s w a g u e).1
 
--- ---- what a pace says of the step
-pub trod-some : (o : Option (List ℕ)) (s : List ℕ) → o ≡ some s → (x y : State) → y ≡ with_parts x s → Trod o x (record { possible = true; state = y })
-trod-some o s e x y f = subst (λ (v : Option (List ℕ)). Trod v x (record { possible = true; state = y })) (sym e) (refl, f)
+-- ---- what the code's step says of the step
+pub trod-some : (o : Option (List ℕ)) (s : List ℕ) → o ≡ some s → (x y : State) → y ≡ with_parts x s → Trod o x (Some y)
+trod-some o s e x y f = subst (λ (v : Option (List ℕ)). Trod v x (Some y)) (sym e) (ap (λ z. Some z) f)
 
-pub trod-none : (o : Option (List ℕ)) → o ≡ none → (x : State) → Trod o x (record { possible = false; state = x })
-trod-none o e x = subst (λ (v : Option (List ℕ)). Trod v x (record { possible = false; state = x })) (sym e) (refl, refl)
+pub trod-none : (o : Option (List ℕ)) → o ≡ none → (x : State) → Trod o x None
+trod-none o e x = subst (λ (v : Option (List ℕ)). Trod v x None) (sym e) refl
 
-pub trod-as : (o p : Option (List ℕ)) → o ≡ p → (x : State) (r : Pace) → Trod o x r → Trod p x r
+pub trod-as : (o p : Option (List ℕ)) → o ≡ p → (x : State) (r : Code.Option State) → Trod o x r → Trod p x r
 trod-as o p e x r h = subst (λ (v : Option (List ℕ)). Trod v x r) e h
 
-pub trod-on : (o : Option (List ℕ)) (x : State) (r : Pace) → Trod o x r → r.possible ≡ true → (s : List ℕ) × (o ≡ some s) × (r.state ≡ with_parts x s)
-trod-on none x r h e = absurd (true≢false (sym e ∙ h.0))
-trod-on (some s) x r h e = (s, refl, h.1)
+pub trod-on : (o : Option (List ℕ)) (x y : State) → Trod o x (Some y) → (s : List ℕ) × (o ≡ some s) × (y ≡ with_parts x s)
+trod-on none x y h = let z : ◌≡◌ {A = ℕ} 0 1 = cc in absurd (omega arith)
+trod-on (some s) x y h = let e : y ≡ with_parts x s = cc in (s, refl, e)
 
-pub trod-no-further : (o : Option (List ℕ)) (x : State) (r : Pace) → Trod o x r → r.possible ≡ false → o ≡ none
-trod-no-further none x r h e = refl
-trod-no-further (some s) x r h e = absurd (true≢false (sym h.0 ∙ e))
+pub trod-no-further : (o : Option (List ℕ)) (x : State) → Trod o x None → o ≡ none
+trod-no-further none x h = refl
+trod-no-further (some s) x h = let z : ◌≡◌ {A = ℕ} 0 1 = cc in absurd (omega arith)

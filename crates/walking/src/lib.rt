@@ -10,34 +10,20 @@ ghost use Rattle.iosa.specs.Step.{urgent_step};
 ghost use Rattle.layout.specs.Image.{Image, model_of};
 ghost use Rattle.settling.specs.Gives.{Ready};
 ghost use Rattle.paths.specs.Path.{after_of, calm_step, path_step, walk};
-ghost use Rattle.walking.specs.Walks.{waits_for, Trod, stops_at, Walks};
+ghost use Rattle.walking.specs.Walks.{waits_for, Trod, not_possible_at, Walks};
 
-use answer::{Model, State};
+use answer::{Model, Place, Refusal, State};
 
-// One step: whether it is possible, and the state after it; where it is not, the state stays.
-#[derive(Drop)]
-struct Pace {
-    possible: bool,
-    state: State,
-}
-
-// An urgent output of the composition that is enabled, with guard `-`.
-fn urgently(t: &[u64], x: State, a: u64) -> Pace
+// An urgent output of the composition that is enabled, with guard `-`: the state after it, where it is possible.
+fn urgently(t: &[u64], x: State, a: u64) -> Option<State>
     requires { Ready t.now x }
     ensures { Trod (after_of (urgent_step (model_of t.now) (parts_of x) a)) x result }
 {
     if !moves::offered(t, x, a) {
-        return Pace {
-            possible: false,
-            state: x,
-        };
+        return None;
     }
     let m = moves::move_all(t, x, a);
-    let next = m.state;
-    Pace {
-        possible: true,
-        state: next,
-    }
+    Some(m.state)
 }
 
 // Whether the state is stable and the row that the clock guards there has the action.
@@ -58,26 +44,19 @@ fn waits_for(t: &[u64], x: State, a: u64, c: u64) -> bool
 }
 
 // A non-urgent output with its clock, from a stable state.
-fn calmly(t: &[u64], x: State, a: u64, c: u64) -> Pace
+fn calmly(t: &[u64], x: State, a: u64, c: u64) -> Option<State>
     requires { Ready t.now x }
     ensures { Trod (calm_step (model_of t.now) (parts_of x) a c) x result }
 {
     if !waits_for(t, x, a, c) {
-        return Pace {
-            possible: false,
-            state: x,
-        };
+        return None;
     }
     let m = firing::fire_all(t, x, c, a);
-    let next = m.state;
-    Pace {
-        possible: true,
-        state: next,
-    }
+    Some(m.state)
 }
 
 // One step of a path: guard 0 is `-`, and x + 1 is clock x.
-fn step(t: &[u64], x: State, action: u8, guard: u8) -> Pace
+fn step(t: &[u64], x: State, action: u8, guard: u8) -> Option<State>
     requires { Ready t.now x }
     ensures { Trod (path_step (model_of t.now) (parts_of x) action guard) x result }
 {
@@ -90,52 +69,32 @@ fn step(t: &[u64], x: State, action: u8, guard: u8) -> Pace
     }
 }
 
-// How a walk ended: at the end of its path, or at the index of the first step that is not possible (46).
-#[derive(Drop)]
-pub enum Way {
-    Through,
-    Stops(usize),
-}
-
-#[derive(Drop)]
-pub struct Walked {
-    pub way: Way,
-    pub state: State,
-}
-
-fn stops(i: usize) -> Walked
-    ensures { result ≡ stops_at i }
+// 46: the step at this index is not possible.
+fn not_possible(i: usize) -> Refusal
+    ensures { result ≡ not_possible_at i }
 {
-    Walked {
-        way: Way::Stops(i),
-        state: answer::no_state(),
+    Refusal {
+        number: 46,
+        place: Place::Index(i),
     }
 }
 
 // The listed steps in order, two bytes for each; a last byte alone begins a step that has no guard.
-pub fn walk(t: &[u64], path: &[u8]) -> Walked
+pub fn walk(t: &[u64], path: &[u8]) -> Result<State, Refusal>
     requires { Image t.now × (accept_of (model_of t.now) ≡ none) }
     ensures { Walks (walk (model_of t.now) 0 path.now (start_all (model_of t.now))) result }
 {
     let mut cur = outset::start_state(t);
-    let mut left = path.len();
-    let mut i = 0usize;
-    while 1 < left {
+    let whole = path.len() / 2;
+    for i in 0..whole {
         let at = 2 * i;
-        let p = step(t, cur, path[at], path[at + 1]);
-        if !p.possible {
-            return stops(i);
-        }
-        let next = p.state;
+        let Some(next) = step(t, cur, path[at], path[at + 1]) else {
+            return Err(not_possible(i));
+        };
         cur = next;
-        left -= 2;
-        i += 1;
     }
-    if left == 1 {
-        return stops(i);
+    if path.len() % 2 == 1 {
+        return Err(not_possible(whole));
     }
-    Walked {
-        way: Way::Through,
-        state: cur,
-    }
+    Ok(cur)
 }

@@ -7,9 +7,6 @@ ghost use Rattle.whys.specs.Explanation.{explanation_of};
 ghost use Rattle.explaining.specs.Longest.{explanation_bytes};
 ghost use Rattle.printout.specs.Printed.{Filled};
 
-use answer::Written;
-use stream::Moved;
-
 fn empty_out() -> [u8; explaining::EXPLANATION]
     ensures { explanation_bytes ≡ length result }
 {
@@ -21,17 +18,14 @@ fn filled(input: &[u8], out: &mut [u8]) -> usize
     requires { explanation_bytes ≡ length out.old }
     ensures { Filled (explanation_of input.now) out.new result }
 {
-    match explain::explain(input, out) {
-        Written::Length(k) => k,
-        Written::Refused(_) => 0,
-    }
+    explain::explain(input, out).unwrap()
 }
 
 // Writes the answer to an input, or says that it could not.
 fn answer(rt: &HostRuntime, input: &[u8]) {
     let mut out = empty_out();
     let k = filled(input, &mut out);
-    if let Moved::Failed(e) = stream::write(rt, &mut rt.stdout(), &out[..k]) {
+    if let Err(e) = stream::write(rt, &mut rt.stdout(), &out[..k]) {
         failing::say(rt, b"why: the answer could not be written whole", e);
     }
 }
@@ -39,7 +33,7 @@ fn answer(rt: &HostRuntime, input: &[u8]) {
 fn main(rt: HostRuntime) {
     let mut input = printout::empty_input();
     match stream::read(&rt, &mut rt.stdin(), &mut input) {
-        Moved::Bytes(n) => answer(&rt, &input[..n]),
-        Moved::Failed(e) => failing::say(&rt, b"why: standard input could not be read", e),
+        Ok(n) => answer(&rt, &input[..n]),
+        Err(e) => failing::say(&rt, b"why: standard input could not be read", e),
     }
 }

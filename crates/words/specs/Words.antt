@@ -1,8 +1,12 @@
 -- How an answer lies in words for C: what kind of answer, the refusal's number, how many values its place has, the values, and then the
 -- length written or the steps taken, action, resets and ticks. Words that an answer does not use are 0.
-use Rattle.std.specs.Prelude.{Bool, true, false, List, [], ◌∷◌, ℕ, length, get_or}
+use Rattle.std.specs.Prelude.{Bool, true, false, List, [], ◌∷◌, ℕ, length, get_or, Result, Ok, Err}
+use Rattle.std.proofs.Math.Option.{Option}
 use Rattle.answer.specs.declared.Refusal.{Refusal}
-use Rattle.answer.specs.Told.{Told, Answer, answered, refused, Step, moved, stable, Shot, fired, quiet, values_at}
+use Rattle.answer.specs.declared.Stepped.{Stepped}
+use Rattle.answer.specs.declared.Settled.{Settled}
+use Rattle.answer.specs.declared.Timed.{Timed}
+use Rattle.answer.specs.Told.{Answer, answered, refused, Step, moved, stable, step_said, stable_said, Shot, fired, quiet, shot_said, says, values_at}
 
 abbrev pub words_of : ℕ → ℕ → ℕ → ℕ → ℕ → ℕ → ℕ → ℕ → ℕ → ℕ → ℕ → List ℕ
 words_of kind number places p0 p1 p2 p3 count action resets ticks =
@@ -41,6 +45,10 @@ abbrev pub step_words : Step → List ℕ
 step_words (moved a r) = given_words 2 0 a r 0
 step_words stable = given_words 3 0 0 0 0
 
+-- what a step's result says
+abbrev pub says_step : Result Stepped Refusal → Option (Answer Step)
+says_step r = says (λ p. step_said p.outcome) r
+
 unfoldable pub stepped_words : Answer Step → List ℕ
 stepped_words = said_words step_words
 
@@ -49,6 +57,18 @@ abbrev pub verdict_words : ℕ → ℕ → Bool → List ℕ
 verdict_words steps resets true = given_words 3 steps 0 resets 0
 verdict_words steps resets false = given_words 4 steps 0 resets 0
 
+-- what the result of settling says, and the steps and the clocks reset, which are 0 beside a refusal
+abbrev pub says_settling : Result Settled Refusal → Option (Answer Bool)
+says_settling r = says (λ p. stable_said p.verdict) r
+
+abbrev pub steps_in : Result Settled Refusal → ℕ
+steps_in (Ok p) = p.steps
+steps_in (Err q) = 0
+
+abbrev pub resets_in : Result Settled Refusal → ℕ
+resets_in (Ok p) = p.resets
+resets_in (Err q) = 0
+
 unfoldable pub settled_words : Answer Bool → ℕ → ℕ → List ℕ
 settled_words a steps resets = said_words (verdict_words steps resets) a
 
@@ -56,6 +76,10 @@ settled_words a steps resets = said_words (verdict_words steps resets) a
 abbrev pub shot_words : Shot → List ℕ
 shot_words (fired v a r) = given_words 5 0 a r v
 shot_words quiet = given_words 6 0 0 0 0
+
+-- what the result of a timed step says
+abbrev pub says_shot : Result Timed Refusal → Option (Answer Shot)
+says_shot r = says (λ p. shot_said p.firing) r
 
 unfoldable pub fired_words : Answer Shot → List ℕ
 fired_words = said_words shot_words

@@ -3,12 +3,13 @@
 
 ghost use Rattle.std.specs.Prelude.{◌≡◌, ℕ, get_or, Bool};
 ghost use Rattle.std.proofs.Math.Option.{some};
-ghost use Rattle.answer.specs.Told.{Answer, Step, Shot, says_checked, says_written, says_outcome, says_verdict, says_firing};
+ghost use Rattle.answer.specs.Told.{Answer, Step, Shot, step_said, shot_said, says_checked, says_written};
 ghost use Rattle.words.specs.Words.{words_of, refusal_words, checked_words, started_words, written_words, stepped_words, settled_words, fired_words};
+ghost use Rattle.words.specs.Words.{step_words, shot_words, says_step, says_settling, steps_in, resets_in, says_shot};
 ghost use Rattle.words.specs.Bytes.{state_of, laid_over, moved_over};
 ghost use Rattle.words.specs.Version.{version_number};
 
-use answer::{Checked, Firing, Outcome, Place, Refusal, State, Verdict, Written};
+use answer::{Firing, Outcome, Place, Refusal, Settled, State, Stepped, Timed, Verdict};
 
 // The layout of an answer: how many words, and what the first of them says.
 #[derive(Drop)]
@@ -122,66 +123,86 @@ fn refusal_words(r: Refusal) -> [u64; Words::COUNT]
 }
 
 // What reading, checking and merging answer.
-pub fn checked_words(r: Checked) -> [u64; Words::COUNT]
+pub fn checked_words(r: Result<(), Refusal>) -> [u64; Words::COUNT]
     ensures { (a : Answer (Unit {0})) → says_checked r ≡ some a → result ≡ checked_words a }
 {
     started_words(r, 0, 0)
 }
 
 // What the start answers; its state stands beside it.
-pub fn started_words(r: Checked, count: usize, started: u64) -> [u64; Words::COUNT]
+pub fn started_words(r: Result<(), Refusal>, count: usize, started: u64) -> [u64; Words::COUNT]
     ensures { (a : Answer (Unit {0})) → says_checked r ≡ some a → result ≡ started_words a count started }
 {
     match r {
-        Checked::Fine => given(Words::DONE, count as u64, 0, started, 0),
-        Checked::Refused(f) => refusal_words(f),
+        Ok(()) => given(Words::DONE, count as u64, 0, started, 0),
+        Err(f) => refusal_words(f),
     }
 }
 
 // What writing answers.
-pub fn written_words(r: Written) -> [u64; Words::COUNT]
+pub fn written_words(r: Result<usize, Refusal>) -> [u64; Words::COUNT]
     ensures { (a : Answer ℕ) → says_written r ≡ some a → result ≡ written_words a }
 {
     match r {
-        Written::Length(n) => given(Words::DONE, n as u64, 0, 0, 0),
-        Written::Refused(f) => refusal_words(f),
+        Ok(n) => given(Words::DONE, n as u64, 0, 0, 0),
+        Err(f) => refusal_words(f),
     }
 }
 
 // What a step answers; its state stands beside it.
-pub fn stepped_words(r: Outcome) -> [u64; Words::COUNT]
-    ensures { (a : Answer Step) → says_outcome r ≡ some a → result ≡ stepped_words a }
+pub fn stepped_words(r: &Result<Stepped, Refusal>) -> [u64; Words::COUNT]
+    ensures { (a : Answer Step) → says_step r.now ≡ some a → result ≡ stepped_words a }
 {
     match r {
+        Ok(s) => outcome_words(s.outcome),
+        Err(f) => refusal_words(*f),
+    }
+}
+
+// What a step did.
+fn outcome_words(o: Outcome) -> [u64; Words::COUNT]
+    ensures { result ≡ step_words (step_said o) }
+{
+    match o {
         Outcome::Moved { action, resets } => given(Words::MOVED, 0, action, resets, 0),
         Outcome::Stable => given(Words::STABLE, 0, 0, 0, 0),
-        Outcome::Refused(f) => refusal_words(f),
     }
 }
 
 // What settling answers; its state stands beside it.
-pub fn settled_words(r: Verdict, steps: usize, resets: u64) -> [u64; Words::COUNT]
-    ensures { (a : Answer Bool) → says_verdict r ≡ some a → result ≡ settled_words a steps resets }
+pub fn settled_words(r: &Result<Settled, Refusal>) -> [u64; Words::COUNT]
+    ensures { (a : Answer Bool) → says_settling r.now ≡ some a → result ≡ settled_words a (steps_in r.now) (resets_in r.now) }
 {
     match r {
-        Verdict::Stable => given(Words::STABLE, steps as u64, 0, resets, 0),
-        Verdict::Unsettled => given(Words::UNSETTLED, steps as u64, 0, resets, 0),
-        Verdict::Refused(f) => refusal_words(f),
+        Ok(s) => match s.verdict {
+            Verdict::Stable => given(Words::STABLE, s.steps as u64, 0, s.resets, 0),
+            Verdict::Unsettled => given(Words::UNSETTLED, s.steps as u64, 0, s.resets, 0),
+        },
+        Err(f) => refusal_words(*f),
     }
 }
 
 // What the timed step answers; its state stands beside it.
-pub fn fired_words(r: Firing) -> [u64; Words::COUNT]
-    ensures { (a : Answer Shot) → says_firing r ≡ some a → result ≡ fired_words a }
+pub fn fired_words(r: &Result<Timed, Refusal>) -> [u64; Words::COUNT]
+    ensures { (a : Answer Shot) → says_shot r.now ≡ some a → result ≡ fired_words a }
 {
     match r {
+        Ok(t) => firing_words(t.firing),
+        Err(f) => refusal_words(*f),
+    }
+}
+
+// What the timed step did.
+fn firing_words(f: Firing) -> [u64; Words::COUNT]
+    ensures { result ≡ shot_words (shot_said f) }
+{
+    match f {
         Firing::Fired {
             ticks,
             action,
             resets,
         } => given(Words::FIRED, 0, action, resets, ticks),
         Firing::Quiet => given(Words::QUIET, 0, 0, 0, 0),
-        Firing::Refused(f) => refusal_words(f),
     }
 }
 
@@ -190,10 +211,8 @@ pub fn state_of(bytes: &[u8]) -> State
     ensures { result ≡ state_of bytes.now }
 {
     let mut parts = [0u8; State::PARTS];
-    let mut i = 0usize;
-    while i < State::PARTS {
+    for i in 0..State::PARTS {
         parts[i] = part(bytes, i);
-        i += 1;
     }
     State {
         count: bytes.len(),
@@ -209,24 +228,20 @@ fn part(bytes: &[u8], i: usize) -> u8
 }
 
 // A state's places laid over the bytes that a caller lent, as many as there are bytes.
-fn put_state(bytes: &mut [u8], x: State)
-    ensures { bytes.new ≡ laid_over x.parts bytes.old }
+fn put_state(bytes: &mut [u8], x: &State)
+    ensures { bytes.new ≡ laid_over x.now.parts bytes.old }
 {
-    let parts = x.parts;
-    let mut i = 0usize;
-    while i < State::PARTS && i < bytes.len() {
-        bytes[i] = parts[i];
-        i += 1;
-    }
+    let n = bytes.len().min(State::PARTS);
+    bytes[..n].copy_from_slice(&x.parts[..n]);
 }
 
 // The same where a step moved; where it did not, nothing is stored.
-pub fn put_moved(bytes: &mut [u8], outcome: Outcome, x: State)
-    ensures { bytes.new ≡ moved_over outcome x.parts bytes.old }
+pub fn put_moved(bytes: &mut [u8], r: &Result<Stepped, Refusal>)
+    ensures { bytes.new ≡ moved_over r.now bytes.old }
 {
-    match outcome {
-        Outcome::Moved { .. } => put_state(bytes, x),
-        Outcome::Stable => {}
-        Outcome::Refused(_) => {}
+    if let Ok(s) = r {
+        if let Outcome::Moved { .. } = s.outcome {
+            put_state(bytes, &s.state);
+        }
     }
 }

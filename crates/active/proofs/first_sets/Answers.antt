@@ -1,5 +1,4 @@
 -- `active::first_sets` meets its contract: the places passed hold what is allowed.
-use Prim.Native.Nat.{◌-◌}
 use native.Mathlib.Omega.{arith}
 use lib.ListN.{length-set}
 use Rattle.iosa.specs.Checks.{allowed}

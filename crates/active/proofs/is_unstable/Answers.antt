@@ -3,7 +3,7 @@ use mathlib.Core.Path.{ap, ◌∙◌}
 use native.Mathlib.Omega.{arith}
 use Rattle.rows.specs.Ranges.{found_of, by_set}
 use Rattle.rows.proofs.Ready.{word-ready, first-ready, next-ready, range-ready, range-actions}
-use Rattle.active.proofs.Stability.{unstable-at, unstable-nothing}
+use Rattle.active.proofs.Stability.{unstable-found}
 use Rattle.active.proofs.is_unstable.Goals as goal
 
 pub first_of-lo-requires : goal.first_of-lo-requires
@@ -18,18 +18,10 @@ first_of-hi-requires c = next-ready _ c.requires.0 _ c.requires.1 _ c.requires.2
 pub block_word-set-requires : goal.block_word-set-requires
 block_word-set-requires c = word-ready _ c.requires.0 _ c.requires.1 _ (omega arith)
 
-pub find_in-f-requires : goal.find_in-f-requires
-find_in-f-requires c = let r = range-ready _ c.requires.0 _ c.requires.1 _ c.requires.2 _ _ c.first_of-lo.ensures c.first_of-hi.ensures in
+pub find_in-requires : goal.find_in-requires
+find_in-requires c = let r = range-ready _ c.requires.0 _ c.requires.1 _ c.requires.2 _ _ c.first_of-lo.ensures c.first_of-hi.ensures in
     (r.0, r.1, range-actions _ c.requires.0 _ c.requires.1 _ c.requires.2 _ _ c.first_of-lo.ensures c.first_of-hi.ensures)
 
-pub returns-in-At : goal.returns-in-At
-returns-in-At c = let e = c.find_in-f.ensures ∙ ap (λ w. found_of (by_set c.args.t.now w c.first_of-lo.result
-    c.first_of-hi.result)) c.block_word-set.ensures in
-    unstable-at _ c.requires.0 _ c.requires.1 _ c.requires.2 _ _ c.first_of-lo.ensures
-    c.first_of-hi.ensures _ e _ c.in-At.is
-
-pub returns-in-Nothing : goal.returns-in-Nothing
-returns-in-Nothing c = let e = c.find_in-f.ensures ∙ ap (λ w. found_of (by_set c.args.t.now w c.first_of-lo.result
-    c.first_of-hi.result)) c.block_word-set.ensures in
-    unstable-nothing _ c.requires.0 _ c.requires.1 _ c.requires.2 _ _ c.first_of-lo.ensures
-    c.first_of-hi.ensures _ e c.in-Nothing.is
+pub returns : goal.returns
+returns c = let e = c.find_in.ensures ∙ ap (λ w. found_of (by_set c.args.t.now w c.first_of-lo.result c.first_of-hi.result)) c.block_word-set.ensures in
+    unstable-found _ c.requires.0 _ c.requires.1 _ c.requires.2 _ _ c.first_of-lo.ensures c.first_of-hi.ensures _ e c.is_some.ensures

@@ -1,6 +1,5 @@
 -- `active::pass_once` meets its contract: what is left of the states narrows the sets so far.
 use mathlib.Core.Path.{refl, sym, ap, ◌∙◌}
-use Prim.Native.Nat.{◌-◌}
 use native.Mathlib.Omega.{arith}
 use Rattle.laws.specs.Fold.{over}
 use Rattle.laws.proofs.FoldLaws.{over-next, over-end}

@@ -1,20 +1,13 @@
--- `admit::confluent` meets its contract: 20, or what the checks say of the table's model.
-use mathlib.Core.Path.{ap}
-use mathlib.Core.Bool.{not}
+-- `admit::confluent` meets its contract: 20, or what the check says of the table's model.
 use Rattle.iosa.specs.Checks.{confluent_of}
-use Rattle.admit.proofs.Recognised.{is-image, says-20, says-of-model}
+use Rattle.admit.proofs.Recognised.{recognised-image, exit-20, goes-on}
 use Rattle.admit.proofs.confluent.Goals as goal
 
+pub returns-in_err-check_image : goal.returns-in_err-check_image
+returns-in_err-check_image c = exit-20 _ confluent_of _ _ c.from_residual.ensures.1 c.in_err-check_image.ensures
+
 pub check_confluent-requires : goal.check_confluent-requires
-check_confluent-requires c = let w = c.recognise in
-    is-image c.args.table.now w.result w.ensures (ap not c.if-recognise.true)
+check_confluent-requires c = recognised-image _ c.in_ok-check_image.ensures
 
-pub returns-then-recognise : goal.returns-then-recognise
-returns-then-recognise c = let w = c.recognise in
-    let lent = c.args.table.now in
-    says-of-model lent w.result w.ensures confluent_of _ (ap not c.if-recognise.true) c.check_confluent.ensures
-
-pub returns-else-recognise : goal.returns-else-recognise
-returns-else-recognise c = let w = c.recognise in
-    let lent = c.args.table.now in
-    says-20 lent w.result w.ensures confluent_of _ (ap not c.if-recognise.false) c.refused.ensures
+pub returns : goal.returns
+returns c = goes-on _ confluent_of _ c.in_ok-check_image.ensures c.check_confluent.ensures

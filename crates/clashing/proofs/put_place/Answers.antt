@@ -3,8 +3,8 @@ use Rattle.tell.proofs.TellLaws.{put_as}
 use Rattle.clashing.proofs.Meeting.{there, clash-at}
 use Rattle.clashing.proofs.put_place.Goals as goal
 
-pub returns-in_default : goal.returns-in_default
-returns-in_default c = let k = c.requires.1 in absurd (c.in_default.not-Clash k.component k.state k.lower k.higher k.here)
+pub unreachable-requires : goal.unreachable-requires
+unreachable-requires c = let k = c.requires.1 in absurd (c.in_default.not-Clash k.component k.state k.lower k.higher k.here)
 
 pub put_explanation-requires : goal.put_explanation-requires
 put_explanation-requires c = let q = there c.args.t.now c.args.p c.requires.1 _ _ _ _ c.in-Clash.is in

@@ -1,8 +1,6 @@
 -- `columns::numbers_out` meets its contract. The loop's invariant: the search from here on finds what the search from the start finds.
 use mathlib.Core.Path.{sym, ◌∙◌, ap}
-use Prim.Native.Nat.{◌-◌}
 use native.Mathlib.Omega.{arith}
-use Rattle.model.specs.Reading.{number}
 use Rattle.fields.specs.Fields.{got_number}
 use Rattle.columns.proofs.OutLaws.{looking-first, out-end, out-stops, out-here, out-last, out-behind, out-more, out-less}
 use Rattle.columns.proofs.numbers_out.Goals as goal
@@ -14,16 +12,16 @@ pub returns-then-not-is_in : goal.returns-then-not-is_in
 returns-then-not-is_in c = let l = c.loop-i in
     let a = c.args in
     let t = a.text.now in
-    let v = c.in-Is in
-    let read = sym c.number.ensures ∙ ap (got_number t) c.in-Is.is in
+    let v = c.in-Ok in
+    let read = sym c.number.ensures ∙ ap (got_number t) c.in-Ok.is in
     out-here a.set t a.at l.i l.invariant v.n v.next.at read (sym c.is_in.ensures ∙ c.if-not-is_in.true)
 
 pub returns-then-text-end : goal.returns-then-text-end
 returns-then-text-end c = let l = c.loop-i in
     let a = c.args in
     let t = a.text.now in
-    let v = c.in-Is in
-    let read = sym c.number.ensures ∙ ap (got_number t) c.in-Is.is in
+    let v = c.in-Ok in
+    let read = sym c.number.ensures ∙ ap (got_number t) c.in-Ok.is in
     let p = c.is_in in
     out-last a.set t a.at l.i l.invariant v.n v.next.at read (sym p.ensures ∙ c.if-not-is_in.false) c.if-text-end.true
 
@@ -37,8 +35,8 @@ pub returns-then-text-end-ne-COMMA : goal.returns-then-text-end-ne-COMMA
 returns-then-text-end-ne-COMMA c = let l = c.loop-i in
     let a = c.args in
     let t = a.text.now in
-    let v = c.in-Is in
-    let read = sym c.number.ensures ∙ ap (got_number t) c.in-Is.is in
+    let v = c.in-Ok in
+    let read = sym c.number.ensures ∙ ap (got_number t) c.in-Ok.is in
     let p = c.is_in in
     let in-it = sym p.ensures ∙ c.if-not-is_in.false in
     out-behind a.set t a.at l.i l.invariant v.n v.next.at read in-it (omega arith) c.if-text-end-ne-COMMA.true
@@ -50,8 +48,8 @@ pub loop-i-smaller : goal.loop-i-smaller
 loop-i-smaller c = let l = c.loop-i in
     let a = c.args in
     let t = a.text.now in
-    let v = c.in-Is in
-    let read = sym c.number.ensures ∙ ap (got_number t) c.in-Is.is in
+    let v = c.in-Ok in
+    let read = sym c.number.ensures ∙ ap (got_number t) c.in-Ok.is in
     let p = c.is_in in
     let in-it = sym p.ensures ∙ c.if-not-is_in.false in
     out-less a.set t a.at l.i l.invariant v.n v.next.at read in-it (omega arith)
@@ -60,17 +58,17 @@ pub loop-i-preserved : goal.loop-i-preserved
 loop-i-preserved c = let l = c.loop-i in
     let a = c.args in
     let t = a.text.now in
-    let v = c.in-Is in
-    let read = sym c.number.ensures ∙ ap (got_number t) c.in-Is.is in
+    let v = c.in-Ok in
+    let read = sym c.number.ensures ∙ ap (got_number t) c.in-Ok.is in
     let p = c.is_in in
     let in-it = sym p.ensures ∙ c.if-not-is_in.false in
     out-more a.set t a.at l.i l.invariant v.n v.next.at read in-it (omega arith) c.if-text-end-ne-COMMA.false
 
-pub returns-in-Missing : goal.returns-in-Missing
-returns-in-Missing c = let l = c.loop-i in
+pub returns-in_default : goal.returns-in_default
+returns-in_default c = let l = c.loop-i in
     let a = c.args in
     let t = a.text.now in
-    out-stops a.set t a.at l.i l.invariant _ (sym c.number.ensures ∙ ap (got_number t) c.in-Missing.is)
+    out-stops a.set t a.at l.i l.invariant _ (sym c.number.ensures ∙ ap (got_number t) c.in_default.is)
 
 pub returns : goal.returns
 returns c = let a = c.args in

@@ -1,19 +1,17 @@
 -- `distributions::ended` meets its contract.
-use mathlib.Core.Path.{sym}
-use mathlib.Core.List.{[], ◌∷◌}
-use Prim.Native.Nat.{ℕ}
-use Rattle.model.specs.Text.{lf}
+use mathlib.Core.Path.{sym, ◌∙◌, ap}
+use Rattle.laws.proofs.Exits.{handed-on}
+use Rattle.fields.specs.Fields.{past}
 use Rattle.model.specs.Reading.{got}
-use Rattle.distributions.proofs.FoundLaws.{bytes_on, bytes-off}
+use Rattle.fields.proofs.ScanLaws.{then-stops, then_is}
+use Rattle.distributions.specs.Found.{got_law}
 use Rattle.distributions.proofs.ended.Goals as goal
-use Rattle.distributions.proofs.ended.Goals.{After-byte}
 
--- where the scan begins
-abbrev start : After-byte → ℕ
-start c = c.args.c.at
+pub returns : goal.returns
+returns c = let a = c.args in
+    sym (then_is (λ _ cs. got a.law cs) (sym c.byte.ensures ∙ ap (past a.text.now) c.in_ok-d.was))
 
-pub returns-in-Past : goal.returns-in-Past
-returns-in-Past c = sym (bytes_on (got c.args.law) (lf ∷ []) _ (start (goal.at.returns-in-Past c).After-byte) _ c.byte.ensures _ c.in-Past.is)
-
-pub returns-in-Missing : goal.returns-in-Missing
-returns-in-Missing c = bytes-off (got c.args.law) (lf ∷ []) _ (start (goal.at.returns-in-Missing c).After-byte) _ c.byte.ensures _ c.in-Missing.is
+pub returns-in_err-d : goal.returns-in_err-d
+returns-in_err-d c = let a = c.args in
+    ap (got_law a.text.now) (handed-on _ c.from_residual.ensures.1)
+    ∙ sym (then-stops (λ _ cs. got a.law cs) (sym c.byte.ensures ∙ ap (past a.text.now) c.in_err-d.was))

@@ -1,13 +1,20 @@
 -- `distributions::form` meets its contract.
-use mathlib.Core.Path.{sym, ◌∙◌}
+use mathlib.Core.Path.{sym, ◌∙◌, ap}
+use Rattle.laws.proofs.Exits.{handed-on}
+use Rattle.fields.specs.Fields.{past}
+use Rattle.distributions.specs.Found.{got_law}
 use Rattle.distributions.proofs.FormLaws.{form-uni, form-mix, form-none}
 use Rattle.distributions.proofs.form.Goals as goal
 
-pub returns-in-Past : goal.returns-in-Past
-returns-in-Past c = c.uniform.ensures ∙ sym (form-uni _ c.args.c.at _ c.word.ensures _ c.in-Past.is)
+pub returns-in-Ok : goal.returns-in-Ok
+returns-in-Ok c = let t = c.args.text.now in
+    c.uniform.ensures ∙ form-uni _ (sym c.word.ensures ∙ ap (past t) c.in-Ok.is)
 
-pub returns-in-Past-word : goal.returns-in-Past-word
-returns-in-Past-word c = c.mixture.ensures ∙ sym (form-mix _ c.args.c.at _ c.word.ensures _ c.in-Missing.is _ c.word-in-Missing.ensures _ c.in-Past-word.is)
+pub returns : goal.returns
+returns c = let t = c.args.text.now in
+    c.mixture.ensures ∙ form-mix _ (sym c.word.ensures ∙ ap (past t) c.in_default.is) (sym c.word-2.ensures ∙ ap (past t) c.in_ok-d.was)
 
-pub returns-in-Missing-word : goal.returns-in-Missing-word
-returns-in-Missing-word c = form-none _ c.args.c.at _ c.word.ensures _ c.in-Missing.is _ c.word-in-Missing.ensures _ c.in-Missing-word.is
+pub returns-in_err-d : goal.returns-in_err-d
+returns-in_err-d c = let t = c.args.text.now in
+    ap (got_law t) (handed-on _ c.from_residual.ensures.1)
+    ∙ form-none _ (sym c.word.ensures ∙ ap (past t) c.in_default.is) (sym c.word-2.ensures ∙ ap (past t) c.in_err-d.was)

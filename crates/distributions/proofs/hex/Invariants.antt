@@ -1,11 +1,6 @@
 -- What each turn of the loop of `distributions::hex` keeps.
-use Prim.Native.Nat.{◌-◌}
-use Rattle.drawing.specs.File.{hex_digits}
 use Rattle.distributions.proofs.HexLaws.{Digits}
 use Rattle.distributions.proofs.hex.Given as goal
 
 abbrev pub invariant-loop-k : goal.invariant-loop-k
 invariant-loop-k l = Digits l.text l.initial.at l.k l.n l.at
-
-abbrev pub decreases-loop-k : goal.decreases-loop-k
-decreases-loop-k l = hex_digits - l.k

@@ -1,18 +1,18 @@
 -- `distributions::law_at` meets its contract.
-use Prim.Native.Nat.{ℕ}
+use mathlib.Core.Path.{sym, ◌∙◌, ap}
+use Rattle.laws.proofs.Exits.{handed-on}
+use Rattle.distributions.specs.Found.{got_law}
 use Rattle.distributions.proofs.FormLaws.{law-none, law-is, law-not}
 use Rattle.distributions.proofs.law_at.Goals as goal
-use Rattle.distributions.proofs.law_at.Goals.{After-form_field}
-
--- where the scan begins
-abbrev start : After-form_field → ℕ
-start c = c.args.c.at
 
 pub returns-then-is_lawful : goal.returns-then-is_lawful
-returns-then-is_lawful c = law-is _ (start (goal.at.returns-then-is_lawful c).After-form_field) _ c.form_field.ensures _ _ c.in-Is.is _ c.is_lawful.ensures c.if-is_lawful.true
+returns-then-is_lawful c = let t = c.args.text.now in
+    law-is _ (sym c.form_field.ensures ∙ ap (got_law t) c.in_ok-d.was) (sym c.is_lawful.ensures ∙ c.if-is_lawful.true)
 
 pub returns-else-is_lawful : goal.returns-else-is_lawful
-returns-else-is_lawful c = law-not _ (start (goal.at.returns-else-is_lawful c).After-form_field) _ c.form_field.ensures _ _ c.in-Is.is _ c.is_lawful.ensures c.if-is_lawful.false
+returns-else-is_lawful c = let t = c.args.text.now in
+    law-not _ (sym c.form_field.ensures ∙ ap (got_law t) c.in_ok-d.was) (sym c.is_lawful.ensures ∙ c.if-is_lawful.false)
 
-pub returns-in-Missing : goal.returns-in-Missing
-returns-in-Missing c = law-none _ (start (goal.at.returns-in-Missing c).After-form_field) _ c.form_field.ensures c.in-Missing.is
+pub returns-in_err-d : goal.returns-in_err-d
+returns-in_err-d c = let t = c.args.text.now in
+    ap (got_law t) (handed-on _ c.from_residual.ensures.1) ∙ law-none _ (sym c.form_field.ensures ∙ ap (got_law t) c.in_err-d.was)

@@ -1,18 +1,19 @@
 -- `distributions::range` meets its contract.
-use Prim.Native.Nat.{ℕ}
+use mathlib.Core.Path.{sym, ◌∙◌, ap}
+use Rattle.laws.proofs.Exits.{handed-on}
+use Rattle.distributions.specs.Found.{got_real, got_range}
 use Rattle.distributions.proofs.FormLaws.{no_lower, no-upper, both_ends}
 use Rattle.distributions.proofs.range.Goals as goal
-use Rattle.distributions.proofs.range.Goals.{After-real}
 
--- where the scan begins
-abbrev start : After-real → ℕ
-start c = c.args.c.at
+pub returns : goal.returns
+returns c = let t = c.args.text.now in
+    both_ends _ (sym c.real.ensures ∙ ap (got_real t) c.in_ok-d.was) (sym c.real-2.ensures ∙ ap (got_real t) c.in_ok-e.was)
 
-pub returns-in-Is-real : goal.returns-in-Is-real
-returns-in-Is-real c = both_ends _ (start (goal.at.returns-in-Is-real c).After-real) _ c.real.ensures _ _ c.in-Is.is _ c.real-in-Is.ensures _ _ c.in-Is-real.is
+pub returns-in_err-e : goal.returns-in_err-e
+returns-in_err-e c = let t = c.args.text.now in
+    ap (got_range t) (handed-on _ c.from_residual-in_err-e.ensures.1)
+    ∙ no-upper _ (sym c.real.ensures ∙ ap (got_real t) c.in_ok-d.was) (sym c.real-2.ensures ∙ ap (got_real t) c.in_err-e.was)
 
-pub returns-in-Missing-real : goal.returns-in-Missing-real
-returns-in-Missing-real c = no-upper _ (start (goal.at.returns-in-Missing-real c).After-real) _ c.real.ensures _ _ c.in-Is.is _ c.real-in-Is.ensures c.in-Missing-real.is
-
-pub returns-in-Missing : goal.returns-in-Missing
-returns-in-Missing c = no_lower _ (start (goal.at.returns-in-Missing c).After-real) _ c.real.ensures c.in-Missing.is
+pub returns-in_err-d : goal.returns-in_err-d
+returns-in_err-d c = let t = c.args.text.now in
+    ap (got_range t) (handed-on _ c.from_residual.ensures.1) ∙ no_lower _ (sym c.real.ensures ∙ ap (got_real t) c.in_err-d.was)

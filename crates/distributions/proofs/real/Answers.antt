@@ -1,19 +1,17 @@
 -- `distributions::real` meets its contract.
-use mathlib.Core.Path.{sym, ◌∙◌}
-use mathlib.Core.List.{[], ◌∷◌}
-use Prim.Native.Nat.{ℕ}
-use Rattle.model.specs.Text.{tab}
+use mathlib.Core.Path.{sym, ◌∙◌, ap}
+use Rattle.laws.proofs.Exits.{handed-on}
+use Rattle.fields.specs.Fields.{past}
+use Rattle.fields.proofs.ScanLaws.{then-stops, then_is}
 use Rattle.drawing.specs.File.{real_at}
-use Rattle.distributions.proofs.FoundLaws.{bytes_on, bytes-off}
+use Rattle.distributions.specs.Found.{got_real}
 use Rattle.distributions.proofs.real.Goals as goal
-use Rattle.distributions.proofs.real.Goals.{After-byte}
 
--- where the scan begins
-abbrev start : After-byte → ℕ
-start c = c.args.c.at
+pub returns : goal.returns
+returns c = let t = c.args.text.now in
+    c.bits_at.ensures ∙ sym (then_is (λ _ cs. real_at cs) (sym c.byte.ensures ∙ ap (past t) c.in_ok-d.was))
 
-pub returns-in-Past : goal.returns-in-Past
-returns-in-Past c = c.bits_at.ensures ∙ sym (bytes_on real_at (tab ∷ []) _ (start (goal.at.returns-in-Past c).After-byte) _ c.byte.ensures _ c.in-Past.is)
-
-pub returns-in-Missing : goal.returns-in-Missing
-returns-in-Missing c = bytes-off real_at (tab ∷ []) _ (start (goal.at.returns-in-Missing c).After-byte) _ c.byte.ensures _ c.in-Missing.is
+pub returns-in_err-d : goal.returns-in_err-d
+returns-in_err-d c = let t = c.args.text.now in
+    ap (got_real t) (handed-on _ c.from_residual.ensures.1)
+    ∙ sym (then-stops (λ _ cs. real_at cs) (sym c.byte.ensures ∙ ap (past t) c.in_err-d.was))

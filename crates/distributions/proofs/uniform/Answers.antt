@@ -1,16 +1,14 @@
 -- `distributions::uniform` meets its contract.
-use mathlib.Core.Path.{sym, ◌∙◌}
-use Prim.Native.Nat.{ℕ}
+use mathlib.Core.Path.{sym, ◌∙◌, ap}
+use Rattle.laws.proofs.Exits.{handed-on}
+use Rattle.distributions.specs.Found.{got_range, got_law}
 use Rattle.distributions.proofs.FormLaws.{uni-none, uni-on}
 use Rattle.distributions.proofs.uniform.Goals as goal
-use Rattle.distributions.proofs.uniform.Goals.{After-range}
 
--- where the scan begins
-abbrev start : After-range → ℕ
-start c = c.args.c.at
+pub returns : goal.returns
+returns c = let t = c.args.text.now in
+    c.ended.ensures ∙ uni-on _ (sym c.range.ensures ∙ ap (got_range t) c.in_ok-d.was)
 
-pub returns-in-Is : goal.returns-in-Is
-returns-in-Is c = c.ended.ensures ∙ sym (uni-on _ (start (goal.at.returns-in-Is c).After-range) _ c.range.ensures _ _ _ c.in-Is.is)
-
-pub returns-in-Missing : goal.returns-in-Missing
-returns-in-Missing c = uni-none _ (start (goal.at.returns-in-Missing c).After-range) _ c.range.ensures c.in-Missing.is
+pub returns-in_err-d : goal.returns-in_err-d
+returns-in_err-d c = let t = c.args.text.now in
+    ap (got_law t) (handed-on _ c.from_residual.ensures.1) ∙ uni-none _ (sym c.range.ensures ∙ ap (got_range t) c.in_err-d.was)

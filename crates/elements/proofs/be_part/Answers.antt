@@ -7,4 +7,4 @@ pub returns-then-of-number : goal.returns-then-of-number
 returns-then-of-number c = let a = c.args in c.be_move.ensures ∙ own-move a.number a.k a.s a.of a.signal c.if-of-number.true
 
 pub returns-else-of-number : goal.returns-else-of-number
-returns-else-of-number c = let a = c.args in c.nowhere.ensures ∙ no_move a.number a.k a.s a.of a.signal c.if-of-number.false
+returns-else-of-number c = let a = c.args in no_move a.number a.k a.s a.of a.signal c.if-of-number.false

@@ -9,4 +9,4 @@ returns-then-p-i c = let a = c.args in
 
 pub returns-else-p-i : goal.returns-else-p-i
 returns-else-p-i c = let a = c.args in
-    c.nowhere.ensures ∙ box-move-none a.i a.of _ a.signal c.place_of-p.ensures a.s c.if-p-i.false
+    box-move-none a.i a.of _ a.signal c.place_of-p.ensures a.s c.if-p-i.false

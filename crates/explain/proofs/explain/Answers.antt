@@ -2,7 +2,6 @@
 use native.Mathlib.Omega.{arith}
 use Rattle.whys.specs.Explanation.{explanation_of}
 use Rattle.explain.proofs.Called.{too_short_lem, filled, of-text}
-use borrow.Author.Rules.{rules}
 use Rattle.explain.proofs.explain.Goals as goal
 
 pub returns-then-out-lt-EXPLANATION : goal.returns-then-out-lt-EXPLANATION

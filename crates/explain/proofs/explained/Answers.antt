@@ -3,7 +3,6 @@ use native.Mathlib.Omega.{arith}
 use Rattle.layout.specs.Image.{model_of}
 use Rattle.whys.specs.Explanation.{explain_model}
 use Rattle.explain.proofs.Called.{too_short_lem, filled}
-use borrow.Author.Rules.{rules}
 use Rattle.explain.proofs.explained.Goals as goal
 
 pub returns-then-out-lt-EXPLANATION : goal.returns-then-out-lt-EXPLANATION

@@ -25,8 +25,8 @@ bounds-used-i c = omega (arith, (front _ c.loop-left.invariant.fits c.loop-left-
 pub take-requires : goal.take-requires
 take-requires c = (front _ c.loop-left.invariant.fits c.loop-left-test.true _ c.lowest-x.ensures).below
 
-pub overflow_cast-v : goal.overflow_cast-v
-overflow_cast-v c = record { sfits = takes-small _ c.take.ensures.small _ _ _ c.in-Takes.is }
+pub overflow_cast-values : goal.overflow_cast-values
+overflow_cast-values c = record { sfits = takes-small _ c.take.ensures.small _ c.in-Some.is }
 
 pub offset_bounds-values-i : goal.offset_bounds-values-i
 offset_bounds-values-i c = omega (arith, (front _ c.loop-left.invariant.fits c.loop-left-test.true _ c.lowest-x.ensures).below)
@@ -34,20 +34,20 @@ offset_bounds-values-i c = omega (arith, (front _ c.loop-left.invariant.fits c.l
 pub bounds-values-i : goal.bounds-values-i
 bounds-values-i c = omega (arith, (front _ c.loop-left.invariant.fits c.loop-left-test.true _ c.lowest-x.ensures).below, c.loop-left.invariant.count)
 
-pub offset_bounds-at-i-in-Takes : goal.offset_bounds-at-i-in-Takes
-offset_bounds-at-i-in-Takes c = omega (arith, (front _ c.loop-left.invariant.fits c.loop-left-test.true _ c.lowest-x.ensures).below)
+pub offset_bounds-at-i-in-Some : goal.offset_bounds-at-i-in-Some
+offset_bounds-at-i-in-Some c = omega (arith, (front _ c.loop-left.invariant.fits c.loop-left-test.true _ c.lowest-x.ensures).below)
 
-pub bounds-at-i-in-Takes : goal.bounds-at-i-in-Takes
-bounds-at-i-in-Takes c = omega (arith, (front _ c.loop-left.invariant.fits c.loop-left-test.true _ c.lowest-x.ensures).below, c.loop-left.invariant.at_count)
+pub bounds-at-i-in-Some : goal.bounds-at-i-in-Some
+bounds-at-i-in-Some c = omega (arith, (front _ c.loop-left.invariant.fits c.loop-left-test.true _ c.lowest-x.ensures).below, c.loop-left.invariant.at_count)
 
-pub offset_bounds-used-i-in-Takes : goal.offset_bounds-used-i-in-Takes
-offset_bounds-used-i-in-Takes c = omega (arith, (front _ c.loop-left.invariant.fits c.loop-left-test.true _ c.lowest-x.ensures).below)
+pub offset_bounds-used-i-in-Some : goal.offset_bounds-used-i-in-Some
+offset_bounds-used-i-in-Some c = omega (arith, (front _ c.loop-left.invariant.fits c.loop-left-test.true _ c.lowest-x.ensures).below)
 
-pub bounds-used-i-in-Takes : goal.bounds-used-i-in-Takes
-bounds-used-i-in-Takes c = omega (arith, (front _ c.loop-left.invariant.fits c.loop-left-test.true _ c.lowest-x.ensures).below, c.loop-left.invariant.used-count)
+pub bounds-used-i-in-Some : goal.bounds-used-i-in-Some
+bounds-used-i-in-Some c = omega (arith, (front _ c.loop-left.invariant.fits c.loop-left-test.true _ c.lowest-x.ensures).below, c.loop-left.invariant.used-count)
 
-pub returns-in-Lacks : goal.returns-in-Lacks
-returns-in-Lacks c = walking-lacks _ _ _ _ _ _ _ _ _ c.loop-left.invariant _ (front _ c.loop-left.invariant.fits c.loop-left-test.true _ c.lowest-x.ensures) _ c.take.ensures _ _ _ c.in-Lacks.is
+pub returns-in-None : goal.returns-in-None
+returns-in-None c = walking-lacks _ _ _ _ _ _ _ _ _ c.loop-left.invariant _ (front _ c.loop-left.invariant.fits c.loop-left-test.true _ c.lowest-x.ensures) _ c.take.ensures c.in-None.is
 
 pub single-requires : goal.single-requires
 single-requires c = (front _ c.loop-left.invariant.fits c.loop-left-test.true _ c.lowest-x.ensures).below
@@ -57,8 +57,8 @@ loop-left-smaller c = (rest _ c.loop-left.invariant.fits c.loop-left-test.true _
 
 pub loop-left-preserved : goal.loop-left-preserved
 loop-left-preserved c =
-    walking-takes _ _ _ _ _ _ _ _ _ c.loop-left.invariant _ (front _ c.loop-left.invariant.fits c.loop-left-test.true _ c.lowest-x.ensures) _ c.take.ensures _ _ _ c.in-Takes.is
-    _ (to_z_pos w64 _ (takes-small _ c.take.ensures.small _ _ _ c.in-Takes.is)) _ (rest _ c.loop-left.invariant.fits c.loop-left-test.true _ c.lowest-x.ensures _ _ c.single.ensures c.minus-left.ensures)
+    walking-takes _ _ _ _ _ _ _ _ _ c.loop-left.invariant _ (front _ c.loop-left.invariant.fits c.loop-left-test.true _ c.lowest-x.ensures) _ c.take.ensures _ c.in-Some.is
+    _ (to_z_pos w64 _ (takes-small _ c.take.ensures.small _ c.in-Some.is)) _ (rest _ c.loop-left.invariant.fits c.loop-left-test.true _ c.lowest-x.ensures _ _ c.single.ensures c.minus-left.ensures)
 
 pub returns : goal.returns
 returns c = walking-end _ _ _ _ _ _ _ _ _ c.loop-left.invariant c.loop-left-test.false

@@ -3,8 +3,8 @@ use mathlib.Core.Path.{sym, ap, ◌∙◌}
 use Rattle.fields.specs.Fields.{got_number}
 use Rattle.feed.proofs.listed.Goals as goal
 
-pub returns-in-Is : goal.returns-in-Is
-returns-in-Is c = sym c.next.ensures ∙ ap (got_number c.args.text.now) c.in-Is.is
+pub returns-in-Ok : goal.returns-in-Ok
+returns-in-Ok c = sym c.next.ensures ∙ ap (got_number c.args.text.now) c.in-Ok.is
 
-pub returns-in-Missing : goal.returns-in-Missing
-returns-in-Missing c = sym c.next.ensures ∙ ap (got_number c.args.text.now) c.in-Missing.is
+pub returns-in-Err : goal.returns-in-Err
+returns-in-Err c = (_, sym c.next.ensures ∙ ap (got_number c.args.text.now) c.in-Err.is)

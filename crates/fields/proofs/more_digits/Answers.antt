@@ -1,10 +1,10 @@
 -- `fields::more_digits` meets its contract. The loop's invariant: what the digits from here on make of n is what all of them make of the first;
-use mathlib.Core.Path.{◌≡◌, refl, sym, ◌∙◌, ap}
+use mathlib.Core.Path.{◌≡◌, refl, sym, ◌∙◌}
 use mathlib.Core.Bool.{true}
 use Prim.Native.Nat.{ℕ, ◌+◌, ◌-◌, ◌≤◌, ◌<◌}
 use native.Mathlib.Omega.{arith}
 use lib.ListN.{drop, get_or}
-use Rattle.model.specs.Reading.{is, is_digit}
+use Rattle.model.specs.Reading.{is_digit}
 use Rattle.fields.proofs.ScanLaws.{more-full, digits-end, digits-stop, digits-on, is_digit_lem, digits-room, digits-few}
 use Rattle.fields.proofs.more_digits.Goals as goal
 use Rattle.fields.proofs.more_digits.Goals.{Else-not-is_digit}
@@ -25,7 +25,7 @@ loop-k-init c = (omega arith, omega arith, omega arith, refl)
 pub returns-then-text-at : goal.returns-then-text-at
 returns-then-text-at c = let a = c.args in
     let l = c.loop-k in
-    ap is (sym (digits-end a.text.now (a.most - l.k) l.n l.at c.if-text-at.true) ∙ l.invariant.3)
+    (sym (digits-end a.text.now (a.most - l.k) l.n l.at c.if-text-at.true) ∙ l.invariant.3)
 
 pub bounds-text-at : goal.bounds-text-at
 bounds-text-at c = omega arith
@@ -37,7 +37,7 @@ pub returns-then-not-is_digit : goal.returns-then-not-is_digit
 returns-then-not-is_digit c = let a = c.args in
     let l = c.loop-k in
     let e = sym c.is_digit.ensures ∙ c.if-not-is_digit.true in
-    ap is (sym (digits-stop a.text.now (a.most - l.k) l.n l.at (omega arith) e) ∙ l.invariant.3)
+    (sym (digits-stop a.text.now (a.most - l.k) l.n l.at (omega arith) e) ∙ l.invariant.3)
 
 pub overflow_mul-n : goal.overflow_mul-n
 overflow_mul-n c = let l = c.loop-k in omega (arith, digits-few l.k l.n (omega arith) l.invariant.2)
@@ -54,12 +54,6 @@ overflow_add-n c = let l = c.loop-k in omega (arith, digits-few l.k l.n (omega a
 pub overflow_add-at : goal.overflow_add-at
 overflow_add-at c = omega arith
 
-pub overflow_add-k : goal.overflow_add-k
-overflow_add-k c = omega arith
-
-pub loop-k-smaller : goal.loop-k-smaller
-loop-k-smaller c = omega arith
-
 pub loop-k-preserved : goal.loop-k-preserved
 loop-k-preserved c = let a = c.args in
     let l = c.loop-k in
@@ -71,4 +65,4 @@ loop-k-preserved c = let a = c.args in
 pub returns : goal.returns
 returns c = let a = c.args in
     let l = c.loop-k in
-    ap is (sym (more-full (a.most - l.k) l.n (drop l.at a.text.now) (omega arith)) ∙ l.invariant.3)
+    (sym (more-full (a.most - l.k) l.n (drop l.at a.text.now) (omega arith)) ∙ l.invariant.3)

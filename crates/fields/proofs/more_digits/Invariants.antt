@@ -8,6 +8,3 @@ use Rattle.fields.proofs.more_digits.Given as goal
 -- n has k digits.
 abbrev pub invariant-loop-k : goal.invariant-loop-k
 invariant-loop-k l = (1 ≤ l.k) × (l.k ≤ l.most) × (l.n < 10 ^ l.k) × (more_digits (l.most - l.k) l.n (drop l.at l.text) ≡ more_digits (l.most - 1) l.first (drop l.initial.at l.text))
-
-abbrev pub decreases-loop-k : goal.decreases-loop-k
-decreases-loop-k l = l.most - l.k

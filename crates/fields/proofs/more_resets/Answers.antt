@@ -1,6 +1,8 @@
 -- `fields::more_resets` meets its contract. The loop's invariant: the sum so far, with the numbers from here on, is the sum of all.
+use mathlib.Core.Path.{◌∙◌, ap}
 use native.Mathlib.Omega.{arith}
-use Rattle.fields.specs.Resets.{with_all, with}
+use Rattle.laws.proofs.Exits.{handed-on}
+use Rattle.fields.specs.Resets.{with_all, with, got_resets}
 use Rattle.fields.proofs.Gather.{gathered_none, gathered-end, gathered-other, gathered-missing, gathered-less, gathered-more}
 use Rattle.fields.proofs.ResetLaws.{nothing-more, one_more}
 use Rattle.fields.proofs.more_resets.Goals as goal
@@ -19,15 +21,16 @@ overflow_add-at c = omega arith
 
 pub loop-at-smaller : goal.loop-at-smaller
 loop-at-smaller c = gathered-less with with_all nothing-more one_more _ _ _ _ _ c.loop-at.invariant c.loop-at-test.true c.if-text-at-ne-COMMA.false _
-    c.number.ensures _ _ c.in-Is.is
+    c.number.ensures _ _ c.in_ok-next.was
 
 pub loop-at-preserved : goal.loop-at-preserved
 loop-at-preserved c = gathered-more with with_all nothing-more one_more _ _ _ _ _ c.loop-at.invariant c.loop-at-test.true c.if-text-at-ne-COMMA.false _
-    c.number.ensures _ _ c.in-Is.is _ c.with_reset-more.ensures
+    c.number.ensures _ _ c.in_ok-next.was _ c.with_reset-sum.ensures
 
-pub returns-in-Missing : goal.returns-in-Missing
-returns-in-Missing c = gathered-missing with with_all nothing-more one_more _ _ _ _ _ c.loop-at.invariant c.loop-at-test.true c.if-text-at-ne-COMMA.false _
-    c.number.ensures _ _ c.in-Missing.is
+pub returns-in_err-next : goal.returns-in_err-next
+returns-in_err-next c = ap (got_resets c.args.text.now) (handed-on _ c.from_residual.ensures.1)
+    ∙ gathered-missing with with_all nothing-more one_more _ _ _ _ _ c.loop-at.invariant c.loop-at-test.true c.if-text-at-ne-COMMA.false _
+    c.number.ensures _ c.in_err-next.was
 
 pub returns : goal.returns
 returns c = gathered-end with with_all nothing-more one_more _ _ _ _ _ c.loop-at.invariant c.loop-at-test.false

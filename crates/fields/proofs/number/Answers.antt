@@ -1,10 +1,10 @@
 -- `fields::number` meets its contract.
-use mathlib.Core.Path.{◌≡◌, sym, ◌∙◌}
+use mathlib.Core.Path.{◌≡◌, sym, ◌∙◌, ap}
 use mathlib.Core.Bool.{true}
 use Prim.Native.Nat.{ℕ, ◌≤◌, ◌<◌}
 use native.Mathlib.Omega.{arith}
 use lib.ListN.{get_or}
-use Rattle.model.specs.Reading.{is_digit}
+use Rattle.model.specs.Reading.{is, is_digit}
 use Rattle.fields.proofs.ScanLaws.{number-end, number-not, number-nought, number-on, is_digit_lem}
 use Rattle.fields.proofs.number.Goals as goal
 use Rattle.fields.proofs.number.Goals.{Else-not-is_digit}
@@ -27,7 +27,7 @@ returns-then-not-is_digit c = let a = c.args in
 
 pub returns : goal.returns
 returns c = let a = c.args in
-    c.more_digits.ensures ∙ sym (number-on a.text.now a.c.at c.if-text-at.false (is_one (goal.at.returns c).Else-not-is_digit) c.if-b-eq-ZERO.false)
+    ap is c.more_digits.ensures ∙ sym (number-on a.text.now a.c.at c.if-text-at.false (is_one (goal.at.returns c).Else-not-is_digit) c.if-b-eq-ZERO.false)
 
 pub returns-then-b-eq-ZERO : goal.returns-then-b-eq-ZERO
 returns-then-b-eq-ZERO c = let a = c.args in

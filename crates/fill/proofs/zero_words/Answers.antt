@@ -1,35 +1,17 @@
--- `fill::zero_words`: what is written and what is left make the whole.
-use Prim.Native.Nat.{◌-◌}
-use mathlib.Core.Path.{refl}
+-- `fill::zero_words`: what is written is zeros.
+use mathlib.Core.Path.{sym, ◌∙◌, ap}
+use Prim.Native.Nat.{◌+◌}
 use native.Mathlib.Omega.{arith}
-use lib.ListN.{length-set}
+use lib.ListN.{replicate, length-replicate}
+use Rattle.std.proofs.lemmas.List.Edits.{length-between}
 use Rattle.fill.specs.Words.{zeros_of}
-use Rattle.fill.proofs.FillLaws.{fill_start, fill_on, fill_end}
+use Rattle.fill.proofs.FillLaws.{put-is, zeros-are}
 use Rattle.fill.proofs.zero_words.Goals as goal
 
-pub loop-k-init : goal.loop-k-init
-unfolding zeros_of
-loop-k-init c = (refl, fill_start (λ j. 0) c.args.at c.args.n c.args.into.now)
-
-pub loop-k-preserved : goal.loop-k-preserved
-loop-k-preserved c = let l = c.loop-k in
-    (simp length-set l.invariant.0, fill_on (λ j. 0) c.args.at c.args.n l.k l.into _ _ c.loop-k-test.true l.invariant.1 refl)
-
-pub overflow_add-into : goal.overflow_add-into
-overflow_add-into c = omega (arith, c.requires.1)
-
-pub offset_bounds-into-at : goal.offset_bounds-into-at
-offset_bounds-into-at c = omega (arith, c.requires.1)
-
-pub bounds-into-at : goal.bounds-into-at
-bounds-into-at c = omega (arith, c.requires.0, c.loop-k.invariant.0)
-
-pub overflow_step-k : goal.overflow_step-k
-overflow_step-k c = omega (arith, c.requires.1)
-
-pub loop-k-smaller : goal.loop-k-smaller
-loop-k-smaller c = omega arith
-
 pub returns : goal.returns
-returns c = let l = c.loop-k in
-    fill_end (λ j. 0) c.args.at c.args.n l.k l.into _ c.loop-k-test.false l.invariant.1
+returns c = let a = c.args in
+    put-is a.at a.n a.into.now c.fill.new.self (zeros_of a.n) c.requires.0
+    (c.fill.ensures.after (λ y e. e)
+    ∙ ap (λ n. replicate n 0) (omega (arith, length-between a.into.now a.at (a.at + a.n) c.requires.0))
+    ∙ sym (zeros-are a.n))
+    (rw zeros-are (length-replicate a.n 0))

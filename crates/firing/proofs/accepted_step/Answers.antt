@@ -21,7 +21,7 @@ returns-then-not-in_range c = let m = model_of c.args.t.now in
     let ss = parts_of c.args.x in
     let vs = c.args.values.now in
     let r = sym c.in_range.ensures ∙ c.if-not-in_range.true in
-    rw c.refused.ensures (refuses _ _ (is-21 m ss vs c.requires.1 r) _ refl c.args.x _ refl vs)
+    rw c.refused.ensures (refuses _ _ (is-21 m ss vs c.requires.1 r) _ refl c.args.x vs)
 
 pub lowest_all-requires : goal.lowest_all-requires
 lowest_all-requires c = record { image = c.requires.0; within = (range-exactly _ _).0 (sym c.in_range.ensures ∙ c.if-not-in_range.false) }
@@ -34,7 +34,7 @@ returns-then-lowest_all c = let m = model_of c.args.t.now in
     let r = sym c.in_range.ensures ∙ c.if-not-in_range.false in
     let a = (accepted-exactly m (well-formed _ c.requires.0)).0 c.requires.1 in
     let u = moves-on m ss _ (lowest-here m a.0 a.1 ss ((range-exactly m ss).0 r) _ c.lowest_all.ensures c.if-lowest_all.true) in
-    rw c.refused-then-lowest_all.ensures (refuses _ _ (is-27 m ss vs c.requires.1 r u) _ refl c.args.x _ refl vs)
+    rw c.refused-then-lowest_all.ensures (refuses _ _ (is-27 m ss vs c.requires.1 r u) _ refl c.args.x vs)
 
 pub returns-then-values-ne-CLOCKS : goal.returns-then-values-ne-CLOCKS
 unfolding told
@@ -44,7 +44,7 @@ returns-then-values-ne-CLOCKS c = let m = model_of c.args.t.now in
     let r = sym c.in_range.ensures ∙ c.if-not-in_range.false in
     let a = (accepted-exactly m (well-formed _ c.requires.0)).0 c.requires.1 in
     let u = at_rest m ss (lowest-nowhere m a.0 a.1 ss ((range-exactly m ss).0 r) _ c.lowest_all.ensures c.if-lowest_all.false) in
-    rw c.refused-then-values-ne-CLOCKS.ensures (refuses _ _ (is-28 m ss vs c.requires.1 r u (bad-count m vs (ne_eqb (length vs) max_clocks c.if-values-ne-CLOCKS.true))) _ refl c.args.x _ refl vs)
+    rw c.refused-then-values-ne-CLOCKS.ensures (refuses _ _ (is-28 m ss vs c.requires.1 r u (bad-count m vs (ne_eqb (length vs) max_clocks c.if-values-ne-CLOCKS.true))) _ refl c.args.x vs)
 
 pub returns-then-any_outside : goal.returns-then-any_outside
 unfolding told
@@ -55,7 +55,7 @@ returns-then-any_outside c = let m = model_of c.args.t.now in
     let a = (accepted-exactly m (well-formed _ c.requires.0)).0 c.requires.1 in
     let u = at_rest m ss (lowest-nowhere m a.0 a.1 ss ((range-exactly m ss).0 r) _ c.lowest_all.ensures c.if-lowest_all.false) in
     let b = bad-by-test m vs (eq-eqb (length vs) max_clocks c.if-values-ne-CLOCKS.false) _ (c.any_outside.ensures ∙ ap (λ n. any (by_value (outside n) vs) max_clocks) c.declared.ensures) in
-    rw c.refused-then-any_outside.ensures (refuses _ _ (is-28 m ss vs c.requires.1 r u (b ∙ c.if-any_outside.true)) _ refl c.args.x _ refl vs)
+    rw c.refused-then-any_outside.ensures (refuses _ _ (is-28 m ss vs c.requires.1 r u (b ∙ c.if-any_outside.true)) _ refl c.args.x vs)
 
 pub shoot-requires : goal.shoot-requires
 shoot-requires c = let m = model_of c.args.t.now in

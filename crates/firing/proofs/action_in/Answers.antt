@@ -6,10 +6,10 @@ use Rattle.firing.proofs.GuardRow.{guard-ranges, guard-row, no-guard-row}
 use Rattle.firing.proofs.action_in.Goals as goal
 
 pub action_at-requires : goal.action_at-requires
-action_at-requires c = (image-long _ c.requires.0, (guard-ranges _ c.requires.0 _ _ _ c.requires.1 c.requires.2 _ c.clock_row-f.ensures _ c.in-At.is).place)
+action_at-requires c = (image-long _ c.requires.0, (guard-ranges _ c.requires.0 _ _ _ c.requires.1 c.requires.2 _ c.clock_row-f.ensures _ c.in-Some.is).place)
 
-pub returns-in-At : goal.returns-in-At
-returns-in-At c = c.action_at.ensures ∙ sym (ap action_or (guard-row _ c.requires.0 _ _ _ c.requires.1 c.requires.2 _ c.clock_row-f.ensures _ c.in-At.is))
+pub returns-in-Some : goal.returns-in-Some
+returns-in-Some c = c.action_at.ensures ∙ sym (ap action_or (guard-row _ c.requires.0 _ _ _ c.requires.1 c.requires.2 _ c.clock_row-f.ensures _ c.in-Some.is))
 
-pub returns-in-Nothing : goal.returns-in-Nothing
-returns-in-Nothing c = sym (ap action_or (no-guard-row _ c.requires.0 _ _ _ c.requires.1 c.requires.2 _ c.clock_row-f.ensures c.in-Nothing.is))
+pub returns-in-None : goal.returns-in-None
+returns-in-None c = sym (ap action_or (no-guard-row _ c.requires.0 _ _ _ c.requires.1 c.requires.2 _ c.clock_row-f.ensures c.in-None.is))

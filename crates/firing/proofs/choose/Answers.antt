@@ -1,20 +1,18 @@
 -- `firing::choose` meets its contract.
-use native.Mathlib.Omega.{arith}
-use borrow.Author.Rules.{rules}
 use Rattle.firing.proofs.Choosing.{choice-negative, choice-quiet, chosen-low, choice-shared, choice-fires}
 use Rattle.firing.proofs.choose.Goals as goal
 
-pub returns-then-low : goal.returns-then-low
-returns-then-low c = choice-negative _ _ _ c.below_zero-low.ensures c.if-low.true
+pub returns-in-Some : goal.returns-in-Some
+returns-in-Some c = rw c.at_clock.ensures (choice-negative _ _ _ c.below_zero.ensures _ c.in-Some.is)
 
-pub returns-then-c : goal.returns-then-c
-returns-then-c c = choice-quiet _ _ _ c.below_zero-low.ensures (λ h. omega arith) _ c.least-c.ensures c.if-c.true
+pub returns-in_default-least : goal.returns-in_default-least
+returns-in_default-least c = choice-quiet _ _ _ c.below_zero.ensures c.in_default.is _ c.least.ensures c.in_default-least.is
 
 pub has_rival-requires : goal.has_rival-requires
-has_rival-requires c = (search rules, chosen-low _ _ _ c.below_zero-low.ensures (λ h. omega arith) _ c.least-c.ensures c.if-c.false)
+has_rival-requires c = (c.requires, chosen-low _ _ _ c.below_zero.ensures c.in_default.is _ c.least.ensures _ c.in-Some-least.is)
 
 pub returns-then-has_rival : goal.returns-then-has_rival
-returns-then-has_rival c = choice-shared _ _ _ c.below_zero-low.ensures (λ h. omega arith) _ c.least-c.ensures c.if-c.false _ c.has_rival.ensures c.if-has_rival.true
+returns-then-has_rival c = rw c.at_clock-then-has_rival.ensures (choice-shared _ _ _ c.below_zero.ensures c.in_default.is _ c.least.ensures _ c.in-Some-least.is _ c.has_rival.ensures c.if-has_rival.true)
 
 pub returns : goal.returns
-returns c = choice-fires _ _ _ c.below_zero-low.ensures (λ h. omega arith) _ c.least-c.ensures c.if-c.false _ c.has_rival.ensures c.if-has_rival.false
+returns c = choice-fires _ _ _ c.below_zero.ensures c.in_default.is _ c.least.ensures _ c.in-Some-least.is _ c.has_rival.ensures c.if-has_rival.false

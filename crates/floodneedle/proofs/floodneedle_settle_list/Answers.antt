@@ -1,5 +1,4 @@
 -- `floodneedle::floodneedle_settle_list` meets its contract: words and state are those of the call on the state that the bytes make.
-use borrow.Author.Rules.{rules}
 use mathlib.Core.Path.{subst}
 use Rattle.answer.specs.declared.State.{State}
 use Rattle.run.specs.Calls.{settle_list_on}
@@ -11,10 +10,11 @@ pub returns : goal.returns
 returns c = let args = c.args in
     let made = c.state_of-given in
     let call = c.settle_list-r in
-    let after = call.result.state.parts in
+    let after = c.settled_places.result in
     let words = c.settled_words.result in
+    let left = c.settled_places.ensures in
     subst
     (λ (y : State). SettlingTold (settle_list_on args.table.now y args.list.now) y after words)
     made.ensures
-    (settling-told (settle_list_on args.table.now made.result args.list.now) made.result
-    call.result words call.ensures.answer c.settled_words.ensures)
+    (settling-told (settle_list_on args.table.now made.result args.list.now) made.result call.result after words
+    call.ensures.answer left c.settled_words.ensures)

@@ -1,5 +1,4 @@
 -- `floodneedle::floodneedle_settle_list_after` meets its contract: words and state are those of the call.
-use borrow.Author.Rules.{rules}
 use Rattle.after.specs.Calls.{settle_list_after_on}
 use Rattle.floodneedle.proofs.Tells.{after-told}
 use Rattle.floodneedle.proofs.floodneedle_settle_list_after.Goals as goal
@@ -7,5 +6,6 @@ use Rattle.floodneedle.proofs.floodneedle_settle_list_after.Goals as goal
 pub returns : goal.returns
 returns c = let args = c.args in
     let call = c.settle_list_after-r in
-    after-told (settle_list_after_on args.table.now args.path.now args.list.now) call.result c.settled_words.result
-    call.ensures.answer c.settled_words.ensures
+    let left = c.settled_places.ensures in
+    after-told (settle_list_after_on args.table.now args.path.now args.list.now) call.result c.settled_places.result c.settled_words.result
+    call.ensures.answer left c.settled_words.ensures

@@ -1,5 +1,4 @@
 -- `floodneedle::floodneedle_step` meets its contract: words and state are those of the call on the state that the bytes make.
-use borrow.Author.Rules.{rules}
 use mathlib.Core.Path.{subst}
 use Rattle.answer.specs.declared.State.{State}
 use Rattle.run.specs.Calls.{step_on}
@@ -11,9 +10,10 @@ pub returns : goal.returns
 returns c = let args = c.args in
     let made = c.state_of-given in
     let call = c.step-r in
-    let after = call.result.state.parts in
+    let after = c.stepped_places.result in
     let words = c.stepped_words.result in
+    let left = c.stepped_places.ensures in
     subst
     (λ (y : State). StepTold (step_on args.table.now y) y after words)
     made.ensures
-    (step-told (step_on args.table.now made.result) made.result call.result words call.ensures.answer c.stepped_words.ensures)
+    (step-told (step_on args.table.now made.result) made.result call.result after words call.ensures.answer left c.stepped_words.ensures)

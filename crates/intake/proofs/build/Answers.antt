@@ -26,31 +26,31 @@ returns-in_default c = let a = c.args in
 pub returns-in_default-step : goal.returns-in_default-step
 returns-in_default-step c = let a = c.args in
     let l = c.loop-at in
-    let r = read-line a.text.now l.at c.in-Is.line c.in-Is.next.at (sym c.line_at.ensures ∙ ap (got_line a.text.now)
-    c.in-Is.is) in
-    absurd (no-fault l.invariant c.requires.1.0 c.requires.1.1 c.in-Is.line c.in-Is.next.at r c.in_default-step.field-0
+    let r = read-line a.text.now l.at c.in-Ok.line c.in-Ok.next.at (sym c.line_at.ensures ∙ ap (got_line a.text.now)
+    c.in-Ok.is) in
+    absurd (no-fault l.invariant c.requires.1.0 c.requires.1.1 c.in-Ok.line c.in-Ok.next.at r c.in_default-step.field-0
     (sym c.step.ensures ∙ c.in_default-step.is))
 
 pub take_in-requires : goal.take_in-requires
 take_in-requires c = let a = c.args in
     let l = c.loop-at in
-    let r = read-line a.text.now l.at c.in-Is.line c.in-Is.next.at (sym c.line_at.ensures ∙ ap (got_line a.text.now)
-    c.in-Is.is) in
-    turn-fits l.invariant c.in-Is.line c.in-Is.next.at r c.in-Taken.q (sym c.step.ensures ∙ c.in-Taken.is)
+    let r = read-line a.text.now l.at c.in-Ok.line c.in-Ok.next.at (sym c.line_at.ensures ∙ ap (got_line a.text.now)
+    c.in-Ok.is) in
+    turn-fits l.invariant c.in-Ok.line c.in-Ok.next.at r c.in-Ok-step.q (sym c.step.ensures ∙ c.in-Ok-step.is)
 
 pub loop-at-smaller : goal.loop-at-smaller
 loop-at-smaller c = let a = c.args in
     let l = c.loop-at in
-    let r = read-line a.text.now l.at c.in-Is.line c.in-Is.next.at (sym c.line_at.ensures ∙ ap (got_line a.text.now)
-    c.in-Is.is) in
+    let r = read-line a.text.now l.at c.in-Ok.line c.in-Ok.next.at (sym c.line_at.ensures ∙ ap (got_line a.text.now)
+    c.in-Ok.is) in
     read-on r
 
 pub loop-at-preserved : goal.loop-at-preserved
 loop-at-preserved c = let a = c.args in
     let l = c.loop-at in
-    let r = read-line a.text.now l.at c.in-Is.line c.in-Is.next.at (sym c.line_at.ensures ∙ ap (got_line a.text.now)
-    c.in-Is.is) in
-    turn-taken l.invariant c.in-Is.line c.in-Is.next.at r c.in-Taken.q (sym c.step.ensures ∙ c.in-Taken.is)
+    let r = read-line a.text.now l.at c.in-Ok.line c.in-Ok.next.at (sym c.line_at.ensures ∙ ap (got_line a.text.now)
+    c.in-Ok.is) in
+    turn-taken l.invariant c.in-Ok.line c.in-Ok.next.at r c.in-Ok-step.q (sym c.step.ensures ∙ c.in-Ok-step.is)
     c.take_in.new.table c.take_in.ensures
 
 pub returns : goal.returns

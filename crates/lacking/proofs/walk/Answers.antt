@@ -13,8 +13,8 @@ count_of-count-requires c = image-long _ c.requires.0
 pub loop-i-init : goal.loop-i-init
 loop-i-init c = (refl, by-comps _ _ _ c.count_of-count.ensures _)
 
-pub walk_component-next-requires : goal.walk_component-next-requires
-walk_component-next-requires c = let l = c.loop-i in
+pub walk_component-m-requires : goal.walk_component-m-requires
+walk_component-m-requires c = let l = c.loop-i in
     let h = c.loop-i-test.true in (
       c.requires.0,
       omega (arith, h, c.count_of-count.ensures),
@@ -24,11 +24,8 @@ walk_component-next-requires c = let l = c.loop-i in
 pub overflow_step-i : goal.overflow_step-i
 overflow_step-i c = omega (arith, c.loop-i-test.true, c.count_of-count.ensures, count-below _ c.requires.0)
 
-pub loop-i-smaller : goal.loop-i-smaller
-loop-i-smaller c = omega (arith, c.loop-i-test.true)
-
 pub loop-i-preserved : goal.loop-i-preserved
-loop-i-preserved c = let w = c.walk_component-next in
+loop-i-preserved c = let w = c.walk_component-m in
     let l = c.loop-i in (
       w.auto.list ∙ l.invariant.0,
       walk-on _ (cells_by c.args.t.now) l.i c.count_of-count.result (out_of l.m l.list) _ _ c.loop-i-test.true l.invariant.1 w.ensures,

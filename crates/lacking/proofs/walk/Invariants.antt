@@ -10,6 +10,3 @@ use Rattle.lacking.proofs.walk.Given as goal
 
 abbrev pub invariant-loop-i : goal.invariant-loop-i
 invariant-loop-i l = (length l.list ≡ length l.initial.list) × (walked l.write (spread (cells_by l.t) l.i (l.count - l.i)) (out_of l.m l.list) ≡ walked l.write (added_to (model_of l.t)) (out_of l.initial.m l.initial.list))
-
-abbrev pub decreases-loop-i : goal.decreases-loop-i
-decreases-loop-i l = l.count - l.i

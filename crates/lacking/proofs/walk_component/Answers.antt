@@ -14,8 +14,8 @@ block_word-states-requires c = word-ready _ c.requires.0 _ c.requires.1 0 (omega
 pub loop-s-init : goal.loop-s-init
 loop-s-init c = (refl, by-states _ _ _ _ c.block_word-states.ensures _)
 
-pub walk_state-next-requires : goal.walk_state-next-requires
-walk_state-next-requires c = let l = c.loop-s in
+pub walk_state-m-requires : goal.walk_state-m-requires
+walk_state-m-requires c = let l = c.loop-s in
     let h = c.loop-s-test.true in (
       c.requires.0,
       c.requires.1,
@@ -26,11 +26,8 @@ walk_state-next-requires c = let l = c.loop-s in
 pub overflow_step-s : goal.overflow_step-s
 overflow_step-s c = omega (arith, c.loop-s-test.true, c.block_word-states.ensures, (comp-ranges _ c.requires.0 _ c.requires.1).states)
 
-pub loop-s-smaller : goal.loop-s-smaller
-loop-s-smaller c = omega (arith, c.loop-s-test.true)
-
 pub loop-s-preserved : goal.loop-s-preserved
-loop-s-preserved c = let w = c.walk_state-next in
+loop-s-preserved c = let w = c.walk_state-m in
     let l = c.loop-s in (
       w.auto.list ∙ l.invariant.0,
       walk-on _ (at c.args.t.now c.args.i) l.s c.block_word-states.result (out_of l.m l.list) _ _

@@ -12,6 +12,3 @@ at t i s = cells_in (lack_of t i s) i s
 
 abbrev pub invariant-loop-s : goal.invariant-loop-s
 invariant-loop-s l = (length l.list ≡ length l.initial.list) × (walked l.write (spread (at l.t l.i) l.s (l.states - l.s)) (out_of l.m l.list) ≡ walked l.write (cells_by l.t l.i) (out_of l.initial.m l.initial.list))
-
-abbrev pub decreases-loop-s : goal.decreases-loop-s
-decreases-loop-s l = l.states - l.s

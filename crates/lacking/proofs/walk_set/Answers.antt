@@ -10,8 +10,8 @@ pub loop-a-init : goal.loop-a-init
 unfolding cells_in
 loop-a-init c = (refl, refl)
 
-pub walk_action-next-requires : goal.walk_action-next-requires
-walk_action-next-requires c = let l = c.loop-a in
+pub walk_action-m-requires : goal.walk_action-m-requires
+walk_action-m-requires c = let l = c.loop-a in
     let h = c.loop-a-test.true in (
       c.requires.0,
       c.requires.1,
@@ -22,11 +22,8 @@ walk_action-next-requires c = let l = c.loop-a in
 pub overflow_step-a : goal.overflow_step-a
 overflow_step-a c = omega (arith, c.loop-a-test.true)
 
-pub loop-a-smaller : goal.loop-a-smaller
-loop-a-smaller c = omega (arith, c.loop-a-test.true)
-
 pub loop-a-preserved : goal.loop-a-preserved
-loop-a-preserved c = let w = c.walk_action-next in
+loop-a-preserved c = let w = c.walk_action-m in
     let l = c.loop-a in (
       w.auto.list ∙ l.invariant.0,
       walk-on _ (cell_in c.args.lacking c.args.i c.args.s) l.a max_actions (out_of l.m l.list) _ _

@@ -10,6 +10,3 @@ use Rattle.lacking.proofs.walk_set.Given as goal
 abbrev pub invariant-loop-a : goal.invariant-loop-a
 invariant-loop-a l = (length l.list ≡ length l.initial.list) × (walked l.write (spread (cell_in l.lacking l.i l.s) l.a (max_actions - l.a)) (out_of l.m l.list)
     ≡ walked l.write (cells_in l.lacking l.i l.s) (out_of l.initial.m l.initial.list))
-
-abbrev pub decreases-loop-a : goal.decreases-loop-a
-decreases-loop-a l = max_actions - l.a

@@ -1,11 +1,10 @@
 -- `leads::enabled_at` meets its contract: the actions of the range, joined row by row.
 use mathlib.Core.Path.{refl, sym, ap, ap₂, ◌∙◌}
-use Prim.Native.Nat.{◌+◌, ◌-◌}
+use Prim.Native.Nat.{◌+◌}
 use native.Mathlib.Omega.{arith}
 use Rattle.laws.specs.Sets.{◌∪◌, ◌∩◌, only}
 use Rattle.laws.specs.Fold.{over}
 use Rattle.laws.proofs.FoldLaws.{over-next, over-end}
-use Rattle.layout.specs.Layout.{action_at}
 use Rattle.rows.proofs.Ready.{word-ready, first-ready, next-ready, range-ready, row-ready, range-over}
 use Rattle.leads.proofs.Standing.{uouts-are}
 use borrow.Author.Rules.{rules}

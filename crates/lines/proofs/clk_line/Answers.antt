@@ -1,28 +1,32 @@
 -- `lines::clk_line` meets its contract.
 use mathlib.Core.Path.{refl, sym, ◌∙◌, ap}
 use lib.ListN.{drop}
+use Rattle.laws.proofs.Exits.{handed-on}
 use Rattle.model.specs.Reading.{number, clk-entry, clk_entry}
 use Rattle.fields.specs.Fields.{got_number}
+use Rattle.lines.specs.Lines.{got_line}
 use Rattle.lines.proofs.LineLaws.{two-no-1, two-no-2, two-are}
 use Rattle.lines.proofs.clk_line.Goals as goal
 
-pub returns-in-Is-number_field : goal.returns-in-Is-number_field
+pub returns : goal.returns
 unfolding clk_entry
-returns-in-Is-number_field c = let a = c.args in
+returns c = let a = c.args in
     let t = a.text.now in
-    let e0 = sym c.number_field.ensures ∙ ap (got_number t) c.in-Is.is in
-    let e1 = sym c.number_field-in-Is.ensures ∙ ap (got_number t) c.in-Is-number_field.is in
+    let e0 = sym c.number_field.ensures ∙ ap (got_number t) c.in_ok-c1.was in
+    let e1 = sym c.number_field-2.ensures ∙ ap (got_number t) c.in_ok-c2.was in
     c.line_end.ensures ∙ two-are number clk-entry (drop a.c.at t) e0 e1 refl
 
-pub returns-in-Missing-number_field : goal.returns-in-Missing-number_field
+pub returns-in_err-c2 : goal.returns-in_err-c2
 unfolding clk_entry
-returns-in-Missing-number_field c = let a = c.args in
+returns-in_err-c2 c = let a = c.args in
     let t = a.text.now in
-    let e0 = sym c.number_field.ensures ∙ ap (got_number t) c.in-Is.is in
-    two-no-2 number clk-entry (drop a.c.at t) e0 (sym c.number_field-in-Is.ensures ∙ ap (got_number t) c.in-Missing-number_field.is)
+    let e0 = sym c.number_field.ensures ∙ ap (got_number t) c.in_ok-c1.was in
+    ap (got_line t) (handed-on _ c.from_residual-in_err-c2.ensures.1) ∙ two-no-2 number clk-entry (drop a.c.at t) e0 (sym c.number_field-2.ensures
+    ∙ ap (got_number t) c.in_err-c2.was)
 
-pub returns-in-Missing : goal.returns-in-Missing
+pub returns-in_err-c1 : goal.returns-in_err-c1
 unfolding clk_entry
-returns-in-Missing c = let a = c.args in
+returns-in_err-c1 c = let a = c.args in
     let t = a.text.now in
-    two-no-1 number clk-entry (drop a.c.at t) (sym c.number_field.ensures ∙ ap (got_number t) c.in-Missing.is)
+    ap (got_line t) (handed-on _ c.from_residual.ensures.1) ∙ two-no-1 number clk-entry (drop a.c.at t) (sym c.number_field.ensures
+    ∙ ap (got_number t) c.in_err-c1.was)

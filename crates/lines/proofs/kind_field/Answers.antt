@@ -1,19 +1,17 @@
 -- `lines::kind_field` meets its contract.
 use mathlib.Core.Path.{sym, ◌∙◌, ap}
-use lib.ListN.{drop}
-use Rattle.model.specs.Text.{tab}
+use Rattle.laws.proofs.Exits.{handed-on}
 use Rattle.model.specs.Reading.{kind}
-use Rattle.fields.specs.Fields.{past}
+use Rattle.fields.specs.Fields.{past, got_kind}
 use Rattle.fields.proofs.ScanLaws.{then-stops, then_is}
-use Rattle.lines.proofs.LineLaws.{byte-stops}
 use Rattle.lines.proofs.kind_field.Goals as goal
 
-pub returns-in-Past : goal.returns-in-Past
-returns-in-Past c = let t = c.args.text.now in
+pub returns : goal.returns
+returns c = let t = c.args.text.now in
     c.kind_of.ensures ∙ sym (then_is (λ _ cs. kind cs) (sym c.byte.ensures ∙ ap (past t)
-    c.in-Past.is))
+    c.in_ok-d.was))
 
-pub returns-in-Missing : goal.returns-in-Missing
-returns-in-Missing c = let a = c.args in
+pub returns-in_err-d : goal.returns-in_err-d
+returns-in_err-d c = let a = c.args in
     let t = a.text.now in
-    sym (then-stops (λ _ cs. kind cs) (byte-stops tab (drop a.c.at t) (sym c.byte.ensures ∙ ap (past t) c.in-Missing.is)))
+    ap (got_kind t) (handed-on _ c.from_residual.ensures.1) ∙ sym (then-stops (λ _ cs. kind cs) (sym c.byte.ensures ∙ ap (past t) c.in_err-d.was))

@@ -4,8 +4,8 @@ use Rattle.fields.specs.Fields.{past}
 use Rattle.lines.specs.Lines.{stop_of}
 use Rattle.lines.proofs.stop_of.Goals as goal
 
-pub returns-in-Past : goal.returns-in-Past
-returns-in-Past c = ap stop_of (sym (ap (past c.args.text.now) c.in-Past.is) ∙ c.word.ensures)
+pub returns-in-Ok : goal.returns-in-Ok
+returns-in-Ok c = ap stop_of (sym (ap (past c.args.text.now) c.in-Ok.is) ∙ c.word.ensures)
 
-pub returns-in-Missing : goal.returns-in-Missing
-returns-in-Missing c = ap stop_of (sym (ap (past c.args.text.now) c.in-Missing.is) ∙ c.word.ensures)
+pub returns-in-Err : goal.returns-in-Err
+returns-in-Err c = ap stop_of (sym (ap (past c.args.text.now) c.in-Err.is) ∙ c.word.ensures)

@@ -1,17 +1,24 @@
 -- `lining::later_said` meets its contract: a later round.
-use mathlib.Core.Path.{refl}
-use Rattle.rounds.proofs.Turning.{fired-posed, later-closes, later-rests, later-told}
+use Rattle.std.specs.Prelude.{Ok, Err}
+use Rattle.rounds.proofs.Turning.{armed, fired-posed, later-closes, later-rests, later-told}
 use Rattle.lining.proofs.later_said.Goals as goal
 
-pub close_said-requires : goal.close_said-requires
-close_said-requires c = (c.requires.0, fired-posed _ c.args.s _ c.requires.1 _ _ c.shoot-shot.ensures _ _ _ c.in-Fired.is)
+pub shoot-requires : goal.shoot-requires
+shoot-requires c = armed _ _ _ c.requires.1
 
-pub returns-in-Fired : goal.returns-in-Fired
-returns-in-Fired c = later-closes _ c.args.s _ c.requires.1 _ _ c.shoot-shot.ensures _ _ _
-    c.in-Fired.is _ _ _ _ _ _ _ c.close_said.ensures
+pub close_said-requires : goal.close_said-requires
+close_said-requires c = (c.requires.0, fired-posed _ c.args.s _ c.requires.1 _ _ c.in-Ok.ensures _ _ _ c.in-Fired.is)
+
+pub returns-in-Ok-2 : goal.returns-in-Ok-2
+returns-in-Ok-2 c = later-closes _ c.args.s _ c.requires.1 _ _ c.in-Ok.ensures _ _ _ c.in-Fired.is _ _ _ (Ok _) _ _ _
+    (rw c.in-Ok-2.is at c.in_ok-next-in-Fired.ensures)
+
+pub returns-in-Err-2 : goal.returns-in-Err-2
+returns-in-Err-2 c = later-closes _ c.args.s _ c.requires.1 _ _ c.in-Ok.ensures _ _ _ c.in-Fired.is _ _ _ (Err _) _ _ _
+    (rw c.in-Err-2.is at c.in_ok-next-in-Fired.ensures)
 
 pub returns-in-Quiet : goal.returns-in-Quiet
-returns-in-Quiet c = later-rests _ c.args.s _ c.requires.1 _ _ c.shoot-shot.ensures _ _ _ c.requires.0 c.in-Quiet.is _ refl
+returns-in-Quiet c = later-rests _ c.args.s _ c.requires.1 _ _ _ _ c.requires.0 _ c.in-Ok.ensures c.in-Quiet.is
 
-pub returns-in-Refused : goal.returns-in-Refused
-returns-in-Refused c = later-told _ c.args.s _ c.requires.1 _ _ c.shoot-shot.ensures _ _ _ c.requires.0 _ c.in-Refused.is _ refl
+pub returns-in-Err : goal.returns-in-Err
+returns-in-Err c = later-told _ c.args.s _ c.requires.1 _ _ _ _ c.requires.0 _ c.in-Err.ensures

@@ -3,6 +3,6 @@ use mathlib.Core.Path.{refl}
 use Rattle.simulation.specs.Simulate.{no_values}
 use Rattle.lining.proofs.lines.Goals as goal
 
-pub first_said-begun-requires : goal.first_said-begun-requires
+pub first_said-first-requires : goal.first_said-first-requires
 unfolding no_values
-first_said-begun-requires c = (c.requires.0, record { at_count = c.requires.1; used-count = refl }, refl)
+first_said-first-requires c = (c.requires.0, record { at_count = c.requires.1; used-count = refl }, refl)

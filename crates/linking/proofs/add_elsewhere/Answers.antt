@@ -1,9 +1,8 @@
 -- `linking::add_elsewhere` meets its contract: the actions, one after the other.
 use mathlib.Core.Path.{refl, ap, ◌∙◌}
-use Prim.Native.Nat.{◌-◌}
 use native.Mathlib.Omega.{arith}
 use lib.ListN.{length}
-use Rattle.triggering.specs.Test.{own_of, sharing, elsewhere}
+use Rattle.triggering.specs.Test.{elsewhere}
 use Rattle.leads.proofs.Standing.{crossed-length}
 use Rattle.linking.proofs.Walking.{fold_next, fold_end}
 use Rattle.linking.proofs.add_elsewhere.Invariants.{adds}

@@ -1,6 +1,5 @@
 -- `linking::add_led` meets its contract: the actions, one after the other.
 use mathlib.Core.Path.{refl, ap, ◌∙◌}
-use Prim.Native.Nat.{◌-◌}
 use native.Mathlib.Omega.{arith}
 use lib.ListN.{length}
 use Rattle.leads.proofs.Standing.{crossed-length}

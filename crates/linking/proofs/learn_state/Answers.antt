@@ -1,6 +1,6 @@
 -- `linking::learn_state` meets its contract: the rows of the range, one after the other.
 use mathlib.Core.Path.{◌≡◌, refl, sym, ap, ◌∙◌}
-use Prim.Native.Nat.{suc, ◌+◌, ◌-◌}
+use Prim.Native.Nat.{suc, ◌+◌}
 use native.Mathlib.Omega.{arith}
 use native.Mathlib.Numerals.{add-one}
 use lib.ListN.{length}
@@ -8,7 +8,7 @@ use Rattle.laws.specs.Fold.{over}
 use Rattle.laws.proofs.FoldLaws.{over-next, over-end}
 use Rattle.layout.specs.Layout.{first_of}
 use Rattle.rows.proofs.Ready.{first-ready, next-ready, range-over}
-use Rattle.leads.specs.Learning.{learn_row, learn_state}
+use Rattle.leads.specs.Learning.{learn_state}
 use Rattle.leads.proofs.Standing.{crossed-length}
 use borrow.Author.Rules.{rules}
 use Rattle.linking.proofs.learn_state.Invariants.{rows}

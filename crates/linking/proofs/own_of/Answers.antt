@@ -1,7 +1,6 @@
 -- `linking::own_of` meets its contract: the components, one after the other.
 use mathlib.Core.Path.{refl, ap, ap₂, ◌∙◌}
 use mathlib.Core.Bool.{cond}
-use Prim.Native.Nat.{◌-◌}
 use native.Mathlib.Omega.{arith}
 use Rattle.laws.specs.Sets.{has, ◌∪◌}
 use Rattle.laws.specs.Fold.{over}

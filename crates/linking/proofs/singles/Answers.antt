@@ -1,6 +1,5 @@
 -- `linking::singles` meets its contract: every place passed has its own set.
 use mathlib.Core.Path.{◌≡◌}
-use Prim.Native.Nat.{◌-◌}
 use native.Mathlib.Omega.{arith}
 use Rattle.laws.specs.Sets.{only}
 use Rattle.marks.proofs.Filling.{place-more}

@@ -1,10 +1,9 @@
 -- `linking::spread` meets its contract: the actions, one after the other.
 use mathlib.Core.Path.{refl, ap, ◌∙◌}
 use mathlib.Core.Bool.{cond}
-use Prim.Native.Nat.{◌-◌}
 use native.Mathlib.Omega.{arith}
 use lib.ListN.{get_or}
-use Rattle.laws.specs.Sets.{has, ◌∪◌}
+use Rattle.laws.specs.Sets.{◌∪◌}
 use Rattle.triggering.specs.Test.{spread_by}
 use Rattle.linking.proofs.Walking.{none-spread, fold_next, fold_end}
 use Rattle.linking.proofs.spread.Invariants.{joins}

@@ -1,6 +1,6 @@
 -- `linking::starts` meets its contract: the components, one after the other.
 use mathlib.Core.Path.{refl, ap, ◌∙◌}
-use Prim.Native.Nat.{◌-◌, ◌<◌}
+use Prim.Native.Nat.{◌<◌}
 use native.Mathlib.Omega.{arith}
 use Rattle.laws.specs.Sets.{◌∪◌}
 use Rattle.laws.specs.Fold.{over}

@@ -12,14 +12,14 @@ use Rattle.mend.proofs.put_mended.Goals as goal
 
 pub put_repaired-requires : goal.put_repaired-requires
 put_repaired-requires c =
-    ((fine-read _ _ _ _ c.read-checked.ensures (omega (arith, length-replicate {A = ℕ} image_words 0)) c.in-Fine.is).2, c.requires)
+    ((fine-read _ _ _ _ c.read.ensures (omega (arith, length-replicate {A = ℕ} image_words 0)) c.in-Ok.is).2, c.requires)
 
-pub returns-in-Refused : goal.returns-in-Refused
-returns-in-Refused c =
-    let p = refused-read _ _ _ _ c.read-checked.ensures (omega (arith, length-replicate {A = ℕ} image_words 0)) c.in-Refused.f c.in-Refused.is in
-    printed-line c.in-Refused.f p.0 _ p.2 (read-refused _ p.0 p.1) c.put_refusal.ensures
+pub returns-in-Err : goal.returns-in-Err
+returns-in-Err c =
+    let p = refused-read _ _ _ _ c.read.ensures (omega (arith, length-replicate {A = ℕ} image_words 0)) c.in-Err.f c.in-Err.is in
+    printed-line c.in-Err.f p.0 _ p.2 (read-refused _ p.0 p.1) c.put_refusal.ensures
 
-pub returns-in-Fine : goal.returns-in-Fine
-returns-in-Fine c =
-    let p = fine-read _ _ _ _ c.read-checked.ensures (omega (arith, length-replicate {A = ℕ} image_words 0)) c.in-Fine.is in
+pub returns-in-Ok : goal.returns-in-Ok
+returns-in-Ok c =
+    let p = fine-read _ _ _ _ c.read.ensures (omega (arith, length-replicate {A = ℕ} image_words 0)) c.in-Ok.is in
     as-printed (ap repaired_text p.3 ∙ sym (read-fine _ p.0 p.1)) c.put_repaired.ensures

@@ -13,8 +13,8 @@ count_of-count-requires c = start-long c.requires
 pub loop-i-init : goal.loop-i-init
 loop-i-init c = (refl, omega arith, λ p e. at_first p)
 
-pub put_component-next-requires : goal.put_component-next-requires
-put_component-next-requires c = let l = c.loop-i in
+pub put_component-w-requires : goal.put_component-w-requires
+put_component-w-requires c = let l = c.loop-i in
     let p = c.requires in
     let e = c.count_of-count.ensures ∙ count-read p in
     at-comp p l.t l.i l.w (omega (arith, c.loop-i-test.true, e)) (l.invariant.2 p e)
@@ -23,11 +23,8 @@ pub overflow_step-i : goal.overflow_step-i
 overflow_step-i c = let p = c.requires in
     omega (arith, c.loop-i-test.true, c.count_of-count.ensures, count-read p, count-below p.old p.work.image)
 
-pub loop-i-smaller : goal.loop-i-smaller
-loop-i-smaller c = omega (arith, c.loop-i-test.true)
-
 pub loop-i-preserved : goal.loop-i-preserved
-loop-i-preserved c = let q = c.put_component-next in
+loop-i-preserved c = let q = c.put_component-w in
     let l = c.loop-i in
     let h = c.loop-i-test.true in (
       q.auto.t ∙ l.invariant.0,

@@ -10,8 +10,8 @@ block_word-states-requires c = let p = c.requires in (comp-long p, comp-few p, o
 pub loop-s-init : goal.loop-s-init
 loop-s-init c = (refl, omega arith, λ p e. within_first p)
 
-pub put_state-next-requires : goal.put_state-next-requires
-put_state-next-requires c = let l = c.loop-s in
+pub put_state-k-requires : goal.put_state-k-requires
+put_state-k-requires c = let l = c.loop-s in
     let p = c.requires in
     let e = c.block_word-states.ensures ∙ states-read p in
     at-state p l.t l.s l.k (omega (arith, c.loop-s-test.true, e)) (l.invariant.2 p e)
@@ -20,11 +20,8 @@ pub overflow_step-s : goal.overflow_step-s
 overflow_step-s c = let p = c.requires in
     omega (arith, c.loop-s-test.true, c.block_word-states.ensures, states-read p, comp-states p)
 
-pub loop-s-smaller : goal.loop-s-smaller
-loop-s-smaller c = omega (arith, c.loop-s-test.true)
-
 pub loop-s-preserved : goal.loop-s-preserved
-loop-s-preserved c = let q = c.put_state-next in
+loop-s-preserved c = let q = c.put_state-k in
     let l = c.loop-s in
     let h = c.loop-s-test.true in (
       q.auto.t ∙ l.invariant.0,

@@ -7,17 +7,14 @@ use Rattle.mending.proofs.put_rows.Goals as goal
 pub loop-v-init : goal.loop-v-init
 loop-v-init c = (refl, omega arith, refl)
 
-pub put_next-next-requires : goal.put_next-next-requires
-put_next-next-requires c = (omega (arith, c.requires.0, c.loop-v.invariant.0), c.requires.1, omega (arith, c.requires.2, c.loop-v-test.true))
+pub put_next-y-requires : goal.put_next-y-requires
+put_next-y-requires c = (omega (arith, c.requires.0, c.loop-v.invariant.0), c.requires.1, omega (arith, c.requires.2, c.loop-v-test.true))
 
 pub overflow_step-v : goal.overflow_step-v
 overflow_step-v c = omega (arith, c.loop-v-test.true, c.requires.2)
 
-pub loop-v-smaller : goal.loop-v-smaller
-loop-v-smaller c = omega (arith, c.loop-v-test.true)
-
 pub loop-v-preserved : goal.loop-v-preserved
-loop-v-preserved c = let q = c.put_next-next in
+loop-v-preserved c = let q = c.put_next-y in
     let l = c.loop-v in (
       q.auto.t ∙ l.invariant.0,
       omega (arith, l.invariant.1),

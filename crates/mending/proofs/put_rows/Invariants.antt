@@ -7,6 +7,3 @@ use Rattle.mending.proofs.put_rows.Given as goal
 
 abbrev pub invariant-loop-v : goal.invariant-loop-v
 invariant-loop-v l = (length l.t ≡ length l.initial.t) × (l.w ≤ l.v) × (weave l.s l.hi (l.end - l.v) l.v l.y.left l.y.r l.t ≡ weave l.s l.hi (l.end - l.w) l.w l.initial.y.left l.initial.y.r l.initial.t)
-
-abbrev pub decreases-loop-v : goal.decreases-loop-v
-decreases-loop-v l = l.end - l.v

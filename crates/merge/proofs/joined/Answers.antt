@@ -4,7 +4,6 @@ use Prim.Native.Nat.{suc, ◌≤◌, ◌<◌}
 use native.Mathlib.Omega.{arith}
 use lib.ListN.{length}
 use lib.Seq.{sets}
-use borrow.Author.Tests.{not-true, not-false}
 use Rattle.merged.specs.Merge.{merged_at}
 use Rattle.layout.specs.Layout.{count_of, image_words}
 use Rattle.layout.specs.Image.{image_of, model_of}
@@ -20,12 +19,12 @@ pub overflow_sub-last : goal.overflow_sub-last
 overflow_sub-last c = omega (arith, c.count_of.ensures, count-some c.args.t.now c.requires.0)
 
 pub returns : goal.returns
-returns c = let z = c.size_of-size in
+returns c = let z = c.size_of in
     let one = c.if-into-lt-WORDS.false in
     let two = c.if-last-i.false in
     let next : suc c.args.i < count_of c.args.t.now = omega (arith, c.count_of.ensures, one, two) in
     let room : image_words ≤ length c.args.into.now = omega (arith, one, two) in
-    let f = z.ensures.0.fits (not-false _ c.if-not-size.false) in
+    let f = z.ensures.0.fits _ c.in-Some.is in
     is-merged-model c.args.t.now c.args.i c.args.into.now c.requires.0 c.requires.1 room next f.0 _
     (c.put_merged.ensures ∙ ap (λ l. sets l 0 (image_of (merged_at (model_of c.args.t.now) c.args.i))) z.ensures.1)
 
@@ -36,17 +35,17 @@ pub returns-then-last-i : goal.returns-then-last-i
 returns-then-last-i c = is-alone c.args.t.now c.args.i c.args.into.now c.requires.0 c.requires.1 c.if-into-lt-WORDS.false
     (λ h. omega (arith, c.count_of.ensures, c.if-last-i.true)) _ c.refused-then-last-i.ensures
 
-pub returns-then-not-size : goal.returns-then-not-size
-returns-then-not-size c = let z = c.size_of-size in
+pub returns-in_default : goal.returns-in_default
+returns-in_default c = let z = c.size_of in
     let next : suc c.args.i < count_of c.args.t.now = omega (arith, c.count_of.ensures, c.if-last-i.false) in
     stays c.args.t.now c.args.i c.args.into.now _ _ z.ensures.1
     (is-big c.args.t.now c.args.i c.args.into.now c.requires.0 c.requires.1 c.if-into-lt-WORDS.false next
-    (z.ensures.0.big (not-true _ c.if-not-size.true)) _ c.refused-then-not-size.ensures)
+    (z.ensures.0.big c.in_default.is) _ c.refused-in_default.ensures)
 
 pub put_merged-requires : goal.put_merged-requires
-put_merged-requires c = let z = c.size_of-size in
+put_merged-requires c = let z = c.size_of in
     let next : suc c.args.i < count_of c.args.t.now = omega (arith, c.count_of.ensures, c.if-last-i.false) in
-    let f = z.ensures.0.fits (not-false _ c.if-not-size.false) in (
+    let f = z.ensures.0.fits _ c.in-Some.is in (
       c.requires.0,
       omega (arith, next),
       omega (arith, ap length z.ensures.1, c.if-into-lt-WORDS.false),

@@ -9,14 +9,14 @@ use Rattle.merger.proofs.put_joined.Goals as goal
 
 pub put_model-requires : goal.put_model-requires
 put_model-requires c =
-    ((fine-merged _ c.requires.0 _ _ (omega (arith, length-replicate {A = ℕ} image_words 0)) _ _ c.merge-checked.ensures c.in-Fine.is).0, c.requires.1)
+    ((fine-merged _ c.requires.0 _ _ (omega (arith, length-replicate {A = ℕ} image_words 0)) _ _ c.merge.ensures c.in-Ok.is).0, c.requires.1)
 
-pub returns-in-Refused : goal.returns-in-Refused
-returns-in-Refused c =
-    let p = refused-merged _ c.requires.0 _ _ (omega (arith, length-replicate {A = ℕ} image_words 0)) _ _ c.merge-checked.ensures c.in-Refused.f c.in-Refused.is in
-    printed-line c.in-Refused.f p.0 _ p.1 p.2 c.put_refusal.ensures
+pub returns-in-Err : goal.returns-in-Err
+returns-in-Err c =
+    let p = refused-merged _ c.requires.0 _ _ (omega (arith, length-replicate {A = ℕ} image_words 0)) _ _ c.merge.ensures c.in-Err.f c.in-Err.is in
+    printed-line c.in-Err.f p.0 _ p.1 p.2 c.put_refusal.ensures
 
-pub returns-in-Fine : goal.returns-in-Fine
-returns-in-Fine c =
-    let p = fine-merged _ c.requires.0 _ _ (omega (arith, length-replicate {A = ℕ} image_words 0)) _ _ c.merge-checked.ensures c.in-Fine.is in
+pub returns-in-Ok : goal.returns-in-Ok
+returns-in-Ok c =
+    let p = fine-merged _ c.requires.0 _ _ (omega (arith, length-replicate {A = ℕ} image_words 0)) _ _ c.merge.ensures c.in-Ok.is in
     as-printed p.1 c.put_model.ensures

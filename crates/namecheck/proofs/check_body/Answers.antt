@@ -6,7 +6,7 @@ use Prim.Native.Nat.{ℕ, ◌+◌, ◌≤◌}
 use native.Mathlib.Omega.{arith}
 use lib.ListN.{length, drop}
 use Rattle.laws.specs.Sets.{◌∪◌}
-use Rattle.answer.specs.declared.Checked.TheVariants.{Refused}
+use Rattle.std.specs.Prelude.{Err}
 use Rattle.answer.specs.Told.{says_checked}
 use Rattle.columns.specs.declared.Allowed.{Allowed}
 use Rattle.lines.proofs.LineLaws.{valued-stops}
@@ -21,10 +21,10 @@ use Rattle.namelaws.specs.Judging.{judged_by, step_named, declared_named, column
 use Rattle.namelaws.proofs.NameTurns.{ReadAs, read_as, line-inside, number-below}
 use Rattle.namelaws.proofs.BodyTurns.{Stands, stands-first, line-told, line-less, line_taken, says-shape, says_none, says-unused, says-fine}
 use Rattle.namecheck.proofs.check_body.Goals as goal
-use Rattle.namecheck.proofs.check_body.Goals.{After-action_named-found, After-judged, At-loop-at, In-Is}
+use Rattle.namecheck.proofs.check_body.Goals.{After-action_named-found, After-judged, At-loop-at, In-Ok}
 
-abbrev loop_of : In-Is → At-loop-at
-loop_of c = (goal.at.In-Is c).At-loop-at
+abbrev loop_of : In-Ok → At-loop-at
+loop_of c = (goal.at.In-Ok c).At-loop-at
 
 abbrev text_of : At-loop-at → List ℕ
 text_of c = c.args.text.now
@@ -32,19 +32,19 @@ text_of c = c.args.text.now
 abbrev places_of : At-loop-at → List ℕ
 places_of c = c.args.places.now
 
-abbrev line_at : In-Is → NamedLine
-line_at c = c.in-Is.line
+abbrev line_at : In-Ok → NamedLine
+line_at c = c.in-Ok.line
 
-abbrev next_at : In-Is → ℕ
-next_at c = c.in-Is.next.at
+abbrev next_at : In-Ok → ℕ
+next_at c = c.in-Ok.next.at
 
-here : (c : In-Is) → ReadAs (text_of (loop_of c)) (loop_of c).loop-at.at (line_at c) (next_at c)
+here : (c : In-Ok) → ReadAs (text_of (loop_of c)) (loop_of c).loop-at.at (line_at c) (next_at c)
 here c =
     read_as (text_of (loop_of c)) (loop_of c).loop-at.at (line_at c) (next_at c)
     (sym c.line_at.ensures ∙ ap (got_named (text_of (loop_of c)))
-    c.in-Is.is)
+    c.in-Ok.is)
 
-inside : (c : In-Is) → (loop_of c).loop-at.at + before_name (line_at c) ≤ length (text_of (loop_of c))
+inside : (c : In-Ok) → (loop_of c).loop-at.at + before_name (line_at c) ≤ length (text_of (loop_of c))
 inside c =
     let h = here c in
     let l = loop_of c in
@@ -52,8 +52,8 @@ inside c =
     subst (λ m. l.loop-at.at + before_name m ≤ length t) h.code
     (line-inside t l.loop-at.at (drop (next_at c) t) h.it h.here c.loop-at-test.true)
 
-abbrev scan : After-action_named-found → In-Is
-scan c = (goal.at.After-action_named-found c).In-Is
+abbrev scan : After-action_named-found → In-Ok
+scan c = (goal.at.After-action_named-found c).In-Ok
 
 abbrev found_at : After-action_named-found → Option ℕ
 found_at c = found_is c.action_named-found.result
@@ -86,33 +86,33 @@ loop-at-init c = let t = c.args.text.now in
     )
 
 pub overflow_add-at : goal.overflow_add-at
-overflow_add-at c = omega (arith, inside (goal.at.overflow_add-at c).In-Is, c.before_name-before.ensures, (loop_of (goal.at.overflow_add-at c).In-Is).requires.1)
+overflow_add-at c = omega (arith, inside (goal.at.overflow_add-at c).In-Ok, c.before_name-before.ensures, (loop_of (goal.at.overflow_add-at c).In-Ok).requires.1)
 
 pub action_named-found-requires : goal.action_named-found-requires
-action_named-found-requires c = (loop_of (goal.at.action_named-found-requires c).In-Is).requires.0.long
+action_named-found-requires c = (loop_of (goal.at.action_named-found-requires c).In-Ok).requires.0.long
 
 pub column_of-column-requires : goal.column_of-column-requires
 column_of-column-requires c = let s = scan (goal.at.column_of-column-requires c).After-action_named-found in
     let l = loop_of s in
     (l.loop-at.invariant.1.low, inside s, l.requires.1)
 
-pub returns-in-Fault : goal.returns-in-Fault
-returns-in-Fault c = let s = scan (goal.at.returns-in-Fault c).After-action_named-found in
+pub returns-in-Err-judged : goal.returns-in-Err-judged
+returns-in-Err-judged c = let s = scan (goal.at.returns-in-Err-judged c).After-action_named-found in
     let l = loop_of s in
     let a = l.args in
     let t = text_of l in
     let P = places_of l in
     let h = here s in
-    let o = found_at (goal.at.returns-in-Fault c).After-action_named-found in
-    let f = c.in-Fault.number in
-    let e = judged (goal.at.returns-in-Fault c).After-judged ∙ c.in-Fault.is in
+    let o = found_at (goal.at.returns-in-Err-judged c).After-action_named-found in
+    let f = c.in-Err-judged.number in
+    let e = judged (goal.at.returns-in-Err-judged c).After-judged ∙ c.in-Err-judged.is in
     let v = c.column_of-column in
     let col : v.result ≡ column_by t l.loop-at.at (allowed_of (judged_by l.loop-at.p (code_of h.it) o) f) (code_of h.it) o =
     v.ensures ∙ ap (λ (x : Allowed). column_by t l.loop-at.at x (line_at s) o) c.allowed-a.ensures
     ∙ ap (λ m. column_by t l.loop-at.at (allowed_of (judged_by l.loop-at.p m o) f) m o) (sym h.code) in
-    ap (λ p. says_checked (Refused (record { number = f; place = p }))) c.place_of-place.ensures
+    ap (λ p. says_checked (Err (record { number = f; place = p }))) c.place_of-place.ensures
     ∙ line-told t P a.from a.first l.loop-at.invariant.0 l.loop-at.p l.loop-at.at l.loop-at.n l.loop-at.declared
-    l.loop-at.invariant.1 h.it (next_at s) h.here o (looked (goal.at.returns-in-Fault c).After-action_named-found) f v.result e col
+    l.loop-at.invariant.1 h.it (next_at s) h.here o (looked (goal.at.returns-in-Err-judged c).After-action_named-found) f v.result e col
 
 pub declares-requires : goal.declares-requires
 declares-requires c = let l = loop_of (scan (goal.at.declares-requires c).After-action_named-found) in
@@ -138,7 +138,7 @@ loop-at-preserved c = let s = scan (goal.at.loop-at-preserved c).After-action_na
     let a = l.args in
     let h = here s in
     let o = found_at (goal.at.loop-at-preserved c).After-action_named-found in
-    let q = c.in-Taken in
+    let q = c.in-Ok-judged in
     let e = judged (goal.at.loop-at-preserved c).After-judged ∙ q.is in
     let w =
     line_taken (text_of l) (places_of l) a.from a.first l.loop-at.invariant.0 l.loop-at.p l.loop-at.at
@@ -154,11 +154,11 @@ loop-at-preserved c = let s = scan (goal.at.loop-at-preserved c).After-action_na
 pub column_at-column-requires : goal.column_at-column-requires
 column_at-column-requires c = omega arith
 
-pub returns-in-Missing : goal.returns-in-Missing
-returns-in-Missing c = let a = c.args in
-    let t = text_of (goal.at.returns-in-Missing c).At-loop-at in
-    let e = valued-stops code_of (line (drop c.loop-at.at t)) (sym c.line_at.ensures ∙ ap (got_named t) c.in-Missing.is) in
-    says-shape t (places_of (goal.at.returns-in-Missing c).At-loop-at) a.from a.first c.loop-at.invariant.0 c.loop-at.p c.loop-at.at
+pub returns-in-Err : goal.returns-in-Err
+returns-in-Err c = let a = c.args in
+    let t = text_of (goal.at.returns-in-Err c).At-loop-at in
+    let e = valued-stops code_of (line (drop c.loop-at.at t)) (sym c.line_at.ensures ∙ ap (got_named t) c.in-Err.is) in
+    says-shape t (places_of (goal.at.returns-in-Err c).At-loop-at) a.from a.first c.loop-at.invariant.0 c.loop-at.p c.loop-at.at
     c.loop-at.n c.loop-at.declared c.loop-at.invariant.1 c.column_at-column.result _
     c.loop-at-test.true e c.column_at-column.ensures
 

@@ -30,7 +30,7 @@ abbrev place_at : After-held-next → ℕ
 place_at c = c.args.at
 
 abbrev line_at : After-held-next → NamedLine
-line_at c = c.in-Is.line
+line_at c = c.in-Ok.line
 
 abbrev next_at : After-held-next → ℕ
 next_at c = c.held-next.result
@@ -40,7 +40,7 @@ start c = omega (arith, c.requires.1)
 
 scanned : (c : After-held-next) → valued code_of (line (drop (place_at c) (text_at c))) ≡ got (line_at c) (drop (next_at c) (text_at c))
 scanned c =
-    sym c.line_at.ensures ∙ ap (got_named (text_at c)) c.in-Is.is
+    sym c.line_at.ensures ∙ ap (got_named (text_at c)) c.in-Ok.is
     ∙ ap (λ (b : List ℕ). got (line_at c) b) (sym c.held-next.ensures.0)
 
 here : (c : After-held-next) → ReadAs (text_at c) (place_at c) (line_at c) (next_at c)
@@ -72,8 +72,8 @@ pub returns-in-Plain : goal.returns-in-Plain
 returns-in-Plain c = cut-plain (text_at (goal.at.returns-in-Plain c).After-held-next) (places_at (goal.at.returns-in-Plain c).After-held-next) (place_at (goal.at.returns-in-Plain c).After-held-next) (next_at (goal.at.returns-in-Plain c).After-held-next) (start (goal.at.returns-in-Plain c).After-held-next) c.held-next.ensures.1 (here (goal.at.returns-in-Plain c).After-held-next).it (here (goal.at.returns-in-Plain c).After-held-next).here
     (subst IsPlain (sym (here (goal.at.returns-in-Plain c).After-held-next).code) (subst IsPlain (sym c.in-Plain.is) tt))
 
-pub returns-in-Missing : goal.returns-in-Missing
-returns-in-Missing c = let a = c.args in
+pub returns-in-Err : goal.returns-in-Err
+returns-in-Err c = let a = c.args in
     let t = a.text.now in
     ap (old_of (number_by t a.places.now))
-    (valued-stops code_of (line (drop a.at t)) (sym c.line_at.ensures ∙ ap (got_named t) c.in-Missing.is))
+    (valued-stops code_of (line (drop a.at t)) (sym c.line_at.ensures ∙ ap (got_named t) c.in-Err.is))

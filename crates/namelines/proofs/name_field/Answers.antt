@@ -1,17 +1,18 @@
 -- `namelines::name_field` meets its contract.
 use mathlib.Core.Path.{sym, ◌∙◌, ap}
 use lib.ListN.{drop}
+use Rattle.laws.proofs.Exits.{handed-on}
 use Rattle.fields.specs.Fields.{past}
 use Rattle.namelines.proofs.NamedLaws.{name-field-is, name-field-no}
 use Rattle.namelines.proofs.name_field.Goals as goal
 
-pub returns-in-Past : goal.returns-in-Past
-returns-in-Past c = let a = c.args in
+pub returns : goal.returns
+returns c = let a = c.args in
     let t = a.text.now in
     name-field-is t (drop a.c.at t) _ (sym c.byte.ensures
-    ∙ ap (past t) c.in-Past.is) _ c.name_end.ensures
+    ∙ ap (past t) c.in_ok-d.was) _ c.name_end.ensures
 
-pub returns-in-Missing : goal.returns-in-Missing
-returns-in-Missing c = let a = c.args in
+pub returns-in_err-d : goal.returns-in_err-d
+returns-in_err-d c = let a = c.args in
     let t = a.text.now in
-    name-field-no (drop a.c.at t) (sym c.byte.ensures ∙ ap (past t) c.in-Missing.is)
+    ap (past t) (handed-on _ c.from_residual.ensures.1) ∙ name-field-no (drop a.c.at t) (sym c.byte.ensures ∙ ap (past t) c.in_err-d.was)

@@ -8,16 +8,16 @@ use Rattle.namelines.specs.declared.NamedLine.TheVariants.{Plain}
 use Rattle.namelines.proofs.NamedLaws.{other-is, other-no}
 use Rattle.namelines.proofs.other_line.Goals as goal
 
-pub returns-in-Is : goal.returns-in-Is
-returns-in-Is c = let a = c.args in
+pub returns-in-Ok : goal.returns-in-Ok
+returns-in-Ok c = let a = c.args in
     let t = a.text.now in
-    let v = valued-is line_of (entry (drop a.c.at t)) (sym c.line_at.ensures ∙ ap (got_line t) c.in-Is.is) in
-    ap (λ l. got (Plain l) (drop c.in-Is.d.at t)) (sym v.2) ∙ other-is (drop a.c.at t) v.1
+    let v = valued-is line_of (entry (drop a.c.at t)) (sym c.line_at.ensures ∙ ap (got_line t) c.in-Ok.is) in
+    ap (λ l. got (Plain l) (drop c.in-Ok.d.at t)) (sym v.2) ∙ other-is (drop a.c.at t) v.1
 
-pub returns-in-Missing : goal.returns-in-Missing
-returns-in-Missing c = let a = c.args in
+pub returns-in-Err : goal.returns-in-Err
+returns-in-Err c = let a = c.args in
     let t = a.text.now in
     let bs = drop a.c.at t in
-    let e = valued-stops line_of (entry bs) (sym c.line_at.ensures ∙ ap (got_line t) c.in-Missing.is) in
-    ap (λ l. stops l) (c.further-in-Missing.ensures t ∙ ap (shorter _) (c.further.ensures t))
+    let e = valued-stops line_of (entry bs) (sym c.line_at.ensures ∙ ap (got_line t) c.in-Err.is) in
+    ap (λ l. stops l) (c.further-in-Err.ensures t ∙ ap (shorter _) (c.further.ensures t))
     ∙ other-no bs e c.stop_of-fo.ensures c.stop_of-na.ensures

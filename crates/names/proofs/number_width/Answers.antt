@@ -4,8 +4,8 @@ use lib.ListN.{length}
 use Rattle.cutlaws.specs.Cutting.{number_part}
 use Rattle.names.proofs.number_width.Goals as goal
 
-pub returns-then-c : goal.returns-then-c
-returns-then-c c = let a = c.args.c in c.width.ensures ∙ ap (λ b. length (number_part b a.action)) (sym c.if-c.true)
+pub returns-in-Some : goal.returns-in-Some
+returns-in-Some c = c.width.ensures ∙ ap (λ a. length (number_part a)) (sym c.in-Some.is)
 
-pub returns : goal.returns
-returns c = let a = c.args.c in ap (λ b. length (number_part b a.action)) (sym c.if-c.false)
+pub returns-in-None : goal.returns-in-None
+returns-in-None c = ap (λ a. length (number_part a)) (sym c.in-None.is)

@@ -16,7 +16,7 @@ abbrev before : Start → List ℕ
 before c = let a = c.args in take (a.c.stop - a.at) (drop a.at a.text.now)
 
 abbrev number : Start → List ℕ
-number c = let a = c.args in number_part a.c.named a.c.action
+number c = let a = c.args in number_part a.c.action
 
 abbrev behind : Start → List ℕ
 behind c = let a = c.args in take (a.c.next - a.c.go) (drop a.c.go a.text.now)

@@ -7,11 +7,11 @@ use Rattle.cutlaws.specs.Cutting.{number_part}
 use Rattle.names.proofs.put_number.Goals as goal
 
 pub put_decimal-requires : goal.put_decimal-requires
-put_decimal-requires c = omega (arith, c.requires, ap (λ b. length (number_part b c.args.c.action)) c.if-c.true)
+put_decimal-requires c = omega (arith, c.requires, ap (λ a. length (number_part a)) c.in-Some.is)
 
-pub returns-then-c : goal.returns-then-c
-returns-then-c c = put_as c.put_decimal.ensures _ (ap (λ b. number_part b c.args.c.action) (sym c.if-c.true))
+pub returns-in-Some : goal.returns-in-Some
+returns-in-Some c = put_as c.put_decimal.ensures _ (ap number_part (sym c.in-Some.is))
 
-pub returns : goal.returns
-returns c = let a = c.args in
-    put_as (nothing_put a.out.now a.to) _ (ap (λ b. number_part b a.c.action) (sym c.if-c.false))
+pub returns-in-None : goal.returns-in-None
+returns-in-None c = let a = c.args in
+    put_as (nothing_put a.out.now a.to) _ (ap number_part (sym c.in-None.is))

@@ -1,6 +1,5 @@
 -- `namesheet::first_unused` meets its contract. The loop's invariant: no name of an action before this one is unused.
 use mathlib.Core.Path.{refl, sym, ◌∙◌, subst}
-use Prim.Native.Nat.{◌-◌}
 use native.Mathlib.Omega.{arith}
 use Rattle.namelaws.proofs.PlaceLaws.{Searched, searched-first, searched-here, searched-next, searched-end}
 use borrow.Author.Rules.{rules}

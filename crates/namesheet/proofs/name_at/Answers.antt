@@ -13,29 +13,29 @@ use Rattle.namelines.specs.NamedLines.{code_of, got_named, before_name}
 use Rattle.namelaws.specs.Sheets.{sheet_of, number_in, name_fault, with_sheet, onward, NameFine, Refuses}
 use Rattle.namelaws.proofs.NameTurns.{NamedAt, named-at, begins-inside, no-shape, name-refused, name-fine}
 use Rattle.namesheet.proofs.name_at.Goals as goal
-use Rattle.namesheet.proofs.name_at.Goals.{After-before_name, In-Is}
+use Rattle.namesheet.proofs.name_at.Goals.{After-before_name, In-Ok}
 
 -- ---- where a line was scanned
-abbrev text_at : In-Is → List ℕ
+abbrev text_at : In-Ok → List ℕ
 text_at c = c.args.text.now
 
-abbrev line_at : In-Is → NamedLine
-line_at c = c.in-Is.line
+abbrev line_at : In-Ok → NamedLine
+line_at c = c.in-Ok.line
 
-abbrev next_at : In-Is → ℕ
-next_at c = c.in-Is.next.at
+abbrev next_at : In-Ok → ℕ
+next_at c = c.in-Ok.next.at
 
-abbrev place_at : In-Is → ℕ
+abbrev place_at : In-Ok → ℕ
 place_at c = c.args.at
 
-here : (c : In-Is) → NamedAt (text_at c) (place_at c) (line_at c) (next_at c)
+here : (c : In-Ok) → NamedAt (text_at c) (place_at c) (line_at c) (next_at c)
 here c =
     named-at (text_at c) (place_at c) (line_at c) (next_at c) c.requires.1
-    (sym c.line_at.ensures ∙ ap (got_named (text_at c)) c.in-Is.is)
+    (sym c.line_at.ensures ∙ ap (got_named (text_at c)) c.in-Ok.is)
 
 -- ---- behind the measure of what stands before the name
-abbrev known : After-before_name → In-Is
-known c = (goal.at.After-before_name c).In-Is
+abbrev known : After-before_name → In-Ok
+known c = (goal.at.After-before_name c).In-Ok
 
 number_is : (c : After-before_name) → c.number_in-number.result ≡ (here (known c)).number
 number_is c = c.number_in-number.ensures ∙ ap number_in (here (known c)).code
@@ -79,10 +79,10 @@ returns-else-fault-ne0 c = let k = known (goal.at.returns-else-fault-ne0 c).Afte
     subst (λ i. NameFine t P a.low a.at i (name_at (goal.at.returns-else-fault-ne0 c).After-before_name) (next_at k)) (sym (number_is (goal.at.returns-else-fault-ne0 c).After-before_name))
     (name-fine t P a.low a.at a.n s h.number (name_at (goal.at.returns-else-fault-ne0 c).After-before_name) (next_at k) h.name h.read name e p)
 
-pub returns-in-Missing : goal.returns-in-Missing
-returns-in-Missing c = let a = c.args in
+pub returns-in-Err : goal.returns-in-Err
+returns-in-Err c = let a = c.args in
     let t = a.text.now in
-    let e = valued-stops code_of (line (drop a.at t)) (sym c.line_at.ensures ∙ ap (got_named t) c.in-Missing.is) in
+    let e = valued-stops code_of (line (drop a.at t)) (sym c.line_at.ensures ∙ ap (got_named t) c.in-Err.is) in
     subst (λ k. Refuses (onward t (with_sheet (sheet_of t a.places.now)) a.at a.n) (record { number = 2; place = Spot a.n k }))
     (sym c.column_at.ensures)
     (no-shape t a.places.now a.low a.at a.n c.requires.0 _ c.requires.1 e)

@@ -1,12 +1,18 @@
 -- `namesheet::name_fault` meets its contract.
-use mathlib.Core.Path.{◌≡◌, sym, ◌∙◌, ap}
+use mathlib.Core.Path.{◌≡◌, refl, sym, ◌∙◌, ap}
 use mathlib.Core.Bool.{Bool, true}
+use Rattle.std.specs.Prelude as Answered
+use Rattle.std.specs.Prelude.{Some, None}
 use Rattle.laws.specs.Search.{is_some}
 use Rattle.named.specs.NamedText.{good_name}
-use Rattle.namefields.specs.NameFields.{name_from, number_by, found_is}
+use Rattle.namefields.specs.NameFields.{name_from, number_by, Found, found_is}
 use Rattle.namelaws.proofs.NameTurns.{fault-4, fault-6, fault-bad, fault-again, fault-no}
 use Rattle.namesheet.proofs.name_fault.Goals as goal
 use Rattle.namesheet.proofs.name_fault.Goals.{After-good_name, Else-not-good_name}
+
+some-found : (r : Found) → is_some (found_is r) ≡ Answered.is_some r
+some-found None = refl
+some-found (Some a) = refl
 
 -- ---- behind the test of the name
 abbrev good : After-good_name → Bool
@@ -36,12 +42,12 @@ returns-then-not-good_name c = let a = c.args in
     fault-bad a.number a.low (good (goal.at.returns-then-not-good_name c).After-good_name) (again (goal.at.returns-then-not-good_name c).After-good_name) c.if-number.false c.if-number-low.false
     (sym c.good_name.ensures ∙ c.if-not-good_name.true)
 
-pub returns-in-Is : goal.returns-in-Is
-returns-in-Is c = let a = c.args in
-    fault-again a.number a.low (good (goal.at.returns-in-Is c).After-good_name) (again (goal.at.returns-in-Is c).After-good_name) c.if-number.false c.if-number-low.false (fine (goal.at.returns-in-Is c).Else-not-good_name)
-    (sym (ap is_some c.action_named.ensures) ∙ ap (λ f. is_some (found_is f)) c.in-Is.is)
+pub returns-then-is_some : goal.returns-then-is_some
+returns-then-is_some c = let a = c.args in
+    fault-again a.number a.low (good (goal.at.returns-then-is_some c).After-good_name) (again (goal.at.returns-then-is_some c).After-good_name) c.if-number.false c.if-number-low.false (fine (goal.at.returns-then-is_some c).Else-not-good_name)
+    (sym (ap is_some c.action_named.ensures) ∙ some-found c.action_named.result ∙ sym c.is_some.ensures ∙ c.if-is_some.true)
 
-pub returns-in-Nothing : goal.returns-in-Nothing
-returns-in-Nothing c = let a = c.args in
-    fault-no a.number a.low (good (goal.at.returns-in-Nothing c).After-good_name) (again (goal.at.returns-in-Nothing c).After-good_name) c.if-number.false c.if-number-low.false (fine (goal.at.returns-in-Nothing c).Else-not-good_name)
-    (sym (ap is_some c.action_named.ensures) ∙ ap (λ f. is_some (found_is f)) c.in-Nothing.is)
+pub returns : goal.returns
+returns c = let a = c.args in
+    fault-no a.number a.low (good (goal.at.returns c).After-good_name) (again (goal.at.returns c).After-good_name) c.if-number.false c.if-number-low.false (fine (goal.at.returns c).Else-not-good_name)
+    (sym (ap is_some c.action_named.ensures) ∙ some-found c.action_named.result ∙ sym c.is_some.ensures ∙ c.if-is_some.false)

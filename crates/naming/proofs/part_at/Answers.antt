@@ -21,22 +21,22 @@ abbrev place_at : After-held-next → ℕ
 place_at c = c.args.at
 
 abbrev line_at : After-held-next → Line
-line_at c = c.in-Is.line
+line_at c = c.in-Ok.line
 
 abbrev next_at : After-held-next → ℕ
 next_at c = c.held-next.result
 
 scanned : (c : After-held-next) → valued line_of (entry (drop (place_at c) (text_at c))) ≡ got (line_at c) (drop (next_at c) (text_at c))
 scanned c =
-    sym c.line_at.ensures ∙ ap (got_line (text_at c)) c.in-Is.is
+    sym c.line_at.ensures ∙ ap (got_line (text_at c)) c.in-Ok.is
     ∙ ap (λ (b : List ℕ). got (line_at c) b) (sym c.held-next.ensures.0)
 
 here : (c : After-held-next)
     → (e : Entry) × (entry (drop (place_at c) (text_at c)) ≡ got e (drop (next_at c) (text_at c))) × (line_of e ≡ line_at c)
 here c = valued-is line_of (entry (drop (place_at c) (text_at c))) (scanned c)
 
-pub returns-in-Is : goal.returns-in-Is
-returns-in-Is c = let h = here (goal.at.returns-in-Is c).After-held-next in
+pub returns-in-Ok : goal.returns-in-Ok
+returns-in-Ok c = let h = here (goal.at.returns-in-Ok c).After-held-next in
     record {
       line = h.0;
       read = h.1;
@@ -46,7 +46,7 @@ returns-in-Is c = let h = here (goal.at.returns-in-Is c).After-held-next in
       inside = c.held-next.ensures.1;
     }
 
-pub returns-in-Missing : goal.returns-in-Missing
-returns-in-Missing c = let a = c.args in
+pub returns-in-Err : goal.returns-in-Err
+returns-in-Err c = let a = c.args in
     let t = a.text.now in
-    entries-stop t a.at _ (valued-stops line_of (entry (drop a.at t)) (sym c.line_at.ensures ∙ ap (got_line t) c.in-Missing.is))
+    entries-stop t a.at _ (valued-stops line_of (entry (drop a.at t)) (sym c.line_at.ensures ∙ ap (got_line t) c.in-Err.is))

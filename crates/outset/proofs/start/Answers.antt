@@ -1,4 +1,4 @@
--- `outset::start` meets its contract: 20 and zeros where the table is not recognised, else the start of its model.
+-- `outset::start` meets its contract: 20 where the table is not recognised, else the start of its model.
 use mathlib.Core.Path.{◌≡◌, ◌∙◌}
 use mathlib.Core.Bool.{Bool, true}
 use mathlib.Core.List.{List}
@@ -16,8 +16,7 @@ known : (w : Bool) {t : List ℕ} → w ≡ is_image t → w ≡ true → Image 
 known w e f = is-image _ w e f
 
 pub returns-then-not-recognise : goal.returns-then-not-recognise
-returns-then-not-recognise c = refused-20 c.args.table.now c.recognise.result c.recognise.ensures c.if-not-recognise.true c.no_state.result
-    c.no_state.ensures
+returns-then-not-recognise c = refused-20 c.args.table.now c.recognise.result c.recognise.ensures c.if-not-recognise.true
 
 pub joined-requires : goal.joined-requires
 joined-requires c = (image-long _ (known c.recognise.result c.recognise.ensures c.if-not-recognise.false), count-below _ (known c.recognise.result c.recognise.ensures c.if-not-recognise.false), search rules)
@@ -27,5 +26,4 @@ start_state-requires c = known c.recognise.result c.recognise.ensures c.if-not-r
 
 pub returns : goal.returns
 returns c = let r = c.recognise in
-    begins c.args.table.now r.result r.ensures c.if-not-recognise.false c.joined.result c.start_state.result
-    (c.joined.ensures ∙ started-joined c.args.table.now) c.start_state.ensures
+    begins c.args.table.now r.result r.ensures c.if-not-recognise.false _ (c.joined.ensures ∙ started-joined c.args.table.now) c.start_state.ensures

@@ -1,9 +1,8 @@
 -- `pairs::check_shared` meets its contract: the lowest member of what some two clash by, then the first two that do.
 use mathlib.Core.Path.{refl, sym, ap, ◌∙◌}
-use Prim.Native.Nat.{◌-◌, ◌<◌}
+use Prim.Native.Nat.{◌<◌}
 use native.Mathlib.Omega.{arith}
 use mathlib.Core.List.{[], ◌∷◌}
-use mathlib.Core.Option.{none}
 use Rattle.laws.specs.Search.{seek, map_some}
 use Rattle.laws.proofs.SearchLaws.{seek-here, seek-next, seek-end}
 use Rattle.answer.specs.Told.{tell}
@@ -28,8 +27,8 @@ count_of-n-requires c = image-long _ c.requires
 pub loop-i-init : goal.loop-i-init
 loop-i-init c = refl
 
-pub partner-f-requires : goal.partner-f-requires
-partner-f-requires c = (
+pub partner-requires : goal.partner-requires
+partner-requires c = (
   c.requires,
   omega (arith, c.count_of-n.ensures),
   lowest-below c.args.kind c.args.t.now c.requires c.lowest-x.result
@@ -37,13 +36,13 @@ partner-f-requires c = (
       (λ z. c.if-all-eq0.false (c.clash_set-all.ensures ∙ z)),
 )
 
-pub returns-in-At : goal.returns-in-At
-returns-in-At c = let l = c.loop-i in
+pub returns-in-Some : goal.returns-in-Some
+returns-in-Some c = let l = c.loop-i in
     let t = c.args.t.now in
     let k = c.args.kind in
     let x = c.lowest-x.result in
     let h : l.i < count_of t = omega (arith, c.count_of-n.ensures) in
-    let j = at_some (partner_of k t x l.i) _ (sym c.partner-f.ensures ∙ c.in-At.is) in
+    let j = at_some (partner_of k t x l.i) _ (sym c.partner.ensures ∙ c.in-Some.is) in
     let hit = partners k t c.requires x l.i h ∙ ap (map_some (λ j. x ∷ l.i ∷ j ∷ [])) j in
     says-as _ _ _ (sym (lowest-shared k t c.requires x (c.lowest-x.ensures ∙ ap lowest_of c.clash_set-all.ensures)
     (λ z. c.if-all-eq0.false (c.clash_set-all.ensures ∙ z))
@@ -57,7 +56,7 @@ loop-i-preserved c = let l = c.loop-i in
     let k = c.args.kind in
     let x = c.lowest-x.result in
     let h : l.i < count_of t = omega (arith, c.count_of-n.ensures) in
-    let none = nothing-none (partner_of k t x l.i) (sym c.partner-f.ensures ∙ c.in_default.is) in
+    let none = nothing-none (partner_of k t x l.i) (sym c.partner.ensures ∙ c.in_default.is) in
     sym (seek-next (clash_in (test_of k) (model_of t) x) l.i _ (search rules) (partners k t c.requires x l.i h
     ∙ ap (map_some (λ j. x ∷ l.i ∷ j ∷ [])) none)) ∙ l.invariant
 

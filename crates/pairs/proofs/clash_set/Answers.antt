@@ -1,6 +1,5 @@
 -- `pairs::clash_set` meets its contract: the sets of the components passed, and what those clash by.
 use mathlib.Core.Path.{◌≡◌, sym, ap, ap₂, ◌∙◌}
-use Prim.Native.Nat.{◌-◌}
 use native.Mathlib.Omega.{arith}
 use Rattle.laws.specs.Sets.{◌∪◌, ◌∩◌}
 use Rattle.laws.specs.Fold.{over}

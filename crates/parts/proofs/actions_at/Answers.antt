@@ -1,6 +1,6 @@
 -- `parts::actions_at` meets its contract: the actions of the range, joined row by row.
 use mathlib.Core.Path.{refl, sym, ap, ◌∙◌}
-use Prim.Native.Nat.{ℕ, ◌+◌, ◌-◌}
+use Prim.Native.Nat.{ℕ, ◌+◌}
 use native.Mathlib.Omega.{arith}
 use Rattle.laws.specs.Sets.{◌∪◌, only}
 use Rattle.laws.specs.Fold.{over}

@@ -19,5 +19,6 @@ returns-then-a-action_at c = let a = c.action_at-a in
 
 pub returns-else-a-action_at : goal.returns-else-a-action_at
 unfolding again_at
-returns-else-a-action_at c = ap (λ b. b && has c.args.calm (action_at c.args.t.now c.args.k))
-    (sym (ne_eqb _ _ (λ e. c.if-a-action_at.false (c.action_at-a.ensures ∙ e ∙ sym c.action_at.ensures))))
+returns-else-a-action_at c =
+    let n = ne_eqb (action_at c.args.t.now c.args.k) _ (λ e. c.if-a-action_at.false (c.action_at-a.ensures ∙ e ∙ sym c.action_at.ensures)) in
+    ne_eqb _ _ c.if-a-action_at.false ∙ ap (λ b. b && has c.args.calm (action_at c.args.t.now c.args.k)) (sym n)

@@ -1,6 +1,5 @@
 -- `parts::repeat_at` meets its contract: the guards passed are one set, and what is left to search is the whole search.
 use mathlib.Core.Path.{◌≡◌, refl, sym, ap, ap₂, ◌∙◌}
-use Prim.Native.Nat.{◌-◌}
 use native.Mathlib.Omega.{arith}
 use native.Mathlib.Numerals.{add-one}
 use mathlib.Core.List.{[], ◌∷◌}
@@ -12,7 +11,7 @@ use Rattle.answer.specs.Told.{tell, told}
 use Rattle.model.specs.Model.{guard_set}
 use Rattle.layout.specs.Layout.{first_of, guard_at}
 use Rattle.rows.proofs.Ready.{first-ready, next-ready, range-ready, row-ready, range-seek}
-use Rattle.parts.specs.Faults.{state_fault}
+use Rattle.parts.specs.Faults.{repeat_fault}
 use Rattle.parts.proofs.Saying.{says-fine, says-refused}
 use Rattle.parts.proofs.Repeating.{guards_in, guards_none, guards-next, repeats-shared, unshared}
 use borrow.Author.Rules.{rules}
@@ -42,7 +41,7 @@ guard_set-g-requires c = let l = c.loop-r in
     c.first_of-hi.ensures l.r l.invariant.0 (search rules)).guard
 
 pub returns-then-seen-g-ne0 : goal.returns-then-seen-g-ne0
-unfolding state_fault told
+unfolding repeat_fault told
 returns-then-seen-g-ne0 c = let l = c.loop-r in
     let t = c.args.t.now in
     let lo = c.first_of-lo in
@@ -73,7 +72,7 @@ loop-r-preserved c = let l = c.loop-r in
     )
 
 pub returns : goal.returns
-unfolding state_fault
+unfolding repeat_fault
 returns c = let l = c.loop-r in
     let t = c.args.t.now in
     says-fine _ (sym (range-seek t c.requires.0 _ c.requires.1 _ c.requires.2 _ _ c.first_of-lo.ensures

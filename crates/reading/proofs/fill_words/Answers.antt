@@ -1,26 +1,11 @@
--- `reading::fill_words` meets its contract. The loop's invariant: the words below j are filled.
-use native.Mathlib.Omega.{arith}
-use Rattle.reading.proofs.Raise.{filled_none, filled_more, filled-to}
+-- `reading::fill_words` meets its contract: a part of the table is filled.
+use mathlib.Core.Path.{◌∙◌, ap}
+use lib.ListN.{replicate}
+use Rattle.std.proofs.lemmas.List.Edits.{length-between}
+use Rattle.reading.proofs.Raise.{filled-mid}
 use Rattle.reading.proofs.fill_words.Goals as goal
 
-pub loop-j-init : goal.loop-j-init
-loop-j-init c = (omega arith, c.requires.0, filled_none _ _ _)
-
-pub offset_bounds-table-j : goal.offset_bounds-table-j
-offset_bounds-table-j c = omega (arith, c.loop-j.invariant.2.long, c.well_formed, c.requires)
-
-pub bounds-table-j : goal.bounds-table-j
-bounds-table-j c = omega (arith, c.loop-j.invariant.2.long, c.requires)
-
-pub overflow_add-j : goal.overflow_add-j
-overflow_add-j c = omega (arith, c.loop-j-test.true, c.well_formed, c.requires)
-
-pub loop-j-smaller : goal.loop-j-smaller
-loop-j-smaller c = omega arith
-
-pub loop-j-preserved : goal.loop-j-preserved
-loop-j-preserved c = let l = c.loop-j in
-    (omega arith, omega arith, filled_more l.invariant.2 l.invariant.0 (omega (arith, c.requires)))
-
 pub returns : goal.returns
-returns c = filled-to (omega arith) c.loop-j.invariant.2
+returns c = let a = c.args in
+    filled-mid a.table.now a.lo a.hi a.v c.fill.new.self c.requires.0 c.requires.1
+    (c.fill.ensures.after (λ y e. e) ∙ ap (λ n. replicate n a.v) (length-between a.table.now a.lo a.hi c.requires.1))

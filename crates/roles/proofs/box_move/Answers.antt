@@ -21,10 +21,10 @@ returns-in-Up c = let p = place (goal.at.returns-in-Up c).After-single-place in
     rw c.in-Up.is (c.to-in-Up.ensures ∙ ap (λ x. some (plain_move x)) (c.minus-in-Up.ensures ∙ ap (λ x. x ∖ 1) one))
 
 pub returns-in-F : goal.returns-in-F
-returns-in-F c = rw c.in-F.is c.to-in-F.ensures
+returns-in-F c = rw c.in-F.is
 
 pub returns-in-U : goal.returns-in-U
-returns-in-U c = rw c.in-U.is c.to-in-U.ensures
+returns-in-U c = rw c.in-U.is
 
 pub returns-in-R : goal.returns-in-R
 returns-in-R c = rw c.in-R.is c.begins.ensures

@@ -1,6 +1,5 @@
 -- `rounds::close` meets its contract.
-use mathlib.Core.Path.{refl}
-use Rattle.rounds.proofs.Ending.{closes-stable, closes-42, closes-not}
+use Rattle.rounds.proofs.Ending.{closes-stable, closes-42}
 use Rattle.rounds.proofs.close.Goals as goal
 
 pub end-requires : goal.end-requires
@@ -11,9 +10,4 @@ returns-in-Stable c =
     closes-stable _ c.args.s _ c.requires.1 _ c.untraced-d.ensures _ _ _ c.in-Stable.is _ c.union-resets.ensures _ _ _ _ c.end.ensures
 
 pub returns-in-Unsettled : goal.returns-in-Unsettled
-returns-in-Unsettled c =
-    closes-42 _ c.args.s _ c.requires.1 _ c.untraced-d.ensures _ _ _ c.in-Unsettled.is _ refl c.requires.0
-
-pub returns-in-Refused : goal.returns-in-Refused
-returns-in-Refused c =
-    absurd (closes-not _ c.args.s _ c.requires.1 _ c.untraced-d.ensures _ c.in-Refused.is)
+returns-in-Unsettled c = closes-42 _ c.args.s _ c.requires.1 _ c.untraced-d.ensures _ _ _ c.in-Unsettled.is c.requires.0

@@ -1,15 +1,13 @@
 -- `rounds::run` meets its contract.
-use Rattle.rounds.proofs.Going.{run_on, run-not, run-refused}
+use Rattle.laws.proofs.Exits.{handed-on}
+use Rattle.rounds.proofs.Going.{run_on, run-refused}
 use Rattle.rounds.proofs.run.Goals as goal
 
+pub returns-in_err-state : goal.returns-in_err-state
+returns-in_err-state c = rw (handed-on _ c.from_residual.ensures.1) (run-refused _ _ _ _ _ _ _ _ _ c.in_err-state.ensures)
+
 pub later_rounds-requires : goal.later_rounds-requires
-later_rounds-requires c = (c.first-begun.ensures.placed, c.first-begun.ensures.posed)
+later_rounds-requires c = (c.in_ok-state.ensures.placed, c.in_ok-state.ensures.posed)
 
-pub returns-in-Done : goal.returns-in-Done
-returns-in-Done c = run_on _ _ _ _ _ _ _ _ _ c.first-begun.ensures _ _ c.in-Done.is c.later_rounds.ensures
-
-pub returns-in-Quiet : goal.returns-in-Quiet
-returns-in-Quiet c = run-not _ _ _ _ _ _ _ _ _ c.first-begun.ensures _ _ c.in-Quiet.is
-
-pub returns-in-Refused : goal.returns-in-Refused
-returns-in-Refused c = run-refused _ _ _ _ _ _ _ _ _ c.first-begun.ensures _ _ _ c.in-Refused.is c.refused.ensures
+pub returns : goal.returns
+returns c = run_on _ _ _ _ _ _ _ _ _ c.in_ok-state.ensures _ _ c.later_rounds.ensures

@@ -1,12 +1,12 @@
 -- `samples::sample` meets its contract.
-use mathlib.Core.Path.{◌≡◌, sym, ap, ◌∙◌}
+use mathlib.Core.Path.{◌≡◌, sym, ◌∙◌}
 use mathlib.Core.Bool.{true}
 use Prim.Native.Nat.{ℕ, ◌≤◌, ◌<◌}
 use native.Mathlib.Omega.{arith}
-use lib.ListN.{get_or, drop}
+use lib.ListN.{get_or}
+use borrow.Author.Tests.{le-leb, lt-leb}
 use Rattle.model.specs.Reading.{is_digit}
 use Rattle.fields.proofs.ScanLaws.{is_digit_lem}
-use Rattle.samples.specs.Lines.{got_ticks}
 use Rattle.samples.proofs.SampleLaws.{sample-end, sample-not, sample-nought, sample-on}
 use Rattle.samples.proofs.sample.Goals as goal
 use Rattle.samples.proofs.sample.Goals.{Else-not-is_digit}
@@ -37,11 +37,15 @@ overflow_sub-b c = (digit (goal.at.overflow_sub-b c).Else-not-is_digit).0
 pub overflow_cast-b : goal.overflow_cast-b
 overflow_cast-b c = omega (arith, digit (goal.at.overflow_cast-b c).Else-not-is_digit)
 
-pub more_digits-digits-requires : goal.more_digits-digits-requires
-more_digits-digits-requires c = (omega (arith, digit (goal.at.more_digits-digits-requires c).Else-not-is_digit), omega arith, omega arith)
+pub more_digits-n-requires : goal.more_digits-n-requires
+more_digits-n-requires c = (omega (arith, digit (goal.at.more_digits-n-requires c).Else-not-is_digit), omega arith, omega arith)
 
-pub returns : goal.returns
-returns c = let t = c.args.text.now in
-    let at = c.args.c.at in
-    c.ticking.ensures t ∙ ap (λ s. got_ticks s (drop at t)) c.more_digits-digits.ensures
-    ∙ sample-on t at c.if-text-at.false (is_one (goal.at.returns c).Else-not-is_digit) c.if-b-eq-ZERO.false
+pub returns-then-n : goal.returns-then-n
+returns-then-n c = let t = c.args.text.now in
+    let e = sample-on t c.args.c.at c.if-text-at.false (is_one (goal.at.returns-then-n c).Else-not-is_digit) c.if-b-eq-ZERO.false in
+    rw (← e, ← c.more_digits-n.ensures, le-leb _ _ c.if-n.true)
+
+pub returns-else-n : goal.returns-else-n
+returns-else-n c = let t = c.args.text.now in
+    let e = sample-on t c.args.c.at c.if-text-at.false (is_one (goal.at.returns-else-n c).Else-not-is_digit) c.if-b-eq-ZERO.false in
+    rw (← e, ← c.more_digits-n.ensures, lt-leb _ _ c.if-n.false)

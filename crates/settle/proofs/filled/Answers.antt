@@ -2,8 +2,8 @@
 use Rattle.settle.proofs.Filling.{is-filled, never-refused}
 use Rattle.settle.proofs.filled.Goals as goal
 
-pub returns-in-Length : goal.returns-in-Length
-returns-in-Length c = is-filled c.requires c.report.ensures _ c.in-Length.is
+pub returns-in-Ok : goal.returns-in-Ok
+returns-in-Ok c = is-filled c.requires c.report.ensures _ c.in-Ok.is
 
-pub returns-in-Refused : goal.returns-in-Refused
-returns-in-Refused c = absurd (never-refused c.requires c.report.ensures _ c.in-Refused.is)
+pub returns-in-Err : goal.returns-in-Err
+returns-in-Err c = absurd (never-refused c.requires c.report.ensures _ c.in-Err.is)

@@ -1,11 +1,6 @@
 -- What each turn of the loop of `settling::by_list` keeps.
-use Prim.Native.Nat.{◌-◌}
-use lib.ListN.{length}
 use Rattle.settling.proofs.Listed.{Plays}
 use Rattle.settling.proofs.by_list.Given as goal
 
 abbrev pub invariant-loop-i : goal.invariant-loop-i
 invariant-loop-i l = Plays l.t l.list l.initial.cur l.cur l.resets l.i
-
-abbrev pub decreases-loop-i : goal.decreases-loop-i
-decreases-loop-i l = length l.list - l.i

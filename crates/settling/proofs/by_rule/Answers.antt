@@ -1,10 +1,10 @@
 -- `settling::by_rule` meets its contract: the steps done, before what settling does with the rest of the budget, are what settling does.
 use mathlib.Core.Path.{◌≡◌}
-use Prim.Native.Nat.{ℕ, ◌-◌}
+use Prim.Native.Nat.{ℕ}
 use native.Mathlib.Omega.{arith}
 use borrow.Author.Rules.{rules}
 use Rattle.moves.proofs.Ready.{stands_at, lowest-of-state, resets-of, state-of}
-use Rattle.settling.proofs.Onward.{begin, onward, ends}
+use Rattle.settling.proofs.Onward.{begin, onward, ends, all-done}
 use Rattle.settling.proofs.Reached.{reached-ready}
 use Rattle.settling.proofs.Rests.{rests}
 use Rattle.settling.proofs.by_rule.Goals as goal
@@ -47,4 +47,4 @@ pub ended-requires-2 : goal.ended-requires-2
 ended-requires-2 c = reached-ready _ _ _ c.requires.0 c.loop-steps.invariant.1.reached
 
 pub returns : goal.returns
-returns c = ends _ _ _ _ _ _ _ _ c.loop-steps.invariant.1 (λ _. c.loop-steps-test.false) _ c.ended-2.ensures
+returns c = all-done _ _ _ _ _ _ _ _ c.loop-steps.invariant.1 (omega (arith, c.loop-steps.invariant.1.within)) _ c.ended-2.ensures

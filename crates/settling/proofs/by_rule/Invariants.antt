@@ -1,6 +1,5 @@
 -- What each turn of the loop of `settling::by_rule` keeps.
 use mathlib.Core.Path.{◌≡◌}
-use Prim.Native.Nat.{◌-◌}
 use lib.ListN.{length}
 use Rattle.answer.specs.Limits.{max_components}
 use Rattle.moves.specs.Standing.{holding}
@@ -9,6 +8,3 @@ use Rattle.settling.proofs.by_rule.Given as goal
 
 abbrev pub invariant-loop-steps : goal.invariant-loop-steps
 invariant-loop-steps l = (length l.parts ≡ max_components) × Runs l.t l.budget (holding l.n l.initial.parts) l.initial.trace (holding l.n l.parts) l.resets l.steps l.trace
-
-abbrev pub decreases-loop-steps : goal.decreases-loop-steps
-decreases-loop-steps l = l.budget - l.steps

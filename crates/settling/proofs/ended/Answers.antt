@@ -1,23 +1,19 @@
 -- `settling::ended` meets its contract.
-use mathlib.Core.Path.{refl, sym, ap}
-use mathlib.Core.Option.{some}
-use Rattle.answer.specs.Told.{answered, says_verdict}
+use mathlib.Core.Path.{refl, sym}
 use Rattle.settling.proofs.Rests.{rests, goes_on}
 use Rattle.settling.proofs.ended.Goals as goal
 
 pub returns-then-a : goal.returns-then-a
-unfolding says_verdict
 returns-then-a c = record {
-  verdict = ap (λ b. some (answered b)) (sym (goes_on _ _ c.requires _ c.lowest_all-a.ensures c.if-a.true));
+  verdict = sym (goes_on _ _ c.requires _ c.lowest_all-a.ensures c.if-a.true);
   steps-are = refl;
   resets-are = refl;
   state = refl;
 }
 
 pub returns-else-a : goal.returns-else-a
-unfolding says_verdict
 returns-else-a c = record {
-  verdict = ap (λ b. some (answered b)) (sym (rests _ _ c.requires _ c.lowest_all-a.ensures c.if-a.false));
+  verdict = sym (rests _ _ c.requires _ c.lowest_all-a.ensures c.if-a.false);
   steps-are = refl;
   resets-are = refl;
   state = refl;

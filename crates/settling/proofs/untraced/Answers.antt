@@ -1,11 +1,11 @@
 -- `settling::untraced` meets its contract: its loop is that of `by_rule`, with some trace that nobody writes.
 use mathlib.Core.Path.{◌≡◌}
-use Prim.Native.Nat.{ℕ, ◌-◌}
+use Prim.Native.Nat.{ℕ}
 use native.Mathlib.Omega.{arith}
 use borrow.Author.Rules.{rules}
 use lib.ListN.{replicate, length-replicate}
 use Rattle.moves.proofs.Ready.{stands_at, lowest-of-state, resets-of, state-of}
-use Rattle.settling.proofs.Onward.{begin, onward, ends}
+use Rattle.settling.proofs.Onward.{begin, onward, ends, all-done}
 use Rattle.settling.proofs.Reached.{reached-ready}
 use Rattle.settling.proofs.Rests.{rests}
 use Rattle.settling.proofs.untraced.Goals as goal
@@ -44,4 +44,4 @@ pub ended-requires-2 : goal.ended-requires-2
 ended-requires-2 c = reached-ready _ _ _ c.requires c.loop-taken.invariant.2.reached
 
 pub returns : goal.returns
-returns c = (ends _ _ _ _ _ _ _ _ c.loop-taken.invariant.2 (λ _. c.loop-taken-test.false) _ c.ended-2.ensures).0
+returns c = (all-done _ _ _ _ _ _ _ _ c.loop-taken.invariant.2 (omega (arith, c.loop-taken.invariant.2.within)) _ c.ended-2.ensures).0

@@ -2,7 +2,8 @@
 use mathlib.Core.Path.{◌≡◌, refl, subst}
 use mathlib.Core.List.{List}
 use Prim.Native.Nat.{ℕ}
-use Rattle.answer.specs.declared.Checked.{Checked}
+use Rattle.laws.proofs.Exits.{handed-on}
+use Rattle.answer.specs.Told.{Checked}
 use Rattle.model.specs.Model.{declared}
 use Rattle.layout.specs.Image.{model_of}
 use Rattle.distributions.specs.Text.{Scans}
@@ -18,11 +19,11 @@ scanned t x d r at e h = subst (λ d. Scans (laws_of d x) x r at) e h
 
 pub returns-then-rounds-gt-BUDGET : goal.returns-then-rounds-gt-BUDGET
 unfolding simulate_drawn
-returns-then-rounds-gt-BUDGET c = told-22 _ _ _ _ c.requires.1 c.if-rounds-gt-BUDGET.true _ c.refused.ensures
+returns-then-rounds-gt-BUDGET c = told-22 _ _ _ _ c.requires.1 c.if-rounds-gt-BUDGET.true
 
 pub returns-then-clocks-ne-CLOCKS : goal.returns-then-clocks-ne-CLOCKS
 unfolding simulate_drawn
-returns-then-clocks-ne-CLOCKS c = told-28 _ _ _ _ c.requires.1 c.if-rounds-gt-BUDGET.false c.if-clocks-ne-CLOCKS.true _ c.refused-then-clocks-ne-CLOCKS.ensures
+returns-then-clocks-ne-CLOCKS c = told-28 _ _ _ _ c.requires.1 c.if-rounds-gt-BUDGET.false c.if-clocks-ne-CLOCKS.true
 
 pub declared-requires : goal.declared-requires
 declared-requires c = c.requires.0.image
@@ -30,12 +31,12 @@ declared-requires c = c.requires.0.image
 pub play-requires : goal.play-requires
 play-requires c = let x = c.args.laws.now in
     let o = laws_of (declared (model_of c.args.t.now)) x in
-    (c.requires.0, fine-count o x c.scan-checked.result c.scan-checked.new.at (scanned _ _ _ _ _ c.declared.ensures c.scan-checked.ensures) c.in-Fine.is, c.if-clocks-ne-CLOCKS.false)
+    (c.requires.0, fine-count o x c.scan.result c.scan.new.at (scanned _ _ _ _ _ c.declared.ensures c.scan.ensures) c.in_ok-scan.was, c.if-clocks-ne-CLOCKS.false)
 
-pub returns-in-Fine : goal.returns-in-Fine
-returns-in-Fine c = plays-draws _ _ _ _ _ c.requires.1 c.if-rounds-gt-BUDGET.false c.if-clocks-ne-CLOCKS.false c.scan-checked.result c.scan-checked.new.at (scanned _ _ _ _ _ c.declared.ensures c.scan-checked.ensures)
-    _ refl c.in-Fine.is _ _ c.play.ensures
+pub returns : goal.returns
+returns c = plays-draws _ _ _ _ _ c.requires.1 c.if-rounds-gt-BUDGET.false c.if-clocks-ne-CLOCKS.false c.scan.result c.scan.new.at (scanned _ _ _ _ _ c.declared.ensures c.scan.ensures)
+    _ refl c.in_ok-scan.was _ _ c.play.ensures
 
-pub returns-in-Refused : goal.returns-in-Refused
-returns-in-Refused c = told-49 _ _ _ _ _ c.requires.1 c.if-rounds-gt-BUDGET.false c.if-clocks-ne-CLOCKS.false c.scan-checked.result c.scan-checked.new.at (scanned _ _ _ _ _ c.declared.ensures c.scan-checked.ensures)
-    _ c.in-Refused.is _ c.refused-in-Refused.ensures
+pub returns-in_err-scan : goal.returns-in_err-scan
+returns-in_err-scan c = rw (handed-on _ c.from_residual.ensures.1) (told-49 _ _ _ _ _ c.requires.1 c.if-rounds-gt-BUDGET.false c.if-clocks-ne-CLOCKS.false c.scan.result c.scan.new.at (scanned _ _ _ _ _ c.declared.ensures c.scan.ensures)
+    _ c.in_err-scan.was)

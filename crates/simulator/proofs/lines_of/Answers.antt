@@ -10,6 +10,6 @@ use Rattle.simulator.proofs.lines_of.Goals as goal
 pub lines-requires : goal.lines-requires
 lines-requires c =
     let x = c.args.recorded.now in
-    let at = c.scan-checked.new.at in
-    let scanned = subst (λ d. Scans (samples_of d x) x c.scan-checked.result at) c.declared.ensures c.scan-checked.ensures in
-    (c.requires, fine-count (samples_of (declared (model_of c.args.t.now)) x) x c.scan-checked.result at scanned c.in-Fine.is)
+    let at = c.scan.new.at in
+    let scanned = subst (λ d. Scans (samples_of d x) x c.scan.result at) c.declared.ensures c.scan.ensures in
+    (c.requires, fine-count (samples_of (declared (model_of c.args.t.now)) x) x c.scan.result at scanned c.in-Ok.is)

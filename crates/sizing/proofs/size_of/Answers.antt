@@ -1,10 +1,10 @@
 -- `sizing::size_of`: states, then what the walk counts and measures.
-use mathlib.Core.Path.{refl}
+use mathlib.Core.Path.{refl, sym, ◌∙◌}
 use Prim.Native.Nat.{◌+◌}
 use native.Mathlib.Omega.{arith}
 use Rattle.layout.proofs.ImageIsSane.{image-long, count-below, comp-ranges}
 use Rattle.product.proofs.WalkLaws.{pair_fits}
-use Rattle.sizing.proofs.MergedSums.{many-states, room, sum-few, few-states, as_lent}
+use Rattle.sizing.proofs.MergedSums.{many-states, room, sum-few, few-states, too-many, as_lent}
 use Rattle.sizing.proofs.size_of.Goals as goal
 
 pub block_word-tall-requires : goal.block_word-tall-requires
@@ -55,12 +55,23 @@ overflow_add-rows c = omega (
       c.emit_product-n.new.into c.emit_product-n.ensures _ _ c.start_of.ensures c.rows_behind.ensures,
 )
 
-pub returns : goal.returns
-returns c = (
+pub returns-then-fits : goal.returns-then-fits
+returns-then-fits c = (
   few-states _ c.requires.0 c.args.i c.requires.1 _ _ c.block_word-tall.ensures c.block_word-wide.ensures
       c.if-tall-wide.false _ c.bytes_beside-bytes.ensures c.args.into.now c.emit_product-n.result
       c.emit_product-n.new.into c.emit_product-n.ensures _ _ c.start_of.ensures
-      c.rows_behind.ensures _ c.fits.ensures,
+      c.rows_behind.ensures (sym c.fits.ensures ∙ c.if-fits.true),
+  as_lent _ c.requires.0 c.args.i c.requires.1 _ _ c.block_word-tall.ensures c.block_word-wide.ensures
+      c.if-tall-wide.false _ c.bytes_beside-bytes.ensures c.args.into.now c.emit_product-n.result
+      c.emit_product-n.new.into c.emit_product-n.ensures,
+)
+
+pub returns-else-fits : goal.returns-else-fits
+returns-else-fits c = (
+  too-many _ c.requires.0 c.args.i c.requires.1 _ _ c.block_word-tall.ensures c.block_word-wide.ensures
+      c.if-tall-wide.false _ c.bytes_beside-bytes.ensures c.args.into.now c.emit_product-n.result
+      c.emit_product-n.new.into c.emit_product-n.ensures _ _ c.start_of.ensures
+      c.rows_behind.ensures (sym c.fits.ensures ∙ c.if-fits.false),
   as_lent _ c.requires.0 c.args.i c.requires.1 _ _ c.block_word-tall.ensures c.block_word-wide.ensures
       c.if-tall-wide.false _ c.bytes_beside-bytes.ensures c.args.into.now c.emit_product-n.result
       c.emit_product-n.new.into c.emit_product-n.ensures,

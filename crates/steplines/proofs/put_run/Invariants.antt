@@ -1,10 +1,6 @@
 -- What each turn of the loop of `steplines::put_run` keeps.
-use Prim.Native.Nat.{◌-◌}
 use Rattle.steplines.proofs.Rest.{Tells}
 use Rattle.steplines.proofs.put_run.Given as goal
 
 abbrev pub invariant-loop-steps : goal.invariant-loop-steps
 invariant-loop-steps l = Tells l.t l.budget l.initial.cur l.initial.out l.cur l.resets l.steps l.out l.at
-
-abbrev pub decreases-loop-steps : goal.decreases-loop-steps
-decreases-loop-steps l = l.budget - l.steps

@@ -1,39 +1,27 @@
 -- `table::range_climbs`: what is left to test answers for the whole.
-use mathlib.Core.Path.{refl, sym, ◌∙◌}
-use Prim.Native.Nat.{◌-◌}
+use mathlib.Core.Path.{◌≡◌, sym, ◌∙◌, ap}
+use Prim.Native.Nat.{◌+◌, ◌-◌}
 use native.Mathlib.Omega.{arith}
+use Rattle.laws.specs.Fold.{all}
 use Rattle.laws.proofs.FoldLaws.{all-fails, all-goes-on, all-passed}
 use Rattle.table.specs.Rows.{climbs}
 use Rattle.table.proofs.range_climbs.Goals as goal
 
-pub loop-r-init : goal.loop-r-init
-loop-r-init c = (omega arith, λ s. refl)
-
-pub overflow_add-r : goal.overflow_add-r
-overflow_add-r c = omega arith
+pub loop-next-init : goal.loop-next-init
+loop-next-init c = (omega arith, λ s. ap (λ k. all (climbs c.args.t.now s) k (c.args.hi - 1)) (omega arith))
 
 pub returns-then-not-row_climbs : goal.returns-then-not-row_climbs
-returns-then-not-row_climbs c s = let args = c.args in
-    let loop = c.loop-r in
-    let row-climbs = c.row_climbs in
-    all-fails (climbs args.t.now s) loop.r (args.hi - 1) (loop.invariant.1 s) (omega arith) (sym (row-climbs.ensures s)
-    ∙ c.if-not-row_climbs.true)
+returns-then-not-row_climbs c s = let l = c.loop-next in
+    all-fails (climbs c.args.t.now s) (l.next - 1) (c.args.hi - 1) (l.invariant.1 s) (omega arith) (sym (c.row_climbs.ensures s) ∙ c.if-not-row_climbs.true)
 
-pub overflow_add-r-in-loop-r : goal.overflow_add-r-in-loop-r
-overflow_add-r-in-loop-r c = omega arith
-
-pub loop-r-smaller : goal.loop-r-smaller
-loop-r-smaller c = omega arith
-
-pub loop-r-preserved : goal.loop-r-preserved
-loop-r-preserved c = let args = c.args in
-    let loop = c.loop-r in
-    let row-climbs = c.row_climbs in (
+pub loop-next-preserved : goal.loop-next-preserved
+loop-next-preserved c = let l = c.loop-next in
+    let e : l.next - 1 + 1 ≡ l.next + 1 - 1 = omega arith in (
       omega arith,
-      λ s. all-goes-on (climbs args.t.now s) loop.r (args.hi - 1) (loop.invariant.1 s) (omega arith) (sym (row-climbs.ensures s)
+      λ s. ap (λ k. all (climbs c.args.t.now s) k (c.args.hi - 1)) (sym e)
+          ∙ all-goes-on (climbs c.args.t.now s) (l.next - 1) (c.args.hi - 1) (l.invariant.1 s) (omega arith) (sym (c.row_climbs.ensures s)
           ∙ c.if-not-row_climbs.false),
     )
 
 pub returns : goal.returns
-returns c s = all-passed (climbs c.args.t.now s) c.loop-r.r (c.args.hi - 1)
-    (c.loop-r.invariant.1 s) (omega arith)
+returns c s = all-passed (climbs c.args.t.now s) (c.loop-next.next - 1) (c.args.hi - 1) (c.loop-next.invariant.1 s) (omega arith)

@@ -5,7 +5,7 @@ use Rattle.laws.specs.Sets.{has}
 use Rattle.laws.proofs.TestLaws.{and-true}
 use Rattle.members.proofs.Walk.{Front, Rest, front, rest, awaits-here, awaits-next, awaits-none}
 use Rattle.timing.specs.Timed.{below_zero, check29}
-use Rattle.ticks.specs.Ticks.{negative, by_value, or_none}
+use Rattle.ticks.specs.Ticks.{negative, by_value, clock_of}
 use Rattle.ticks.proofs.ByValue.{told}
 use Rattle.ticks.proofs.below_zero.Goals as goal
 use Rattle.ticks.proofs.below_zero.Goals.{After-lowest-k, After-minus-left}
@@ -35,7 +35,7 @@ pub returns-then-is_negative : goal.returns-then-is_negative
 unfolding check29 below_zero negative
 returns-then-is_negative c = let f = negative c.args.e in
     let vs = c.args.values.now in
-    ap or_none (sym (awaits-here (by_value f vs) _ c.loop-left.invariant.1 _ (first (goal.at.returns-then-is_negative c).After-lowest-k)
+    ap clock_of (sym (awaits-here (by_value f vs) _ c.loop-left.invariant.1 _ (first (goal.at.returns-then-is_negative c).After-lowest-k)
     (told f vs _ (first (goal.at.returns-then-is_negative c).After-lowest-k).below (record { sfits = c.z-1.given }) _ c.is_negative.ensures ∙ c.if-is_negative.true)))
 
 pub single-requires : goal.single-requires
@@ -54,4 +54,4 @@ loop-left-preserved c = let f = negative c.args.e in
 
 pub returns : goal.returns
 unfolding check29 below_zero negative
-returns c = ap or_none (sym (awaits-none (by_value (negative c.args.e) c.args.values.now) _ c.loop-left.invariant.1 c.loop-left-test.false))
+returns c = ap clock_of (sym (awaits-none (by_value (negative c.args.e) c.args.values.now) _ c.loop-left.invariant.1 c.loop-left-test.false))

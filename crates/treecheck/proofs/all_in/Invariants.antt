@@ -1,10 +1,6 @@
 -- What each turn of the loop of `treecheck::all_in` keeps.
-use Prim.Native.Nat.{◌-◌}
 use Rattle.treecheck.proofs.NumberLaws.{Asked}
 use Rattle.treecheck.proofs.all_in.Given as goal
 
 abbrev pub invariant-loop-j : goal.invariant-loop-j
 invariant-loop-j l = Asked l.set l.i l.count l.j
-
-abbrev pub decreases-loop-j : goal.decreases-loop-j
-decreases-loop-j l = l.count - l.j

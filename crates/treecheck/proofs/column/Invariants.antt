@@ -1,10 +1,6 @@
 -- What each turn of the loop of `treecheck::column` keeps.
-use Prim.Native.Nat.{◌-◌}
 use Rattle.treecheck.proofs.NumberLaws.{Sought}
 use Rattle.treecheck.proofs.column.Given as goal
 
 abbrev pub invariant-loop-j : goal.invariant-loop-j
 invariant-loop-j l = Sought l.set l.i l.count l.initial.k l.k l.j
-
-abbrev pub decreases-loop-j : goal.decreases-loop-j
-decreases-loop-j l = l.count - l.j

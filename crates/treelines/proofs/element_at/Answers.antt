@@ -1,17 +1,14 @@
 -- `treelines::element_at` meets its contract.
 use mathlib.Core.Path.{sym, ◌∙◌, ap}
-use lib.ListN.{drop}
-use Rattle.treelines.specs.Elements.{got_sort}
+use Rattle.laws.proofs.Exits.{handed-on}
+use Rattle.treelines.specs.Elements.{got_sort, got_element}
 use Rattle.treelines.proofs.ElementLaws.{element-none, element-some}
 use Rattle.treelines.proofs.element_at.Goals as goal
 
-pub returns-in-Is : goal.returns-in-Is
-returns-in-Is c = let a = c.args in
-    let t = a.text.now in
-    let s = sym c.sort_of.ensures ∙ ap (got_sort t) c.in-Is.is in
-    c.behind_word.ensures ∙ element-some (drop a.c.at t) s
+pub returns : goal.returns
+returns c = let t = c.args.text.now in
+    c.behind_word.ensures ∙ element-some _ (sym c.sort_of.ensures ∙ ap (got_sort t) c.in_ok-d.was)
 
-pub returns-in-Missing : goal.returns-in-Missing
-returns-in-Missing c = let a = c.args in
-    let t = a.text.now in
-    element-none (drop a.c.at t) (sym c.sort_of.ensures ∙ ap (got_sort t) c.in-Missing.is)
+pub returns-in_err-d : goal.returns-in_err-d
+returns-in_err-d c = let t = c.args.text.now in
+    ap (got_element t) (handed-on _ c.from_residual.ensures.1) ∙ element-none _ (sym c.sort_of.ensures ∙ ap (got_sort t) c.in_err-d.was)

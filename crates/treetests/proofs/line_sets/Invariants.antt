@@ -1,10 +1,6 @@
 -- What each turn of the loop of `treetests::line_sets` keeps.
-use Prim.Native.Nat.{◌-◌}
 use Rattle.treetests.proofs.InputLaws.{Taking}
 use Rattle.treetests.proofs.line_sets.Given as goal
 
 abbrev pub invariant-loop-j : goal.invariant-loop-j
 invariant-loop-j l = Taking l.i l.initial.s l.s l.j
-
-abbrev pub decreases-loop-j : goal.decreases-loop-j
-decreases-loop-j l = l.count - l.j

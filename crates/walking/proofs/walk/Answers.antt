@@ -1,54 +1,46 @@
 -- `walking::walk` meets its contract: what is left of the path from here is what there was from the start.
-use mathlib.Core.Path.{◌≡◌}
-use Prim.Native.Nat.{ℕ, ◌≤◌}
+use mathlib.Core.Path.{◌≡◌, sym, ◌∙◌, ap}
+use Prim.Native.Nat.{ℕ, ◌+◌, ◌*◌, ◌/◌, ◌%◌, ◌<◌, ◌≤◌}
 use native.Mathlib.Omega.{arith}
-use borrow.Author.Rules.{rules}
-use borrow.Author.Tests.{not-true, not-false}
+use lib.ListN.{length}
+use Rattle.walking.specs.Walks.{not_possible_at}
 use Rattle.walking.proofs.Going.{going-first, going_on, going-stopped, going-odd, going-through, says-stops, says-through}
 use Rattle.walking.proofs.walk.Goals as goal
 
-at_most : (n : ℕ) → n ≤ 1 → (n ≡ 1 → ⊥) → n ≤ 0
-at_most n h k = omega arith
+-- two bytes for each step, and one more at an odd end
+two_there : (n i : ℕ) → i < n / 2 → 2 * i + 1 < n
+two_there n i h = omega arith
 
-pub start_state-cur-requires : goal.start_state-cur-requires
-start_state-cur-requires c = c.requires.0
+half : (n i : ℕ) → i ≤ n / 2 → n / 2 ≤ i → i ≡ n / 2
+half n i h k = omega arith
 
-pub loop-left-init : goal.loop-left-init
-loop-left-init c = let p = c.requires in going-first _ _ p.0 p.1 _ c.start_state-cur.ensures
+odd-end : (n i : ℕ) → i ≡ n / 2 → n % 2 ≡ 1 → 2 * i + 1 ≡ n
+odd-end n i h k = omega arith
 
-pub overflow_mul-at : goal.overflow_mul-at
-overflow_mul-at c = let n = c.loop-left.invariant.count in search rules
+even-end : (n i : ℕ) → i ≡ n / 2 → (n % 2 ≡ 1 → ⊥) → 2 * i ≡ n
+even-end n i h k = omega arith
 
-pub bounds-path-at : goal.bounds-path-at
-bounds-path-at c = omega (arith, c.loop-left.invariant.count)
+pub loop-i-init : goal.loop-i-init
+loop-i-init c = let p = c.requires in going-first _ _ p.0 p.1 _ c.start_state-cur.ensures
 
-pub overflow_add-at : goal.overflow_add-at
-overflow_add-at c = let n = c.loop-left.invariant.count in search rules
+pub step-requires : goal.step-requires
+step-requires c = c.loop-i.invariant.ready
 
-pub bounds-path-at-in-loop-left : goal.bounds-path-at-in-loop-left
-bounds-path-at-in-loop-left c = omega (arith, c.loop-left.invariant.count)
+pub returns-in_default : goal.returns-in_default
+returns-in_default c = let two = two_there (length c.args.path.now) c.loop-i.i c.loop-i-test.true in
+    says-stops _ _ (going-stopped _ _ _ _ c.loop-i.invariant two c.in_default.ensures) _ c.not_possible.ensures
 
-pub step-p-requires : goal.step-p-requires
-step-p-requires c = c.loop-left.invariant.ready
+pub loop-i-preserved : goal.loop-i-preserved
+loop-i-preserved c = let two = two_there (length c.args.path.now) c.loop-i.i c.loop-i-test.true in
+    going_on _ _ _ _ c.loop-i.invariant two _ c.in-Some.ensures
 
-pub returns-then-not-p : goal.returns-then-not-p
-returns-then-not-p c = let e = going-stopped _ _ _ _ _ c.loop-left.invariant c.loop-left-test.true _ c.step-p.ensures (not-true _ c.if-not-p.true) in
-    says-stops _ _ e _ c.stops.ensures
-
-pub overflow_add-i : goal.overflow_add-i
-overflow_add-i c = let n = c.loop-left.invariant.count in
-    search rules
-
-pub loop-left-smaller : goal.loop-left-smaller
-loop-left-smaller c = omega arith
-
-pub loop-left-preserved : goal.loop-left-preserved
-loop-left-preserved c = going_on _ _ _ _ _ c.loop-left.invariant c.loop-left-test.true _ c.step-p.ensures (not-false _ c.if-not-p.false)
-
-pub returns-then-left-eq1 : goal.returns-then-left-eq1
-returns-then-left-eq1 c = says-stops _ _ (going-odd _ _ _ _ _ c.loop-left.invariant c.if-left-eq1.true) _ c.stops-then-left-eq1.ensures
+pub returns-then-path-eq1 : goal.returns-then-path-eq1
+returns-then-path-eq1 c = let n = length c.args.path.now in
+    let e = half n c.loop-i.i c.loop-i.auto.i-end c.loop-i-test.false in
+    says-stops _ c.loop-i.i (going-odd _ _ _ _ c.loop-i.invariant (odd-end n c.loop-i.i e c.if-path-eq1.true)) _
+    (c.not_possible-then-path-eq1.ensures ∙ ap not_possible_at (sym e))
 
 pub returns : goal.returns
-returns c = let last = c.loop-left-test.false in
-    let more = c.if-left-eq1.false in
-    says-through _ _ (going-through _ _ _ _ _ c.loop-left.invariant (at_most _ last more)) c.loop-left.invariant.zeros
+returns c = let n = length c.args.path.now in
+    let e = half n c.loop-i.i c.loop-i.auto.i-end c.loop-i-test.false in
+    says-through _ _ (going-through _ _ _ _ c.loop-i.invariant (even-end n c.loop-i.i e c.if-path-eq1.false)) c.loop-i.invariant.zeros

@@ -2,8 +2,5 @@
 use Rattle.walking.proofs.Going.{Going}
 use Rattle.walking.proofs.walk.Given as goal
 
-abbrev pub invariant-loop-left : goal.invariant-loop-left
-invariant-loop-left l = Going l.t l.path l.cur l.left l.i
-
-abbrev pub decreases-loop-left : goal.decreases-loop-left
-decreases-loop-left l = l.left
+abbrev pub invariant-loop-i : goal.invariant-loop-i
+invariant-loop-i l = Going l.t l.path l.cur l.i

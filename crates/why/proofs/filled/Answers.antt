@@ -1,9 +1,9 @@
 -- The buffer is long enough, so nothing is refused.
-use Rattle.why.proofs.Filling.{is-filled, never-refused}
+use Rattle.why.proofs.Filling.{is-filled, is-answered}
 use Rattle.why.proofs.filled.Goals as goal
 
-pub returns-in-Length : goal.returns-in-Length
-returns-in-Length c = is-filled c.args.input.now c.args.out.now _ _ c.requires c.explain.ensures _ c.in-Length.is
+pub unwrap-requires : goal.unwrap-requires
+unwrap-requires c = is-answered c.args.input.now c.args.out.now _ _ c.requires c.explain.ensures
 
-pub returns-in-Refused : goal.returns-in-Refused
-returns-in-Refused c = absurd (never-refused c.args.input.now c.args.out.now _ _ c.requires c.explain.ensures _ c.in-Refused.is)
+pub returns : goal.returns
+returns c = is-filled c.args.input.now c.args.out.now _ _ c.requires c.explain.ensures _ c.unwrap.ensures

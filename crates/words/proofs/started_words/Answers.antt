@@ -11,12 +11,12 @@ use Rattle.words.proofs.started_words.Goals as goal
 abbrev done : ℕ → ℕ → Unit {0} → List ℕ
 done count started _ = given_words 1 count 0 started 0
 
-pub returns-in-Fine : goal.returns-in-Fine
+pub returns-in-Ok : goal.returns-in-Ok
 unfolding says_checked started_words
-returns-in-Fine c a e = let args = c.args in
-    c.given.ensures ∙ value-says (done args.count args.started) tt a (sym (ap says_checked c.in-Fine.is) ∙ e)
+returns-in-Ok c a e = let args = c.args in
+    c.given.ensures ∙ value-says (done args.count args.started) tt a (sym (ap says_checked c.in-Ok.is) ∙ e)
 
-pub returns-in-Refused : goal.returns-in-Refused
+pub returns-in-Err : goal.returns-in-Err
 unfolding says_checked started_words
-returns-in-Refused c a e = let args = c.args in
-    c.refusal_words.ensures ∙ refused_says (done args.count args.started) _ a (sym (ap says_checked c.in-Refused.is) ∙ e)
+returns-in-Err c a e = let args = c.args in
+    c.refusal_words.ensures ∙ refused_says (done args.count args.started) _ a (sym (ap says_checked c.in-Err.is) ∙ e)

@@ -5,10 +5,10 @@ use Rattle.words.specs.Words.{written_words, given_words}
 use Rattle.words.proofs.Tells.{refused_says, value-says}
 use Rattle.words.proofs.written_words.Goals as goal
 
-pub returns-in-Length : goal.returns-in-Length
+pub returns-in-Ok : goal.returns-in-Ok
 unfolding says_written written_words
-returns-in-Length c a e = c.given.ensures ∙ value-says (λ n. given_words 1 n 0 0 0) _ a (sym (ap says_written c.in-Length.is) ∙ e)
+returns-in-Ok c a e = c.given.ensures ∙ value-says (λ n. given_words 1 n 0 0 0) _ a (sym (ap says_written c.in-Ok.is) ∙ e)
 
-pub returns-in-Refused : goal.returns-in-Refused
+pub returns-in-Err : goal.returns-in-Err
 unfolding says_written written_words
-returns-in-Refused c a e = c.refusal_words.ensures ∙ refused_says (λ n. given_words 1 n 0 0 0) _ a (sym (ap says_written c.in-Refused.is) ∙ e)
+returns-in-Err c a e = c.refusal_words.ensures ∙ refused_says (λ n. given_words 1 n 0 0 0) _ a (sym (ap says_written c.in-Err.is) ∙ e)
