@@ -24,10 +24,9 @@ use Rattle.lines.specs.Lines.{line_of, guard_is}
 use Rattle.fields.specs.Resets.{summary}
 use Rattle.judge.specs.declared.Key.{Key}
 use Rattle.judge.specs.declared.Progress.{Progress as CodeProgress}
-use Rattle.judge.specs.declared.Turn.TheVariants as OfTurn
 use Rattle.judge.specs.declared.Fault.{Fault}
 use Rattle.judge.specs.declared.Fault.TheVariants as OfFault
-use Rattle.judge.specs.Judged.{turn_of, numbered, last_of, last_plain, key_of, standing, after, guard_number, key_before, in_range}
+use Rattle.judge.specs.Judged.{numbered, last_of, last_plain, key_of, standing, after, guard_number, key_before, in_range}
 use Rattle.judge.specs.Judged.{guard_named, named, comp_step, act_step}
 use Rattle.judge.specs.Judged.{clk_step, row_step, step_of}
 use Rattle.judge.proofs.SummaryLaws.{summary-clocks, summary-ascend, summary-set, within_all, and_one}
@@ -71,24 +70,24 @@ chain_same false true n o m n' o' x x' f g h =
     ∙ ap (λ y. cond n (cond o (cond m (Err OfFault.Many) y) (Err OfFault.Order)) (Err OfFault.Name)) (h refl refl)
 
 -- ---- the last line
-last_turn : (d : Entry) → turn_of (last_of (some d)).turn ≡ turn d
+last_turn : (d : Entry) → (last_of (some d)).turn ≡ turn d
 last_turn (comp-entry n s) = refl
 last_turn (act-entry a k) = refl
 last_turn (clk-entry x b) = refl
 last_turn (row-entry s g a r t) = refl
 
-turn-act : (o : Option Entry) (a : ℕ) (k : Kind) → ltb 1 (turn_of (last_of o).turn) ≡ out_of_turn o (act-entry a k)
+turn-act : (o : Option Entry) (a : ℕ) (k : Kind) → ltb 1 (last_of o).turn ≡ out_of_turn o (act-entry a k)
 unfolding out_of_turn
 turn-act none a k = refl
 turn-act (some d) a k = ap (ltb 1) (last_turn d)
 
-turn-clk : (o : Option Entry) (x b : ℕ) → ltb 2 (turn_of (last_of o).turn) ≡ out_of_turn o (clk-entry x b)
+turn-clk : (o : Option Entry) (x b : ℕ) → ltb 2 (last_of o).turn ≡ out_of_turn o (clk-entry x b)
 unfolding out_of_turn
 turn-clk none x b = refl
 turn-clk (some d) x b = ap (ltb 2) (last_turn d)
 
 turn-row : (o : Option Entry) (s : ℕ) (g : Option ℕ) (a : ℕ) (r : List ℕ) (t : ℕ)
-    → ltb 3 (turn_of (last_of o).turn) ≡ out_of_turn o (row-entry s g a r t)
+    → ltb 3 (last_of o).turn ≡ out_of_turn o (row-entry s g a r t)
 unfolding out_of_turn
 turn-row none s g a r t = refl
 turn-row (some d) s g a r t = ap (ltb 3) (last_turn d)
@@ -120,7 +119,7 @@ follows-clk (some (clk-entry y j)) x b = refl
 follows-clk (some (row-entry s g a r t)) x b = refl
 
 follows-row : (o : Option Entry) (s : ℕ) (g : Option ℕ) (a : ℕ) (r : List ℕ) (t : ℕ)
-    → cond (eqb (turn_of (last_of o).turn) 3) (key_before (last_of o).key (key_of (row_of s g a r t))) true ≡ follows o (row-entry s g a r t)
+    → cond (eqb (last_of o).turn 3) (key_before (last_of o).key (key_of (row_of s g a r t))) true ≡ follows o (row-entry s g a r t)
 unfolding follows key_before
 follows-row none s g a r t = refl
 follows-row (some (comp-entry n z)) s g a r t = refl
@@ -130,7 +129,7 @@ follows-row (some (row-entry s₀ g₀ a₀ r₀ t₀)) s g a r t = refl
 
 -- in turn, so that there is a component
 begun : (k : ℕ) (l : Option Entry) (m : List Comp) → ltb k 4 ≡ true → Begun (record { comps = m; last = l })
-    → ltb k (turn_of (last_of l).turn) ≡ false → 1 ≤ length m
+    → ltb k (last_of l).turn ≡ false → 1 ≤ length m
 begun k none m f b h = let z : ◌≡◌ {A = ℕ} 0 1 = cc in absurd (omega arith)
 begun k (some d) m f b h = b.some-comp d refl
 
@@ -180,11 +179,11 @@ at m l = record { comps = m; last = l }
 
 abbrev with_action : CodeProgress → ℕ → CodeProgress
 with_action p a =
-    record { components = p.components; rows = p.rows; states = p.states; acts = p.acts ∪ only a; clocks = p.clocks; last = last_plain OfTurn.Act a }
+    record { components = p.components; rows = p.rows; states = p.states; acts = p.acts ∪ only a; clocks = p.clocks; last = last_plain 1 a }
 
 abbrev with_clock : CodeProgress → ℕ → CodeProgress
 with_clock p x =
-    record { components = p.components; rows = p.rows; states = p.states; acts = p.acts; clocks = p.clocks ∪ only x; last = last_plain OfTurn.Clk x }
+    record { components = p.components; rows = p.rows; states = p.states; acts = p.acts; clocks = p.clocks ∪ only x; last = last_plain 2 x }
 
 abbrev with_key : CodeProgress → Key → CodeProgress
 with_key p k = record {
@@ -193,11 +192,11 @@ with_key p k = record {
   states = p.states;
   acts = p.acts;
   clocks = p.clocks;
-  last = record { turn = OfTurn.Row; number = 0; key = k };
+  last = record { turn = 3; number = 0; key = k };
 }
 
 abbrev with_comp : CodeProgress → ℕ → CodeProgress
-with_comp p n = record { components = p.components + 1; rows = p.rows; states = n; acts = 0; clocks = 0; last = last_plain OfTurn.Comp 0 }
+with_comp p n = record { components = p.components + 1; rows = p.rows; states = n; acts = 0; clocks = 0; last = last_plain 0 0 }
 
 act-taken : (m : List Comp) (l : Option Entry) (a : ℕ) (k : Kind) → 1 ≤ length m
     → with_action (standing (at m l)) a ≡ standing (next (at m l) (act-entry a k))
@@ -222,7 +221,7 @@ comp-taken m l n s =
     let e : length m + 1 ≡ suc (length m) = omega arith in
     let f : row_count m ≡ 0 + row_count m = omega arith in
     let z : 0 ≡ acts (new_comp n s) = refl in
-    λ i. record { components = e i; rows = f i; states = n; acts = z i; clocks = 0; last = last_plain OfTurn.Comp 0 }
+    λ i. record { components = e i; rows = f i; states = n; acts = z i; clocks = 0; last = last_plain 0 0 }
 
 -- ---- a row's fields as numbers
 guard-below : (g : Option ℕ) → leb (guard_number (guard_is g)) max_clocks ≡ guard_below g
@@ -255,7 +254,7 @@ module _ (m : List Comp) (l : Option Entry) where
   unfolding act_step fault_of out_of_range lacks out_of_order too_many
   act-is a k b =
       let e : after (last_of l) 1 a ≡ (follows l (act-entry a k) && true) = follows-act l a k ∙ sym (and_one (follows l (act-entry a k))) in
-      ap numbered (chain_same (ltb 1 (turn_of (last_of l).turn)) (ltb a max_actions) true (after (last_of l) 1 a) false true (after (last_of l) 1 a)
+      ap numbered (chain_same (ltb 1 (last_of l).turn) (ltb a max_actions) true (after (last_of l) 1 a) false true (after (last_of l) 1 a)
       (Ok (standing (next (at m l) (act-entry a k)))) (Ok (with_action (standing (at m l)) a))
       (λ _. refl) (λ _. refl) (λ h _. ap (λ x. Ok x) (act-taken m l a k (begun 1 l m refl b h))))
       ∙ rw (e, turn-act l a k) (chain-is (out_of_turn l (act-entry a k)) (ltb a max_actions) true (follows l (act-entry a k) && true) false
@@ -267,7 +266,7 @@ module _ (m : List Comp) (l : Option Entry) where
   clk-is x b g =
       let e : after (last_of l) 2 x ≡ (follows l (clk-entry x b) && true) = follows-clk l x b ∙ sym (and_one (follows l (clk-entry x b))) in
       let r : Bool = ltb x max_clocks && leb b 1 in
-      ap numbered (chain_same (ltb 2 (turn_of (last_of l).turn)) r true (after (last_of l) 2 x) false true (after (last_of l) 2 x)
+      ap numbered (chain_same (ltb 2 (last_of l).turn) r true (after (last_of l) 2 x) false true (after (last_of l) 2 x)
       (Ok (standing (next (at m l) (clk-entry x b)))) (Ok (with_clock (standing (at m l)) x))
       (λ _. refl) (λ _. refl) (λ h _. ap (λ x. Ok x) (clk-taken m l x b (begun 2 l m refl g h))))
       ∙ rw (e, turn-clk l x b) (chain-is (out_of_turn l (clk-entry x b)) r true (follows l (clk-entry x b) && true) false (next (at m l) (clk-entry x b)))
@@ -290,7 +289,7 @@ module _ (m : List Comp) (l : Option Entry) where
     ranged = ltb s n && (guard_below g && (ltb a max_actions && (all_below max_clocks r && ltb t n)))
 
     abbrev ordered : Key → Bool
-    ordered q = cond (eqb (turn_of (last_of l).turn) 3) (key_before (last_of l).key q) true && (summary r).ascend
+    ordered q = cond (eqb (last_of l).turn 3) (key_before (last_of l).key q) true && (summary r).ascend
 
     range-is : in_range n key (summary r).clocks ≡ ranged
     unfolding in_range
@@ -316,7 +315,7 @@ module _ (m : List Comp) (l : Option Entry) where
     unfolding row_step fault_of out_of_range lacks out_of_order too_many
     row_is b =
         rw range-is
-        (ap numbered (chain_same (ltb 3 (turn_of (last_of l).turn)) ranged (guard_in k g && (has (acts (current (at m l))) a && all_in k r))
+        (ap numbered (chain_same (ltb 3 (last_of l).turn) ranged (guard_in k g && (has (acts (current (at m l))) a && all_in k r))
         (follows l e && ascending r)
         (leb max_rows (row_count m))
         (named (standing (at m l)) key) (ordered key)

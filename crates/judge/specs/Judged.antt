@@ -14,8 +14,6 @@ use Rattle.lines.specs.declared.Line.TheVariants as OfLine
 use Rattle.judge.specs.declared.Key.{Key}
 use Rattle.judge.specs.declared.Last.{Last}
 use Rattle.judge.specs.declared.Progress.{Progress}
-use Rattle.judge.specs.declared.Turn.{Turn}
-use Rattle.judge.specs.declared.Turn.TheVariants as OfTurn
 use Rattle.judge.specs.declared.Fault.{Fault}
 use Rattle.judge.specs.declared.Fault.TheVariants as OfFault
 
@@ -27,24 +25,16 @@ of_key k = record { from = k.from; guard = k.guard; action = k.action; resets = 
 abbrev pub key_of : Row → Key
 key_of r = record { from = r.from; action = r.action; guard = r.guard; resets = r.resets; target = r.target }
 
--- the kinds of lines by the number of their turn
-abbrev pub turn_of : Turn → ℕ
-turn_of OfTurn.Comp = 0
-turn_of OfTurn.Act = 1
-turn_of OfTurn.Clk = 2
-turn_of OfTurn.Row = 3
-turn_of OfTurn.Nothing = 4
-
-abbrev pub last_plain : Turn → ℕ → Last
+abbrev pub last_plain : ℕ → ℕ → Last
 last_plain t n = record { turn = t; number = n; key = record { from = 0; action = 0; guard = 0; resets = 0; target = 0 } }
 
--- the last line; before any line only `comp` is in turn
+-- the last line; 4 is the turn before any line, so that only `comp` is in turn
 abbrev pub last_of : Option Entry → Last
-last_of none = last_plain OfTurn.Nothing 0
-last_of (some (comp-entry n s)) = last_plain OfTurn.Comp 0
-last_of (some (act-entry a k)) = last_plain OfTurn.Act a
-last_of (some (clk-entry x b)) = last_plain OfTurn.Clk x
-last_of (some (row-entry s g a r t)) = record { turn = OfTurn.Row; number = 0; key = key_of (row_of s g a r t) }
+last_of none = last_plain 4 0
+last_of (some (comp-entry n s)) = last_plain 0 0
+last_of (some (act-entry a k)) = last_plain 1 a
+last_of (some (clk-entry x b)) = last_plain 2 x
+last_of (some (row-entry s g a r t)) = record { turn = 3; number = 0; key = key_of (row_of s g a r t) }
 
 abbrev pub standing : reading.Progress → Progress
 standing q = record {
@@ -57,7 +47,7 @@ standing q = record {
 }
 
 abbrev pub beginning : Progress
-beginning = record { components = 0; rows = 0; states = 0; acts = 0; clocks = 0; last = last_plain OfTurn.Nothing 0 }
+beginning = record { components = 0; rows = 0; states = 0; acts = 0; clocks = 0; last = last_plain 4 0 }
 
 -- ---- one line
 -- a fault by its number
@@ -83,28 +73,28 @@ unfoldable pub comp_step : Progress → ℕ → ℕ → Result Progress Fault
 comp_step p n s =
     cond (leb 1 n && (leb n max_states && ltb s n))
     (cond (leb max_components p.components) (Err OfFault.Many)
-    (Ok (record { components = p.components + 1; rows = p.rows; states = n; acts = 0; clocks = 0; last = last_plain OfTurn.Comp 0 })))
+    (Ok (record { components = p.components + 1; rows = p.rows; states = n; acts = 0; clocks = 0; last = last_plain 0 0 })))
     (Err OfFault.Range)
 
 -- a number comes after the last one of its kind
 abbrev pub after : Last → ℕ → ℕ → Bool
-after l t n = cond (eqb (turn_of l.turn) t) (ltb l.number n) true
+after l t n = cond (eqb l.turn t) (ltb l.number n) true
 
 unfoldable pub act_step : Progress → ℕ → Result Progress Fault
 act_step p a =
-    cond (ltb 1 (turn_of p.last.turn)) (Err OfFault.Turn)
+    cond (ltb 1 p.last.turn) (Err OfFault.Turn)
     (cond (ltb a max_actions)
     (cond (after p.last 1 a)
-    (Ok (record { components = p.components; rows = p.rows; states = p.states; acts = p.acts ∪ only a; clocks = p.clocks; last = last_plain OfTurn.Act a }))
+    (Ok (record { components = p.components; rows = p.rows; states = p.states; acts = p.acts ∪ only a; clocks = p.clocks; last = last_plain 1 a }))
     (Err OfFault.Order))
     (Err OfFault.Range))
 
 unfoldable pub clk_step : Progress → ℕ → ℕ → Result Progress Fault
 clk_step p x b =
-    cond (ltb 2 (turn_of p.last.turn)) (Err OfFault.Turn)
+    cond (ltb 2 p.last.turn) (Err OfFault.Turn)
     (cond (ltb x max_clocks && leb b 1)
     (cond (after p.last 2 x)
-    (Ok (record { components = p.components; rows = p.rows; states = p.states; acts = p.acts; clocks = p.clocks ∪ only x; last = last_plain OfTurn.Clk x }))
+    (Ok (record { components = p.components; rows = p.rows; states = p.states; acts = p.acts; clocks = p.clocks ∪ only x; last = last_plain 2 x }))
     (Err OfFault.Order))
     (Err OfFault.Range))
 
@@ -121,10 +111,10 @@ named p k = guard_named p.clocks k.guard && (has p.acts k.action && within k.res
 
 unfoldable pub row_step : Progress → Key → Bool → Bool → Result Progress Fault
 row_step p k clocks ascend =
-    cond (ltb 3 (turn_of p.last.turn)) (Err OfFault.Turn)
+    cond (ltb 3 p.last.turn) (Err OfFault.Turn)
     (cond (in_range p.states k clocks)
     (cond (named p k)
-    (cond (cond (eqb (turn_of p.last.turn) 3) (key_before p.last.key k) true && ascend)
+    (cond (cond (eqb p.last.turn 3) (key_before p.last.key k) true && ascend)
     (cond (leb max_rows p.rows) (Err OfFault.Many)
     (Ok (record {
       components = p.components;
@@ -132,7 +122,7 @@ row_step p k clocks ascend =
       states = p.states;
       acts = p.acts;
       clocks = p.clocks;
-      last = record { turn = OfTurn.Row; number = 0; key = k };
+      last = record { turn = 3; number = 0; key = k };
     })))
     (Err OfFault.Order))
     (Err OfFault.Name))

@@ -19,20 +19,10 @@ pub struct Key {
     pub target: u64,
 }
 
-// The kinds of lines in their turn; `Nothing` is before any line, so that only `comp` is in turn.
-#[derive(Clone, Copy, PartialEq, Eq, PartialOrd, Ord)]
-pub enum Turn {
-    Comp,
-    Act,
-    Clk,
-    Row,
-    Nothing,
-}
-
-// The last line: its turn, its action or clock, and a row's key.
+// The last line: its turn (`comp` 0, `act` 1, `clk` 2, `row` 3; 4 before any line), its action or clock, and a row's key.
 #[derive(Clone, Copy)]
 pub struct Last {
-    pub turn: Turn,
+    pub turn: u64,
     pub number: u64,
     pub key: Key,
 }
@@ -58,6 +48,16 @@ pub enum Fault {
     Many = 7,
 }
 
+pub const COMP: u64 = 0;
+
+pub const ACT: u64 = 1;
+
+pub const CLK: u64 = 2;
+
+pub const ROW: u64 = 3;
+
+pub const NOTHING: u64 = 4;
+
 // A guard as a number; every number that is no clock is one number above all clocks.
 pub fn guard_number(g: Guard) -> u64
     ensures { result ≡ guard_number g }
@@ -69,7 +69,7 @@ pub fn guard_number(g: Guard) -> u64
 }
 
 // The last line where it has no action, clock or row.
-fn plain(turn: Turn, number: u64) -> Last
+fn plain(turn: u64, number: u64) -> Last
     ensures { result ≡ last_plain turn number }
 {
     Last {
@@ -95,7 +95,7 @@ fn comp_step(p: Progress, states: u64, start: u64) -> Result<Progress, Fault>
     if Model::COMPONENTS <= p.components {
         return Err(Fault::Many);
     }
-    let last = plain(Turn::Comp, 0);
+    let last = plain(COMP, 0);
     Ok(Progress {
         components: p.components + 1,
         states,
@@ -111,16 +111,16 @@ fn act_step(p: Progress, action: u64) -> Result<Progress, Fault>
     ensures { result ≡ act_step p action }
 {
     let before = p.last;
-    if Turn::Act < before.turn {
+    if ACT < before.turn {
         return Err(Fault::Turn);
     }
     if Model::ACTIONS as u64 <= action {
         return Err(Fault::Range);
     }
-    if before.turn == Turn::Act && action <= before.number {
+    if before.turn == ACT && action <= before.number {
         return Err(Fault::Order);
     }
-    let last = plain(Turn::Act, action);
+    let last = plain(ACT, action);
     let acts = sets::union(p.acts, sets::single(action));
     Ok(Progress { acts, last, ..p })
 }
@@ -130,16 +130,16 @@ fn clk_step(p: Progress, clock: u64, set: u64) -> Result<Progress, Fault>
     ensures { result ≡ clk_step p clock set }
 {
     let before = p.last;
-    if Turn::Clk < before.turn {
+    if CLK < before.turn {
         return Err(Fault::Turn);
     }
     if Model::CLOCKS as u64 <= clock || 1 < set {
         return Err(Fault::Range);
     }
-    if before.turn == Turn::Clk && clock <= before.number {
+    if before.turn == CLK && clock <= before.number {
         return Err(Fault::Order);
     }
-    let last = plain(Turn::Clk, clock);
+    let last = plain(CLK, clock);
     let clocks = sets::union(p.clocks, sets::single(clock));
     Ok(Progress { clocks, last, ..p })
 }
@@ -178,7 +178,7 @@ fn row_step(p: Progress, key: Key, clocks: bool, ascend: bool) -> Result<Progres
     ensures { result ≡ row_step p key clocks ascend }
 {
     let before = p.last;
-    if Turn::Row < before.turn {
+    if ROW < before.turn {
         return Err(Fault::Turn);
     }
     if !in_range(p.states, key, clocks) {
@@ -187,7 +187,7 @@ fn row_step(p: Progress, key: Key, clocks: bool, ascend: bool) -> Result<Progres
     if !names_all(p, key) {
         return Err(Fault::Name);
     }
-    if before.turn == Turn::Row && !(before.key < key) {
+    if before.turn == ROW && !(before.key < key) {
         return Err(Fault::Order);
     }
     if !ascend {
@@ -199,7 +199,7 @@ fn row_step(p: Progress, key: Key, clocks: bool, ascend: bool) -> Result<Progres
     Ok(Progress {
         rows: p.rows + 1,
         last: Last {
-            turn: Turn::Row,
+            turn: ROW,
             number: 0,
             key,
         },
@@ -237,7 +237,7 @@ pub fn step(p: Progress, l: Line) -> Result<Progress, Fault>
 pub fn at_start() -> Progress
     ensures { result ≡ beginning }
 {
-    let last = plain(Turn::Nothing, 0);
+    let last = plain(NOTHING, 0);
     Progress {
         components: 0,
         rows: 0,

@@ -13,7 +13,7 @@ ghost use Rattle.namelaws.specs.Judging.{action_of, known_by, judged_by, act_nam
 
 use columns::Allowed;
 use fields::Kind;
-use judge::{Progress, Turn};
+use judge::Progress;
 use lines::Line;
 use namelines::NamedLine;
 
@@ -66,7 +66,7 @@ fn act_judged(p: Progress, kind: Kind, found: Option<u64>) -> Result<Progress, u
         Some(action) => step(p, Line::Act { action, kind }),
         None => {
             let last = p.last;
-            if Turn::Act < last.turn {
+            if judge::ACT < last.turn {
                 return Err(3);
             }
             Err(44)

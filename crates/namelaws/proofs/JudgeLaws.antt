@@ -18,7 +18,7 @@ use Rattle.model.specs.Reading.{out_of_turn, fault_of, row_of, with_act, with_cl
 use Rattle.lines.specs.Lines.{line_of}
 use Rattle.judge.specs.declared.Progress.{Progress as CodeProgress}
 use Rattle.std.specs.Prelude.{Result, Err}
-use Rattle.judge.specs.Judged.{turn_of, numbered, standing, last_of, step_of}
+use Rattle.judge.specs.Judged.{numbered, standing, last_of, step_of}
 use Rattle.judge.proofs.StepIs.{next, judged_of, Begun, step_is}
 use Rattle.named.specs.NamedText.{Name, Sheet, number_of, declared_by, Line, form-line, name-line, act-line, row-line, plain-line, LineFits₂}
 use Rattle.named.specs.ReadNamed.{Progress₂, without_acts, fault_named, with_old, taken}
@@ -43,13 +43,13 @@ begun-actless m b = record { some-comp = λ d e. go m.comps (b.some-comp d e) }
     go (c ∷ cs) h = omega arith
 
 -- ---- out of turn
-last_turn : (d : Entry) → turn_of (last_of (some d)).turn ≡ turn d
+last_turn : (d : Entry) → (last_of (some d)).turn ≡ turn d
 last_turn (comp-entry n s) = refl
 last_turn (act-entry a k) = refl
 last_turn (clk-entry x b) = refl
 last_turn (row-entry s g a r t) = refl
 
-turn-act : (o : Option Entry) (k : Kind) → ltb 1 (turn_of (last_of o).turn) ≡ out_of_turn o (act-entry 0 k)
+turn-act : (o : Option Entry) (k : Kind) → ltb 1 (last_of o).turn ≡ out_of_turn o (act-entry 0 k)
 unfolding out_of_turn
 turn-act none k = refl
 turn-act (some d) k = ap (ltb 1) (last_turn d)

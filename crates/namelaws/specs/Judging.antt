@@ -10,7 +10,7 @@ use Rattle.lines.specs.declared.Line.TheVariants as OfLine
 use Rattle.columns.specs.declared.Allowed.{Allowed}
 use Rattle.columns.specs.Columns.{wide_guard, value_column}
 use Rattle.judge.specs.declared.Progress.{Progress}
-use Rattle.judge.specs.Judged.{turn_of, numbered, step_of}
+use Rattle.judge.specs.Judged.{numbered, step_of}
 use Rattle.named.specs.ReadNamed.{moved_by}
 use Rattle.namefields.specs.NameFields.{name_from}
 use Rattle.namelines.specs.declared.NamedLine.{NamedLine}
@@ -37,7 +37,7 @@ judged_by p (Plain l) o = p
 
 -- an `act` line: out of turn, or 44
 abbrev pub act_named : Progress → Kind → Option ℕ → Result Progress ℕ
-act_named p k none = cond (ltb 1 (turn_of p.last.turn)) (Err 3) (Err 44)
+act_named p k none = cond (ltb 1 p.last.turn) (Err 3) (Err 44)
 act_named p k (some a) = numbered (step_of p (OfLine.Act a k))
 
 -- a fault by its number, or the line taken in
