@@ -7,7 +7,7 @@ use native.Mathlib.Omega.{arith}
 use borrow.Author.Tests.{lt-ltb, le-ltb}
 use lib.ListN.{length}
 use Rattle.std.specs.Prelude as Answered
-use Rattle.std.specs.Prelude.{Some, None, IfSome}
+use Rattle.std.specs.Prelude.{Some, None}
 use Rattle.laws.specs.Sets.{◌∪◌}
 use Rattle.answer.specs.Limits.{max_components, max_actions, max_budget}
 use Rattle.answer.specs.State.{parts_of, with_parts}
@@ -29,6 +29,7 @@ use Rattle.printout.specs.Printed.{Filled}
 use Rattle.printout.proofs.Printing.{as-printed, is-filled}
 use Rattle.roundlines.specs.Lines.{round_line}
 use Rattle.lining.specs.Settled.{settled_line, shown_of, line_bytes}
+use Rattle.lining.specs.Went.{Went}
 use Rattle.lining.proofs.Widths.{round-most}
 
 module _ (t : List ℕ) (x : State) (ready : Ready t x) (d : Settled) (given : SettleGives (model_of t) max_budget x d) where
@@ -67,7 +68,7 @@ pub shown-high : (a : ℕ) → max_actions ≤ a → 0 ≡ shown_of a
 unfolding shown_of
 shown-high a h = sym (ap (λ b. cond b (suc a) 0) (le-ltb a max_actions h))
 
--- ---- what is said of a value, if there is one
-pub first-said : {A : Type 0} (P Q : A → Type 0) (o : Answered.Option A) → ((x : A) → P x → Q x) → IfSome o P → IfSome o Q
+-- ---- what went as one call says went as another, which follows from it
+pub first-said : {A : Type 0} (P Q : A → Type 0) (o : Answered.Option A) → ((x : A) → P x → Q x) → Went P o → Went Q o
 first-said P Q (Some x) f p = f x p
-first-said P Q None f p = tt
+first-said P Q None f p = (p.0, f p.0 p.1)

@@ -1,7 +1,7 @@
 // The rounds of a simulation with their lines (paper 02, 4/13): each line is written before the next round begins, so that a reader sees it at once.
 #![tactic(auto)]
 
-ghost use Rattle.std.specs.Prelude.{◌≡◌, ◌≤◌, length, IfSome};
+ghost use Rattle.std.specs.Prelude.{◌≡◌, ◌≤◌, length};
 ghost use Rattle.answer.specs.Limits.{max_clocks};
 ghost use Rattle.answer.specs.State.{parts_of};
 ghost use Rattle.layout.specs.Image.{model_of};
@@ -11,6 +11,7 @@ ghost use Rattle.simulation.specs.Simulate.{no_values};
 ghost use Rattle.rounds.specs.Rounds.{Posed, Placed, CloseCall, LaterCall, FirstCall, Runnable};
 ghost use Rattle.printout.specs.Printed.{Filled};
 ghost use Rattle.lining.specs.Settled.{settled_line, shown_of, line_bytes};
+ghost use Rattle.lining.specs.Went.{Went};
 
 use answer::{Firing, Model, Refusal, State};
 use feed::Source;
@@ -62,8 +63,8 @@ fn close_said(
     values: &mut [i64],
 ) -> Option<Result<State, Refusal>>
     requires { Placed at.old used.old × Posed t.now s.state values.old }
-    ensures { IfSome result (λ c. CloseCall t.now (lent s.from text.now numbers.now) s at.old used.old values.old c
-        at.new used.new values.new) }
+    ensures { Went (λ c. CloseCall t.now (lent s.from text.now numbers.now) s at.old used.old values.old c
+        at.new used.new values.new) result }
 {
     let mut line = [0u8; LINE];
     let end = put_line(t, s, ticks, g, &mut line);
@@ -86,8 +87,8 @@ fn later_said(
     values: &mut [i64],
 ) -> Option<Result<Option<State>, Refusal>>
     requires { Placed at.old used.old × Posed t.now s.state values.old }
-    ensures { IfSome result (λ c. LaterCall t.now (lent s.from text.now numbers.now) s at.old used.old values.old c
-        at.new used.new values.new) }
+    ensures { Went (λ c. LaterCall t.now (lent s.from text.now numbers.now) s at.old used.old values.old c
+        at.new used.new values.new) result }
 {
     match firing::shoot(t, s.state, values) {
         Ok(shot) => match shot.firing {
@@ -164,8 +165,8 @@ fn first_said(
     values: &mut [i64],
 ) -> Option<Result<State, Refusal>>
     requires { Runnable t.now × Placed at.old used.old × (values.old ≡ no_values) }
-    ensures { IfSome result (λ c. FirstCall t.now (lent from text.now numbers.now) at.old used.old c
-        at.new used.new values.new) }
+    ensures { Went (λ c. FirstCall t.now (lent from text.now numbers.now) at.old used.old c
+        at.new used.new values.new) result }
 {
     let state = outset::start_state(t);
     let resets = layout::joined(t, layout::STARTED);
