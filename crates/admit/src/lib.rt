@@ -52,8 +52,7 @@ fn check_compatible(t: &[u64]) -> Result<(), Refusal>
     pairs::check_shared(t, Shared::Urgency)
 }
 
-// 10 to 17. A function of its own also when compiled: else (f)'s table of sets would stand in the frame of whoever asks 18 too.
-#[inline(never)]
+// 10 to 17.
 fn check_model(t: &[u64]) -> Result<(), Refusal>
     requires { Image t.now }
     ensures { Says result (accept_of (model_of t.now)) }
@@ -62,8 +61,7 @@ fn check_model(t: &[u64]) -> Result<(), Refusal>
     check_compatible(t)
 }
 
-// 18 for each component in turn. A function of its own also when compiled, as above.
-#[inline(never)]
+// 18 for each component in turn.
 pub fn check_meeting(t: &[u64]) -> Result<(), Refusal>
     requires { Image t.now × (accept_of (model_of t.now) ≡ none) }
     ensures { Says result (clash_among 0 (model_of t.now)) }
