@@ -4,10 +4,9 @@ use mathlib.Core.List.{List, [], ◌∷◌, ◌++◌, append_assoc}
 use Prim.Native.Nat.{ℕ, zero, suc, ◌+◌, ◌-◌, ◌≤◌, ◌<◌}
 use native.Mathlib.Omega.{arith}
 use lib.ListN.{length, get_or, set, take, drop, replicate}
-use lib.Seq.{sets, drop-cons, drop-append-add, length-take-le}
+use lib.Seq.{sets, drop-cons, drop-append-add}
 use borrow.Rule.Slice.PartMut.{put_mid}
-use Rattle.std.specs.List.{between}
-use Rattle.std.proofs.lemmas.List.Edits.{split_between, length-between, paste_all, sets-eq}
+use Rattle.std.proofs.lemmas.List.Edits.{paste_all, sets-eq}
 use Rattle.std.proofs.lemmas.Slice.{put_mid-paste}
 use Rattle.laws.specs.Fold.{tab}
 use Rattle.laws.proofs.TabLaws.{tab-next, tab-done}
@@ -59,12 +58,6 @@ part_of t xs ys zs from n e f h b =
     let g : length xs + 0 ≡ length xs = omega arith in
     tab-shift t from 0 n ∙ ap (λ k. tab (λ j. get_or t j 0) k n) z
     ∙ tab-prefix t zs ys from n (ap₂ drop f e ∙ ap (λ k. drop k (xs ++ (ys ++ zs))) (sym g) ∙ drop-append-add xs (ys ++ zs) 0) (sym h) b
-
--- n words of a list, as a slice of it
-pub part-is : (t : List ℕ) (from n : ℕ) → from + n ≤ length t → words_from t from n ≡ between from (from + n) t
-part-is t from n h =
-    part_of t (take from t) (between from (from + n) t) (drop (from + n) t) from n (split_between t from (from + n) (omega arith))
-    (sym (length-take-le from t (omega arith))) (omega (arith, length-between t from (from + n) h)) h
 
 -- a part of a buffer that is written over by so many words
 pub put-is : (at n : ℕ) (l ys ws : List ℕ) → at + n ≤ length l → ys ≡ ws → length ws ≡ n → put_mid at (at + n - at) l ys ≡ sets l at ws

@@ -10,7 +10,9 @@ pub fn copy_words(t: &[u64], from: usize, into: &mut [u64], at: usize, n: usize)
     requires { (from + n ≤ length t.now) × (from + n ≤ most_words) × (at + n ≤ length into.old) × (at + n ≤ most_words) }
     ensures { into.new ≡ sets into.old at (words_from t.now from n) }
 {
-    into[at..at + n].copy_from_slice(&t[from..from + n]);
+    for k in 0..n {
+        into[at + k] = t[from + k];
+    }
 }
 
 // n zeros.

@@ -22,9 +22,10 @@ pub fn put_word(out: &mut [u8], at: usize, w: &[u8]) -> usize
     requires { Room out.old at w.now }
     ensures { Put out.old at w.now out.new result }
 {
-    let next = at + w.len();
-    out[at..next].copy_from_slice(w);
-    next
+    for i in 0..w.len() {
+        out[at + i] = w[i];
+    }
+    at + w.len()
 }
 
 // The digit of a scale, unless the number is below it.

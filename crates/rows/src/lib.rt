@@ -11,7 +11,12 @@ pub fn find_action(t: &[u64], lo: usize, hi: usize, a: u64) -> Option<usize>
     requires { (image_words ≤ length t.now) × (hi ≤ max_rows) }
     ensures { result ≡ found_of (by_action t.now a lo hi) }
 {
-    (lo..hi).find(|k| layout::action_at(t, *k) == a)
+    for k in lo..hi {
+        if layout::action_at(t, k) == a {
+            return Some(k);
+        }
+    }
+    None
 }
 
 // The first row of lo .. hi with the guard.
@@ -19,7 +24,12 @@ pub fn find_guard(t: &[u64], lo: usize, hi: usize, g: u64) -> Option<usize>
     requires { (image_words ≤ length t.now) × (hi ≤ max_rows) }
     ensures { result ≡ found_of (by_guard t.now g lo hi) }
 {
-    (lo..hi).find(|k| layout::guard_at(t, *k) == g)
+    for k in lo..hi {
+        if layout::guard_at(t, k) == g {
+            return Some(k);
+        }
+    }
+    None
 }
 
 // The first row of lo .. hi whose action is in the set.
@@ -27,5 +37,10 @@ pub fn find_in(t: &[u64], lo: usize, hi: usize, set: u64) -> Option<usize>
     requires { (image_words ≤ length t.now) × (hi ≤ max_rows) × LowActions t.now lo hi }
     ensures { result ≡ found_of (by_set t.now set lo hi) }
 {
-    (lo..hi).find(|k| sets::has(set, layout::action_at(t, *k)))
+    for k in lo..hi {
+        if sets::has(set, layout::action_at(t, k)) {
+            return Some(k);
+        }
+    }
+    None
 }
