@@ -21,10 +21,10 @@
  * or asks `orderly` once, and begins at the start or where such a loop or settle_after led to.
  *
  * Stack, in bytes, the deepest seen of each call (`make -C compare stack` measures it, and holds these numbers to it):
- *   recognise 184, check_text 992, read 1552, write 328, start 232, component 1360, compatible 264, accept 1424, confluent 1888, merge 1616,
- *   repair 328, step 1808, advance 1904, step_by 1520, settle 2432, settle_list 2544, timed_step 1584, simulate 14752, simulate_drawn 14832,
- *   orderly 13680, settle_after 14656, settle_list_after 14624, read_tree 13792,
- *   explain_table 1456, to_names 1184, to_numbers 2184, report 70416 and explain 69696 (which keep a table of their own).
+ *   recognise 184, check_text 992, read 1552, write 328, start 232, component 1360, compatible 264, accept 1424, confluent 1888, merge 1600,
+ *   repair 328, step 1808, advance 1904, step_by 1504, settle 2432, settle_list 2544, timed_step 1584, simulate 14720, simulate_drawn 14800,
+ *   orderly 13648, settle_after 14608, settle_list_after 14576, read_tree 13792,
+ *   explain_table 1456, to_names 1168, to_numbers 2184, report 70432 and explain 69696 (which keep a table of their own).
  *
  * A model is a text (docs/MODEL.md), without the request line that the program `settle` reads in front of it. A table is what
  * floodneedle_read makes of it, 64-bit words at the front of a buffer; what lies behind the image is neither read nor changed. No caller
